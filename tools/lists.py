@@ -18,11 +18,19 @@ SMALL = set("go_text_core go_token_core go_scan_core go_tree_nodes go_path_core 
 # Crates that list all that they name: their lists are short enough, and programs are listed by none.
 WHOLE = set(
     """go_text_core go_token_core go_scan_core go_universe_core go_tree_nodes go_tree_copies go_tree_core go_parse_types go_parse_exprs
-    go_parse_stmts go_parse_core go_path_core go_cycle_core go_decl_core go_reach_core go_graph_core go_block_core go_open_core go_local_core
-    go_walk_core go_scope_core go_front_core go_chain_core go_needs_core go_term_core go_settle_core go_table_core go_written_core go_constant_core
-    go_operand_core go_denote_core go_statement_core
+    go_parse_stmts go_parse_core go_path_core go_cycle_core go_decl_core
     govisd govisd_show govisd_probe govisd_cases""".split()
 )
+# Crates that take all but small crates through one, also where they do not name that one: what stands above would else have two ways to most crates.
+SERIAL = {
+    "go_batch_core": "go_submit_core",
+    "go_sched_core": "go_batch_core",
+    "go_board_core": "go_sched_core",
+    "go_hall_core": "go_board_core",
+    "go_query_core": "go_complete_core",
+    "go_crossing_core": "go_hall",
+    "govisd_desk": "go_hall",
+}
 # Modules that are named as a word of the library, which a reader would take them for: what they are passed on as.
 PASSED_AS = {"All": "AllPackages"}
 PASSED = re.compile(r"(?m)\n?/// What the crates above name of `\w+`\.\npub mod \w+ \{\n.*?\n\}\n", re.S)
@@ -43,8 +51,8 @@ class Repository:
         self.lists = {}
         for line in self.lines:
             if line.strip() and not line.startswith("#"):
-                name, _, rest = line.partition(":")
-                self.lists[name] = rest.split()
+                head, _, rest = line.partition(":")
+                self.lists[head.split()[0]] = rest.split()
         self.order = [*self.lists]
         self.crates = {alias(it): it for it in self.lists if it.startswith("go_")}
         names = "|".join(sorted(self.crates, key=len, reverse=True))
@@ -158,8 +166,9 @@ class Names:
         return {*self.logic[crate], *self.code[crate]}
 
 
-# How many paths of crates.txt there may be in all: two million cost half a minute a gate.
-BUDGET = 2_000_000
+# How many paths of crates.txt there may be in all: more than there are, so that a new crate does not move what others list. rattle-kit-13b reads a crate's
+# sources anew for each path, twice a gate: a million paths cost it some forty minutes.
+BUDGET = 1_600_000
 
 
 def budgeted(repository, names, named):
@@ -167,6 +176,20 @@ def budgeted(repository, names, named):
     edges = {k: set(v) | repository.kept(k) for k, v in named.items()}
     # a name that is passed on already stays so: a new crate changes nothing of those below it
     edges = {k: {d for d in v if d in repository.lists[k] or not repository.there[k, d]} for k, v in edges.items()}
+
+    def reached(k):
+        return {k}.union(*[reached(d) for d in edges[k]])
+
+    def is_made(a, b):
+        """Whether what the toolchain makes of the other's code is named: that stands in no file, and is not passed on."""
+        return any(part == "proofs" and not os.path.exists(f"{repository.root}/crates/{b}/proofs/{module}.antt") for part, module in names.logic[a].get(b, ()))
+
+    def ways(k):
+        return 1 + sum(ways(d) for d in edges[k])
+
+    for k, through in SERIAL.items():
+        below = reached(through)
+        edges[k] = {through} | {d for d in edges[k] if d in SMALL or d not in below or is_made(k, d) or ways(d) < 1000}
     height = {}
 
     def high(k):
@@ -178,7 +201,7 @@ def budgeted(repository, names, named):
     def weight(a, b):
         return len(names.logic[a].get(b, ())) + len(names.code[a].get(b, ()))
 
-    fixed = {(a, b) for a in edges for b in edges[a] if b in SMALL or a in WHOLE or not weight(a, b)}
+    fixed = {(a, b) for a in edges for b in edges[a] if b in SMALL or a in WHOLE or not weight(a, b) or is_made(a, b)}
     while True:
         paths, reach, ups = {}, {}, {k: 1 for k in order}
         for k in order:
@@ -196,6 +219,8 @@ def budgeted(repository, names, named):
                     # a name that goes through several crates costs more
                     hops = 1 if any(b in edges[c] for c in edges[a]) else 3
                     found.append((ups[a] * paths[b] / weight(a, b) / hops, a, b))
+        if not found:
+            sys.exit(f"{sum(paths.values())} paths are left, more than the budget: nothing is changed")
         _, a, b = max(found)
         edges[a].discard(b)
 
@@ -326,10 +351,11 @@ class Writer:
     def write_lists(self):
         lines, order = [], self.repository.order
         for line in self.repository.lines:
-            name = line.partition(":")[0]
+            head = line.partition(":")[0]
+            name = (head.split() or [""])[0]
             if name in self.repository.lists:
                 of_kit = [it for it in self.repository.lists[name] if it not in self.repository.lists]
-                line = " ".join([f"{name}:", *sorted(self.ways.lists[name], key=order.index), *of_kit])
+                line = " ".join([f"{head}:", *sorted(self.ways.lists[name], key=order.index), *of_kit])
             lines.append(line)
         with open(f"{self.repository.root}/crates.txt", "w", encoding="utf-8") as file:
             file.write("\n".join(lines))

@@ -1,10 +1,10 @@
 -- What is the same in each part is the same.
 use Rattle.std.proofs.Common.{◌≡◌}
-use Rattle.go_operand_core.specs.declared.types.Operand.{Operand}
+use Rattle.go_face_core.specs.operand_core.declared.types.Operand.{Operand}
 use Rattle.go_term_core.specs.Terms.{Term}
-use Rattle.go_table_core.specs.Entries.{Entry, Member}
-use Rattle.go_table_core.specs.Tables.{PackageTypesModel}
-use Rattle.go_block_core.specs.Exports.{ExportsModel}
+use Rattle.go_face_core.specs.table_core.Entries.{Entry, Member}
+use Rattle.go_face_core.specs.table_core.Tables.{PackageTypesModel}
+use Rattle.go_face_core.specs.block_core.Exports.{ExportsModel}
 use Rattle.go_face_core.specs.Packages.{DeclaredOf, PackageFacesModel}
 
 pub members_same : (a b : Member) → a.name ≡ b.name → a.place ≡ b.place → a.pointer ≡ b.pointer → a.sign ≡ b.sign → a ≡ b

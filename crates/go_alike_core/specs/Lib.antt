@@ -1,3 +1,9 @@
 pub mod mirrors
+pub mod block_core
 pub mod decide_core
+pub mod decl_core
+pub mod entry_core
 pub mod face_core
+pub mod graph_core
+pub mod handle_core
+pub mod table_core

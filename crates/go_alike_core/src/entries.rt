@@ -1,9 +1,9 @@
 //! Equality of defined types.
 ghost use Rattle.std.specs.Prelude.{◌≡◌, ◌↔◌, IsTrue, map};
-ghost use Rattle.go_table_core.specs.Shown.{member_shown};
+ghost use Rattle.go_face_core.specs.table_core.Shown.{member_shown};
 
 use crate::terms::{equal_signature, equal_term};
-use go_table_core::{DeclaredMethod, DefinedType, PackageTypes};
+use go_face_core::table_core::{DeclaredMethod, DefinedType, PackageTypes};
 
 /// Whether two methods have the same name, the same place, the same receiver and the same signature.
 fn is_same_member(one: &DeclaredMethod, other: &DeclaredMethod) -> bool

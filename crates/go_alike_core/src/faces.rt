@@ -6,8 +6,8 @@ ghost use Rattle.go_face_core.specs.Held.{declared_shown};
 
 use crate::terms::{equal_signature, equal_term};
 use go_constant_core::Constant;
+use go_face_core::operand_core::{Operand, ValueType};
 use go_face_core::{DeclaredFace, Face, PackageFaces};
-use go_operand_core::{Operand, ValueType};
 use go_term_core::{Signature, TypeTerm};
 
 /// Whether two constants are the same. A text is compared by its bytes.

@@ -13,7 +13,32 @@ pub use entries::same_types;
 pub use faces::same_faces;
 pub use names::{same_exports, same_names};
 
+/// What the crates above name of `go_block_core`.
+pub mod block_core {
+    pub use go_face_core::block_core::{Blocks, Exports, Imported, blocks, import_names};
+}
+
+/// What the crates above name of `go_entry_core`.
+pub mod entry_core {
+    pub use go_face_core::entry_core::ShownPackages;
+}
+
 /// What the crates above name of `go_face_core`.
 pub mod face_core {
     pub use go_face_core::{FaceTable, PackageFaces};
+}
+
+/// What the crates above name of `go_graph_core`.
+pub mod graph_core {
+    pub use go_face_core::graph_core::{Package, SourceFile};
+}
+
+/// What the crates above name of `go_select_core`.
+pub mod select_core {
+    pub use go_face_core::select_core::EmbedPath;
+}
+
+/// What the crates above name of `go_table_core`.
+pub mod table_core {
+    pub use go_face_core::table_core::{DeclaredMethod, DefinedType, PackageTypes, TypeTable};
 }

@@ -1,8 +1,8 @@
 //! Equality of names, of what packages export, and of lists.
 ghost use Rattle.std.specs.Prelude.{◌≡◌, ◌↔◌, IsTrue, map};
-ghost use Rattle.go_block_core.specs.Exports.{name_and_decl};
+ghost use Rattle.go_face_core.specs.block_core.Exports.{name_and_decl};
 
-use go_block_core::{Exports, NamedDecl};
+use go_face_core::block_core::{Exports, NamedDecl};
 use go_text_core::Name;
 
 /// Whether two names are spelled alike.

@@ -6,11 +6,11 @@ use Rattle.std.proofs.lemmas.List.{map-append, take_all, take_more, length-map}
 use Rattle.std.proofs.lemmas.Option.{slice_get-map, slice_get_read}
 use Rattle.go_term_core.specs.declared.term.TypeTerm.{TypeTerm}
 use Rattle.go_term_core.specs.declared.term.Signature.{Signature}
-use Rattle.go_decl_core.specs.declared.keys.DeclRef.{DeclRef}
-use Rattle.go_decl_core.specs.declared.tops.TopDecl.{TopDecl}
-use Rattle.go_decl_core.specs.Shown.{decl_shown}
-use Rattle.go_decl_core.specs.TopDecls.{TopDeclTree}
-use Rattle.go_local_core.specs.declared.Fault.{Fault}
+use Rattle.go_term_core.specs.decl_core.declared.keys.DeclRef.{DeclRef}
+use Rattle.go_term_core.specs.decl_core.declared.tops.TopDecl.{TopDecl}
+use Rattle.go_term_core.specs.decl_core.Shown.{decl_shown}
+use Rattle.go_term_core.specs.decl_core.TopDecls.{TopDeclTree}
+use Rattle.go_report_core.specs.local_core.declared.Fault.{Fault}
 use Rattle.go_face_core.specs.declared.face.Face.{Face}
 use Rattle.go_face_core.specs.Faces.{TheFace, face_shown}
 use Rattle.go_face_core.specs.Packages.{DeclaredOf}

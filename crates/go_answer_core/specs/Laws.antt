@@ -3,13 +3,13 @@ use Rattle.std.specs.Prelude.{◌≡◌, ◌↔◌, ◌⊎◌, ◌+◌, ℕ, tru
 use Rattle.std.specs.Str.{chars}
 use Rattle.go_text_core.specs.Text.{exported}
 use Rattle.go_text_core.specs.declared.rule.Rule.TheVariants.{Y7}
-use Rattle.go_decl_core.specs.declared.keys.DeclRef.{DeclRef}
-use Rattle.go_decl_core.specs.TopDecls.{TopDeclTree}
-use Rattle.go_block_core.specs.Blocks.{BlocksModel}
-use Rattle.go_block_core.specs.Faults.{rule_of}
-use Rattle.go_block_core.specs.Tables.{in_block}
-use Rattle.go_block_core.specs.declared.fault.BlockFault.{BlockFault}
-use Rattle.go_local_core.specs.declared.Fault.{Fault}
+use Rattle.go_term_core.specs.decl_core.declared.keys.DeclRef.{DeclRef}
+use Rattle.go_term_core.specs.decl_core.TopDecls.{TopDeclTree}
+use Rattle.go_fault_core.specs.block_core.Blocks.{BlocksModel}
+use Rattle.go_fault_core.specs.block_core.Faults.{rule_of}
+use Rattle.go_fault_core.specs.block_core.Tables.{in_block}
+use Rattle.go_fault_core.specs.block_core.declared.fault.BlockFault.{BlockFault}
+use Rattle.go_report_core.specs.local_core.declared.Fault.{Fault}
 use Rattle.go_fault_core.specs.declared.places.PackageFault.{PackageFault}
 use Rattle.go_face_core.specs.Faces.{TheFace}
 use Rattle.go_face_core.specs.Packages.{DeclaredOf, as_seen, decls_declared, shown_by}

@@ -4,6 +4,11 @@ pub mod Sample
 pub mod Shown
 pub mod Sites
 pub mod mirrors
+pub mod block_core
+pub mod denote_core
 pub mod expr_core
 pub mod face_core
 pub mod fault_core
+pub mod handle_core
+pub mod local_core
+pub mod report_core

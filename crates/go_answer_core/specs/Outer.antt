@@ -4,11 +4,11 @@
 use Rattle.std.specs.Prelude.{ℕ, Bool, List, [], ◌∷◌, ◌++◌, nat_eq, if◌then◌else◌}
 use Rattle.go_text_core.specs.declared.rule.Rule.{Rule}
 use Rattle.go_text_core.specs.declared.rule.Rule.TheVariants.{Y7}
-use Rattle.go_decl_core.specs.TopDecls.{TopDeclTree}
-use Rattle.go_block_core.specs.Blocks.{BlocksModel}
-use Rattle.go_block_core.specs.Faults.{rule_of}
-use Rattle.go_block_core.specs.declared.fault.BlockFault.{BlockFault}
-use Rattle.go_local_core.specs.declared.Fault.{Fault}
+use Rattle.go_term_core.specs.decl_core.TopDecls.{TopDeclTree}
+use Rattle.go_fault_core.specs.block_core.Blocks.{BlocksModel}
+use Rattle.go_fault_core.specs.block_core.Faults.{rule_of}
+use Rattle.go_fault_core.specs.block_core.declared.fault.BlockFault.{BlockFault}
+use Rattle.go_report_core.specs.local_core.declared.Fault.{Fault}
 use Rattle.go_fault_core.specs.declared.places.PackageFault.{PackageFault}
 
 abbrev pub fault : ℕ → Rule → Fault

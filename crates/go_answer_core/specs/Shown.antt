@@ -2,9 +2,9 @@
 --
 -- docs/RULES.md, "Faces of declarations". The Go specification, "Exported identifiers".
 use Rattle.std.specs.Prelude.{ℕ, Bool, false, List, [], ◌∷◌, ◌++◌, ◌||◌, Option, Some, None, map, if◌then◌else◌}
-use Rattle.go_decl_core.specs.declared.keys.DeclRef.{DeclRef}
-use Rattle.go_block_core.specs.Blocks.{BlocksModel}
-use Rattle.go_block_core.specs.Exports.{exported_names}
+use Rattle.go_term_core.specs.decl_core.declared.keys.DeclRef.{DeclRef}
+use Rattle.go_fault_core.specs.block_core.Blocks.{BlocksModel}
+use Rattle.go_fault_core.specs.block_core.Exports.{exported_names}
 use Rattle.go_face_core.specs.Faces.{TheFace}
 use Rattle.go_face_core.specs.Packages.{DeclaredOf, PackageFacesModel, names_seen, package_faces}
 use Rattle.go_face_core.specs.Written.{same_decl_place}

@@ -21,12 +21,37 @@ pub use locals::{HeldLocal, hold_local};
 pub use outer::{OuterAt, outer_faults};
 pub use site::Site;
 
+/// What the crates above name of `go_block_core`.
+pub mod block_core {
+    pub use go_fault_core::block_core::{Binding, Blocks, Imported, Target};
+}
+
+/// What the crates above name of `go_denote_core`.
+pub mod denote_core {
+    pub use go_report_core::denote_core::Outcome;
+}
+
 /// What the crates above name of `go_face_core`.
 pub mod face_core {
-    pub use go_face_core::Face;
+    pub use go_face_core::{Face, FaceTable, PackageFaces, WrittenFaces, lend};
 }
 
 /// What the crates above name of `go_fault_core`.
 pub mod fault_core {
     pub use go_fault_core::PackageFault;
+}
+
+/// What the crates above name of `go_handle_core`.
+pub mod handle_core {
+    pub use go_face_core::handle_core::{Decl, DeclSite, Home, SignatureRef, TypeRef};
+}
+
+/// What the crates above name of `go_local_core`.
+pub mod local_core {
+    pub use go_report_core::local_core::Fault;
+}
+
+/// What the crates above name of `go_report_core`.
+pub mod report_core {
+    pub use go_report_core::settle_faults;
 }

@@ -4,8 +4,8 @@ ghost use Rattle.std.specs.Option.{option_map};
 ghost use Rattle.go_face_core.specs.Faces.{operand_shown};
 
 use go_face_core::handle_core::TypeRef;
+use go_face_core::operand_core::Operand;
 use go_face_core::{Face, hold};
-use go_operand_core::Operand;
 use go_term_core::TypeTerm;
 use std::alloc::{AllocError, Global};
 

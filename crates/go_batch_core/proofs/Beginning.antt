@@ -13,9 +13,9 @@ use Rattle.go_graph_core.specs.declared.imports.ImportOutcome.TheVariants.{Packa
 use Rattle.go_graph_core.specs.Plans.{AreImporters, IsAssembledAt, IsPlan, PlanModel, outcome_at}
 use Rattle.go_graph_core.specs.Plans as plans
 use Rattle.go_graph_core.specs.Workspaces.{PackageModel}
-use Rattle.go_summary_core.specs.Summaries.{SummaryModel}
-use Rattle.go_part_core.specs.Parts.{PartModel}
-use Rattle.go_make_core.specs.Telling.{told_of}
+use Rattle.go_submit_core.specs.summary_core.Summaries.{SummaryModel}
+use Rattle.go_submit_core.specs.part_core.Parts.{PartModel}
+use Rattle.go_submit_core.specs.make_core.Telling.{told_of}
 use Rattle.go_turn_core.specs.declared.mark.Mark.{Mark}
 use Rattle.go_turn_core.specs.Turns.{TurnsModel}
 use Rattle.go_turn_core.specs.mirrors.Counting.{AreFresh, AreNodes, IsUntaken}

@@ -10,7 +10,7 @@ use Rattle.go_graph_core.specs.Plans.{IsAssembledAt, IsPlan, PlanModel, outcome_
 use Rattle.go_graph_core.specs.Plans as plans
 use Rattle.go_graph_core.specs.Workspaces.{PackageModel, IsWorkspace}
 use Rattle.go_graph_core.proofs.OutcomeLaws.{has_one_outcome}
-use Rattle.go_whole_core.specs.Inputs.{IsPassingImport}
+use Rattle.go_submit_core.specs.whole_core.Inputs.{IsPassingImport}
 
 pub passing_to : (ps : List PackageModel) (plan : PlanModel) (e : Edge) → IsPlan ps plan → plans.IsPassing plan e → IsPassingImport ps e
 passing_to ps plan e planned passing =

@@ -13,12 +13,12 @@ use Rattle.go_graph_core.specs.Plans.{AreImporters, IsAssembledAt, PlanModel}
 use Rattle.go_graph_core.specs.Sources.{SourceModel}
 use Rattle.go_graph_core.specs.Workspaces.{PackageModel, AreAllRead, IsWorkspace}
 use Rattle.go_graph_core.proofs.Numbers.{has_one_number}
-use Rattle.go_summary_core.specs.Summaries.{SummaryModel}
-use Rattle.go_part_core.specs.Inputs.{InputModel}
-use Rattle.go_part_core.specs.Parts.{PartModel, IsPart}
-use Rattle.go_whole_core.specs.Inputs.{AreParts, HasReached, IsInputAt, IsInputOf, IsPartOf, IsPassingImport}
-use Rattle.go_whole_core.specs.Laws.{AreOwnParts, HasPart, InputsStay, PartsComeInOrder}
-use Rattle.go_make_core.specs.Telling.{told_of}
+use Rattle.go_submit_core.specs.summary_core.Summaries.{SummaryModel}
+use Rattle.go_submit_core.specs.part_core.Inputs.{InputModel}
+use Rattle.go_submit_core.specs.part_core.Parts.{PartModel, IsPart}
+use Rattle.go_submit_core.specs.whole_core.Inputs.{AreParts, HasReached, IsInputAt, IsInputOf, IsPartOf, IsPassingImport}
+use Rattle.go_submit_core.specs.whole_core.Laws.{AreOwnParts, HasPart, InputsStay, PartsComeInOrder}
+use Rattle.go_submit_core.specs.make_core.Telling.{told_of}
 use Rattle.go_turn_core.specs.declared.mark.Mark.{Mark}
 use Rattle.go_turn_core.specs.declared.mark.Mark.TheVariants as mark
 use Rattle.go_turn_core.specs.Turns.{TurnsModel, turns_with, Needs}

@@ -3,10 +3,10 @@ use Rattle.std.specs.Prelude.{◌≡◌, ℕ, ◌+◌, Bool, true, false, if◌t
 use Rattle.go_cycle_core.specs.declared.edge.Edge.{Edge}
 use Rattle.go_graph_core.specs.Workspaces.{PackageModel}
 use Rattle.go_graph_core.specs.Plans.{IsAssembledAt}
-use Rattle.go_part_core.specs.Inputs.{InputModel}
-use Rattle.go_part_core.specs.Parts.{PartModel}
-use Rattle.go_whole_core.specs.Inputs.{IsInputAt, IsPassingImport}
-use Rattle.go_make_core.specs.Telling.{told_of}
+use Rattle.go_submit_core.specs.part_core.Inputs.{InputModel}
+use Rattle.go_submit_core.specs.part_core.Parts.{PartModel}
+use Rattle.go_submit_core.specs.whole_core.Inputs.{IsInputAt, IsPassingImport}
+use Rattle.go_submit_core.specs.make_core.Telling.{told_of}
 use Rattle.go_batch_core.specs.declared.batch.Ending.{Ending}
 use Rattle.go_batch_core.specs.declared.batch.Next.{Next}
 use Rattle.go_batch_core.specs.declared.slot.Slot.{Slot}

@@ -1,9 +1,9 @@
 //! Inputs and parts of packages whose files are as they are read.
 ghost use Rattle.std.specs.Prelude.{◌≡◌, ◌↔◌, IfOk, IfSome, IsTrue};
 ghost use Rattle.go_graph_core.specs.Workspaces.{AreAllRead};
-ghost use Rattle.go_part_core.specs.Parts.{IsPart};
+ghost use Rattle.go_submit_core.specs.part_core.Parts.{IsPart};
 
-use go_part_core::{Part, PartInput, compile_part};
+use go_submit_core::part_core::{Part, PartInput, compile_part};
 use std::alloc::{AllocError, Global};
 use std::marker::Model;
 
@@ -20,7 +20,7 @@ impl Drop for ReadInput {
 
 impl Model for ReadInput {
     ghost use Rattle.go_graph_core.specs.Workspaces.{AreAllRead};
-    ghost use Rattle.go_part_core.specs.Inputs.{InputModel, coded_input};
+    ghost use Rattle.go_submit_core.specs.part_core.Inputs.{InputModel, coded_input};
 
     ghost Value = { InputModel };
 
@@ -62,7 +62,7 @@ impl Drop for ReadPart {
 
 impl Model for ReadPart {
     ghost use Rattle.go_graph_core.specs.Workspaces.{AreAllRead};
-    ghost use Rattle.go_part_core.specs.Parts.{PartModel};
+    ghost use Rattle.go_submit_core.specs.part_core.Parts.{PartModel};
     ghost use Rattle.go_batch_core.specs.Coding.{coded_part};
 
     ghost Value = { PartModel };

@@ -23,9 +23,9 @@ use Rattle.go_denote_core.specs.declared.things.Outcome.TheVariants as outcomes
 use Rattle.go_denote_core.specs.declared.things.Selection.{Selection}
 use Rattle.go_denote_core.specs.Answers.{refused}
 use Rattle.go_denote_core.specs.Selectors.{member_answer, method_answer, value_selector}
-use Rattle.go_decide_core.specs.Selecting.{Choice, choice, selected_of}
-use Rattle.go_decide_core.proofs.Choosing.{selectors_decided}
-use Rattle.go_decide_core.specs.Rules.{term_rules}
+use Rattle.go_handle_core.specs.decide_core.Selecting.{Choice, choice, selected_of}
+use Rattle.go_handle_core.specs.decide_core.Choosing.{selectors_decided}
+use Rattle.go_handle_core.specs.decide_core.Rules.{term_rules}
 use Rattle.go_handle_core.specs.Declarations.{Declaration}
 use Rattle.go_handle_core.specs.Names.{shown_choice, selection_in}
 use Rattle.go_handle_core.specs.Stars.{starred}

@@ -10,7 +10,7 @@ use Rattle.go_term_core.specs.Terms.{Term, Sign}
 use Rattle.go_denote_core.specs.declared.things.Outcome.{Outcome}
 use Rattle.go_denote_core.specs.declared.things.Outcome.TheVariants as outcomes
 use Rattle.go_table_core.specs.Entries.{Entry}
-use Rattle.go_decide_core.specs.Rules.{term_rules}
+use Rattle.go_handle_core.specs.decide_core.Rules.{term_rules}
 use Rattle.go_handle_core.specs.Declarations.{Declaration}
 use Rattle.go_handle_core.specs.Names.{selection_in}
 use Rattle.go_expr_core.specs.Looks.{Looks}

@@ -2,7 +2,7 @@
 ghost use Rattle.std.specs.Prelude.{◌≡◌, ℕ, List, IfOk};
 ghost use Rattle.go_table_core.specs.Entries.{Entry};
 ghost use Rattle.go_operand_core.specs.Values.{default_type};
-ghost use Rattle.go_decide_core.specs.Rules.{term_rules};
+ghost use Rattle.go_handle_core.specs.decide_core.Rules.{term_rules};
 ghost use Rattle.go_term_core.specs.Shapes.{shape};
 ghost use Rattle.go_term_core.specs.Terms.{PointerTo};
 ghost use Rattle.go_select_core.specs.embed_core.OwnersShown.{found_shown};

@@ -10,3 +10,8 @@ pub mod Naming
 pub mod Tables
 pub mod Words
 pub mod mirrors
+pub mod decl_core
+pub mod graph_core
+pub mod open_core
+pub mod parse_core
+pub mod tree_core

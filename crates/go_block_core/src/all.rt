@@ -12,8 +12,8 @@ use crate::exports::Exports;
 use crate::imports::Imported;
 use crate::making::blocks;
 use crate::naming::{import_names, import_specs};
+use go_graph_core::parse_types::add;
 use go_graph_core::{ImportAt, ImportOutcome, Package, Plan, Workspace, assemble};
-use go_parse_types::add;
 use go_tree_nodes::File;
 use std::alloc::{AllocError, Global};
 

@@ -38,3 +38,13 @@ pub use laws::{
 };
 pub use making::blocks;
 pub use naming::{import_names, import_specs};
+
+/// What the crates above name of `go_graph_core`.
+pub mod graph_core {
+    pub use go_graph_core::{Package, SourceFile};
+}
+
+/// What the crates above name of `go_open_core`.
+pub mod open_core {
+    pub use go_open_core::{DeclId, NameList, OpenBlocks, ShortDecl, ShortName};
+}

@@ -23,7 +23,7 @@ use crate::imports::NamedImport;
 use crate::table::{bind_first, has};
 use go_decl_core::{DeclRef, TopDecl, outline};
 use go_graph_core::Package;
-use go_parse_types::add;
+use go_graph_core::parse_types::add;
 use go_text_core::{Name, is_exported};
 use go_tree_nodes::File;
 use indexmap::IndexMap;

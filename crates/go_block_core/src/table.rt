@@ -2,7 +2,7 @@
 ghost use Rattle.std.specs.Prelude.{◌≡◌, OnOk, IfOk, map, option_copied};
 ghost use Rattle.go_block_core.specs.Tables.{block_of, in_block, has, with_first, names_in, without};
 
-use go_parse_types::add;
+use go_graph_core::parse_types::add;
 use indexmap::IndexMap;
 use std::alloc::{AllocError, Global};
 

@@ -6,9 +6,9 @@ use Rattle.go_term_core.specs.Terms.{Term}
 use Rattle.go_local_core.specs.declared.Fault.{Fault}
 use Rattle.go_local_core.specs.Law.{Rules, Out}
 use Rattle.go_local_core.specs.Tables.{walked, out_by_intervals}
-use Rattle.go_walk_core.specs.Ends.{lines_loop_faults}
-use Rattle.go_names_core.specs.Body.{AreWalked, AreGiven}
-use Rattle.go_expr_core.specs.Looks.{WrittenRules}
+use Rattle.go_piece_core.specs.walk_core.Ends.{lines_loop_faults}
+use Rattle.go_env_core.specs.names_core.Body.{AreWalked, AreGiven}
+use Rattle.go_piece_core.specs.expr_core.Looks.{WrittenRules}
 use Rattle.go_piece_core.specs.Headers.{returned_types, returned_names}
 use Rattle.go_env_core.specs.face_core.Faces.{TheFace}
 use Rattle.go_env_core.specs.declared.meaning.Meaning.{Meaning}

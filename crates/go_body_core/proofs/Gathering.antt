@@ -2,7 +2,7 @@
 use Rattle.std.proofs.Common.{◌≡◌, false, List, ◌++◌, ap, ◌∙◌, append_assoc}
 use Rattle.go_tree_nodes.specs.Trees.{FuncTree}
 use Rattle.go_local_core.specs.declared.Fault.{Fault}
-use Rattle.go_walk_core.specs.Ends.{lines_loop_faults}
+use Rattle.go_piece_core.specs.walk_core.Ends.{lines_loop_faults}
 use Rattle.go_body_core.specs.Notes.{TheUse, NoteOf, all_uses, noted_faults}
 use Rattle.go_body_core.specs.Ends.{end_faults}
 

@@ -8,8 +8,8 @@ use Rattle.go_local_core.specs.declared.Fault.{Fault}
 use Rattle.go_local_core.specs.Binding.{Local}
 use Rattle.go_local_core.specs.Law.{Out}
 use Rattle.go_local_core.specs.Tables.{walked, out_by_intervals, IsTable}
-use Rattle.go_walk_core.specs.Ends.{lines_loop_faults}
-use Rattle.go_expr_core.specs.Looks.{WrittenRules}
+use Rattle.go_piece_core.specs.walk_core.Ends.{lines_loop_faults}
+use Rattle.go_piece_core.specs.expr_core.Looks.{WrittenRules}
 use Rattle.go_env_core.specs.face_core.Faces.{TheFace}
 use Rattle.go_env_core.specs.declared.meaning.Meaning.{Meaning}
 use Rattle.go_env_core.specs.Scenes.{SceneModel}

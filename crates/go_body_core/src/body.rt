@@ -14,15 +14,15 @@ use crate::locals::Local;
 use crate::notes::{BodyUse, Note, joined};
 use crate::pieces::Pieces;
 use go_env_core::face_core::Face;
+use go_env_core::handle_core::{SignatureRef, TypeRef};
 use go_env_core::inline_core::InlineTypes;
+use go_env_core::names_core::check_function;
 use go_env_core::scope_core::Scopes;
 use go_env_core::{Scene, outer_names};
-use go_handle_core::{SignatureRef, TypeRef};
 use go_local_core::Fault;
-use go_names_core::check_function;
 use go_piece_core::has_named_results;
+use go_piece_core::walk_core::lines_loop_faults;
 use go_tree_nodes::FuncDecl;
-use go_walk_core::lines_loop_faults;
 use std::alloc::{AllocError, Global};
 
 /// What the check of a function's body gives.

@@ -17,6 +17,16 @@ pub use laws::{alike_rules_give_one, bodies_have_occurrences, pieces_are_of_gram
 pub use locals::Local;
 pub use notes::BodyUse;
 
+/// What the crates above name of `go_block_core`.
+pub mod block_core {
+    pub use go_env_core::block_core::{Imported, import_specs};
+}
+
+/// What the crates above name of `go_entry_core`.
+pub mod entry_core {
+    pub use go_env_core::entry_core::ImportedNames;
+}
+
 /// What the crates above name of `go_env_core`.
 pub mod env_core {
     pub use go_env_core::{Meaning, Scene, outer_names, stand};
@@ -24,10 +34,35 @@ pub mod env_core {
 
 /// What the crates above name of `go_face_core`.
 pub mod face_core {
-    pub use go_env_core::face_core::Face;
+    pub use go_env_core::face_core::{Face, FaceTable, WrittenFaces, written_faces};
 }
 
 /// What the crates above name of `go_handle_core`.
 pub mod handle_core {
-    pub use go_handle_core::Home;
+    pub use go_env_core::handle_core::{Decl, DeclSite, Home, SignatureRef, TypeRef};
+}
+
+/// What the crates above name of `go_inline_core`.
+pub mod inline_core {
+    pub use go_env_core::inline_core::{Ground, InlineTypes, function_types, initialiser_types};
+}
+
+/// What the crates above name of `go_names_core`.
+pub mod names_core {
+    pub use go_env_core::names_core::OpenNames;
+}
+
+/// What the crates above name of `go_scope_core`.
+pub mod scope_core {
+    pub use go_env_core::scope_core::Scopes;
+}
+
+/// What the crates above name of `go_select_core`.
+pub mod select_core {
+    pub use go_env_core::select_core::EmbedPath;
+}
+
+/// What the crates above name of `go_tree_core`.
+pub mod tree_core {
+    pub use go_piece_core::tree_core::Role;
 }

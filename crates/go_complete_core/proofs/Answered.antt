@@ -17,7 +17,7 @@ use Rattle.go_scope_core.specs.Scopes.{scope_blocks}
 use Rattle.go_local_core.specs.Binding.{NameLook}
 use Rattle.go_local_core.specs.mirrors.Walk.{look_in}
 use Rattle.go_term_core.specs.Terms.{Term, Sign}
-use Rattle.go_handle_core.specs.Declarations.{Declaration, Package as PackageOf}
+use Rattle.go_fitting_core.specs.handle_core.Declarations.{Declaration, Package as PackageOf}
 use Rattle.go_denote_core.specs.declared.things.Stand.{Stand}
 use Rattle.go_denote_core.specs.declared.things.Stand.TheVariants as stands
 use Rattle.go_denote_core.specs.declared.things.Dot.{Dot}
@@ -27,13 +27,13 @@ use Rattle.go_expr_core.specs.Looks.{look_of_place}
 use Rattle.go_expr_core.specs.Places.{is_name}
 use Rattle.go_expr_core.specs.Denoting.{ident_answer}
 use Rattle.go_expr_core.specs.Uses.{Context, NameAt, SelectorBehind, rule}
-use Rattle.go_face_core.specs.Packages.{PackageFacesModel, exported_in}
-use Rattle.go_env_core.specs.declared.meaning.Meaning.{Meaning}
-use Rattle.go_env_core.specs.Looks.{TheLooks}
-use Rattle.go_env_core.specs.Found.{exported_shown, found_exported}
-use Rattle.go_func_core.specs.Stands.{FileStand, looks_where, outer_meanings}
+use Rattle.go_summary_core.specs.face_core.Packages.{PackageFacesModel, exported_in}
+use Rattle.go_place_core.specs.env_core.declared.meaning.Meaning.{Meaning}
+use Rattle.go_place_core.specs.env_core.Looks.{TheLooks}
+use Rattle.go_place_core.specs.env_core.Found.{exported_shown, found_exported}
+use Rattle.go_place_core.specs.func_core.Stands.{FileStand, looks_where, outer_meanings}
 use Rattle.go_summary_core.specs.Views.{faces_told}
-use Rattle.go_part_core.specs.Parts.{IsPart, PartModel, package_seen, seen_by}
+use Rattle.go_place_core.specs.part_core.Parts.{IsPart, PartModel, package_seen, seen_by}
 use Rattle.go_context_core.specs.Alone.{HasLocals, fits_some}
 use Rattle.go_context_core.specs.Laws.{is_declared}
 use Rattle.go_context_core.proofs.Deciding.{things_decide}

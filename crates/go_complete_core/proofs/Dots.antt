@@ -19,13 +19,13 @@ use Rattle.go_denote_core.specs.Answers.{refused, of_value, found_answer, name_a
 use Rattle.go_denote_core.specs.Selectors.{dot_of, exported_answer, usage_place}
 use Rattle.go_expr_core.specs.Uses.{Context, SelectorBehind}
 use Rattle.go_term_core.specs.declared.term.MemberPlace.TheVariants as places
-use Rattle.go_handle_core.specs.Declarations.{Declaration, InFile}
-use Rattle.go_face_core.specs.declared.face.Face.TheVariants as faces
-use Rattle.go_face_core.specs.declared.shown.ShownFace.{ShownFace}
-use Rattle.go_face_core.specs.declared.shown.ShownFace.TheVariants as shows
-use Rattle.go_face_core.specs.Faces.{TheFace}
+use Rattle.go_fitting_core.specs.handle_core.Declarations.{Declaration, InFile}
+use Rattle.go_summary_core.specs.face_core.declared.face.Face.TheVariants as faces
+use Rattle.go_summary_core.specs.face_core.declared.shown.ShownFace.{ShownFace}
+use Rattle.go_summary_core.specs.face_core.declared.shown.ShownFace.TheVariants as shows
+use Rattle.go_summary_core.specs.face_core.Faces.{TheFace}
 use Rattle.go_term_core.specs.Terms.{Term, Sign}
-use Rattle.go_env_core.specs.Found.{exported_face, exported_shown}
+use Rattle.go_place_core.specs.env_core.Found.{exported_face, exported_shown}
 use Rattle.go_context_core.specs.Laws.{is_declared}
 use Rattle.go_context_core.specs.Alone.{fits}
 use Rattle.go_fitting_core.specs.Fitting.{fits_shown, thing_of_face}

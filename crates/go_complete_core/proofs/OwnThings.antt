@@ -25,19 +25,19 @@ use Rattle.go_entry_core.specs.Entries.{file_at}
 use Rattle.go_entry_core.specs.Meanings.{file_meaning}
 use Rattle.go_entry_core.specs.Outlines.{FileOutline, IsOutline, outline_of}
 use Rattle.go_needs_core.specs.Needs.{needed, NeedsLead, IsEndless, known_in, AreValues}
-use Rattle.go_face_core.specs.declared.face.Face.TheVariants as faces
-use Rattle.go_face_core.specs.Faces.{TheFace, variable_face}
-use Rattle.go_face_core.specs.Laws.{FileDecl, Stands, package_decls, written_there}
-use Rattle.go_face_core.specs.Written.{WrittenOf, form_as_written, value_as_written, written_of, written_at, face_found, position_of, package_written}
-use Rattle.go_face_core.proofs.Places.{positions_are_exact}
-use Rattle.go_env_core.specs.Scenes.{SceneModel}
-use Rattle.go_env_core.specs.Looks.{TheLooks}
-use Rattle.go_env_core.specs.Found.{face_at, own_face}
-use Rattle.go_value_core.specs.Package.{form_idents, idents_need, form_face, value_face, written_face, first_values}
-use Rattle.go_func_core.specs.Stands.{outer_looks}
-use Rattle.go_ready_core.specs.Packages.{PackageIn, outlines_in, scene_in, stand_in}
-use Rattle.go_ready_core.specs.Values.{AreDeclared, decls_in, needs_in, file_decl_needs, declared_in, some_decl_face, face_there}
-use Rattle.go_ready_core.proofs.Lists.{mapped_at}
+use Rattle.go_summary_core.specs.face_core.declared.face.Face.TheVariants as faces
+use Rattle.go_summary_core.specs.face_core.Faces.{TheFace, variable_face}
+use Rattle.go_summary_core.specs.face_core.Laws.{FileDecl, Stands, package_decls, written_there}
+use Rattle.go_summary_core.specs.face_core.Written.{WrittenOf, form_as_written, value_as_written, written_of, written_at, face_found, position_of, package_written}
+use Rattle.go_summary_core.specs.face_core.Places.{positions_are_exact}
+use Rattle.go_place_core.specs.env_core.Scenes.{SceneModel}
+use Rattle.go_place_core.specs.env_core.Looks.{TheLooks}
+use Rattle.go_place_core.specs.env_core.Found.{face_at, own_face}
+use Rattle.go_place_core.specs.value_core.Package.{form_idents, idents_need, form_face, value_face, written_face, first_values}
+use Rattle.go_place_core.specs.func_core.Stands.{outer_looks}
+use Rattle.go_place_core.specs.ready_core.Packages.{PackageIn, outlines_in, scene_in, stand_in}
+use Rattle.go_place_core.specs.ready_core.Values.{AreDeclared, decls_in, needs_in, file_decl_needs, declared_in, some_decl_face, face_there}
+use Rattle.go_place_core.specs.ready_core.Lists.{mapped_at}
 use Rattle.go_context_core.specs.declared.things.Thing.{Thing}
 use Rattle.go_context_core.specs.declared.things.Thing.TheVariants as things
 use Rattle.go_context_core.specs.Alone.{thing_of_decl}

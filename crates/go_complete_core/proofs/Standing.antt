@@ -26,15 +26,15 @@ use Rattle.go_local_core.specs.mirrors.Walk.{Names, latest, look_in, names_of}
 use Rattle.go_denote_core.specs.declared.things.Found.{Found}
 use Rattle.go_denote_core.specs.declared.things.Found.TheVariants as founds
 use Rattle.go_term_core.specs.declared.term.MemberPlace.TheVariants as places
-use Rattle.go_handle_core.specs.Declarations.{Declaration, InFile, Package as PackageOf}
-use Rattle.go_face_core.specs.declared.face.Face.TheVariants as faces
-use Rattle.go_face_core.specs.Faces.{TheFace}
-use Rattle.go_face_core.specs.Packages.{face_in}
-use Rattle.go_env_core.specs.declared.meaning.Meaning.{Meaning}
-use Rattle.go_env_core.specs.declared.meaning.Meaning.TheVariants as meanings
-use Rattle.go_env_core.specs.Scenes.{SceneModel}
-use Rattle.go_env_core.specs.Found.{TheFound, found_face, found_target, found_binding, found_universe, found_of, own_face}
-use Rattle.go_body_core.specs.Rules.{outside_in}
+use Rattle.go_fitting_core.specs.handle_core.Declarations.{Declaration, InFile, Package as PackageOf}
+use Rattle.go_summary_core.specs.face_core.declared.face.Face.TheVariants as faces
+use Rattle.go_summary_core.specs.face_core.Faces.{TheFace}
+use Rattle.go_summary_core.specs.face_core.Packages.{face_in}
+use Rattle.go_place_core.specs.env_core.declared.meaning.Meaning.{Meaning}
+use Rattle.go_place_core.specs.env_core.declared.meaning.Meaning.TheVariants as meanings
+use Rattle.go_place_core.specs.env_core.Scenes.{SceneModel}
+use Rattle.go_place_core.specs.env_core.Found.{TheFound, found_face, found_target, found_binding, found_universe, found_of, own_face}
+use Rattle.go_place_core.specs.body_core.Rules.{outside_in}
 use Rattle.go_context_core.specs.declared.things.Thing.{Thing}
 use Rattle.go_context_core.specs.declared.things.Thing.TheVariants as things
 use Rattle.go_context_core.specs.Alone.{local_names, thing_of_decl, thing_of_predeclared}

@@ -14,7 +14,7 @@ ghost use Rattle.go_complete_core.specs.mirrors.Answering.{AreAnswered, AreBehin
 use go_context_core::scopes_with;
 use go_denote_core::Stand;
 use go_fitting_core::{fits_alone, names_alone, names_behind, package_named};
-use go_part_core::Part;
+use go_place_core::part_core::Part;
 use go_scope_core::Scopes;
 use go_spot_core::{FoundSpot, Spot};
 use go_summary_core::ReachedSummaries;

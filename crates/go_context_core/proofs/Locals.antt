@@ -8,7 +8,7 @@ use Rattle.go_tree_nodes.specs.declared.names.Ident.{Ident}
 use Rattle.go_open_core.specs.declared.DeclId.{DeclId}
 use Rattle.go_open_core.specs.Blocks.{in_block, names_in, is_taken, is_listed, list_name, list_names, innermost, with_innermost, block_with}
 use Rattle.go_open_core.proofs.Names.{listed-block}
-use Rattle.go_block_core.specs.Blocks.{BlocksModel}
+use Rattle.go_scope_core.specs.block_core.Blocks.{BlocksModel}
 use Rattle.go_scope_core.specs.Models.{ScopesModel}
 use Rattle.go_scope_core.specs.Scopes.{with_open}
 use Rattle.go_context_core.specs.Alone.{local_names, HasLocals}

@@ -9,9 +9,9 @@ use Rattle.go_universe_core.specs.declared.Predeclared.TheVariants as universe
 use Rattle.go_tree_nodes.specs.declared.names.Ident.{Ident}
 use Rattle.go_decl_core.specs.declared.places.DeclKind.{DeclKind}
 use Rattle.go_decl_core.specs.declared.places.DeclKind.TheVariants as kinds
-use Rattle.go_block_core.specs.declared.binding.Target.{Target}
-use Rattle.go_block_core.specs.declared.binding.Target.TheVariants as targets
-use Rattle.go_block_core.specs.Blocks.{BlocksModel}
+use Rattle.go_scope_core.specs.block_core.declared.binding.Target.{Target}
+use Rattle.go_scope_core.specs.block_core.declared.binding.Target.TheVariants as targets
+use Rattle.go_scope_core.specs.block_core.Blocks.{BlocksModel}
 use Rattle.go_open_core.specs.Blocks.{found_in, names_in, list_names}
 use Rattle.go_open_core.specs.declared.DeclId.{DeclId}
 use Rattle.go_scope_core.specs.Models.{ScopesModel, scopes_model}

@@ -5,10 +5,10 @@ ghost use Rattle.go_open_core.specs.Blocks.{all_names, list_names};
 ghost use Rattle.go_context_core.specs.Alone as alone;
 
 use crate::things::{fits, thing_of};
-use go_block_core::Blocks;
 use go_denote_core::Stand;
 use go_open_core::DeclId;
 use go_scope_core::Scopes;
+use go_scope_core::block_core::Blocks;
 use go_text_core::Rule;
 use go_tree_nodes::Ident;
 use std::alloc::Global;

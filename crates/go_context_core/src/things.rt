@@ -3,9 +3,9 @@ ghost use Rattle.std.specs.Prelude.{◌≡◌};
 ghost use Rattle.go_scope_core.specs.Scopes.{denoted_of};
 ghost use Rattle.go_context_core.specs.Alone as alone;
 
-use go_block_core::{DeclKind, Target};
 use go_denote_core::Stand;
 use go_scope_core::InScope;
+use go_scope_core::block_core::{DeclKind, Target};
 use go_universe_core::Predeclared;
 
 /// What a name stands for, where it stands for one thing.

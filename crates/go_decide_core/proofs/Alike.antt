@@ -6,13 +6,13 @@ use Rattle.go_term_core.specs.declared.term.MemberPlace.{MemberPlace}
 use Rattle.go_term_core.specs.Terms.{Term, NoType, Predeclared, ErrorType, Defined, PointerTo, StructOf, InterfaceOf, Fields, NoField, AField, Methods, NoMethod, AMethod, Sign, SignOf, Terms, NoTerm, ATerm}
 use Rattle.go_term_core.specs.Identity.{IsMethod, method_count, IdenticalBy, SameFieldsBy, HasAllBy, SameSignBy, SameTermsBy}
 use Rattle.go_term_core.specs.mirrors.Alike.{HasAlike}
-use Rattle.go_table_core.specs.Entries.{same_id}
-use Rattle.go_table_core.specs.Underlying.{written_out, IdenticalUnder}
+use Rattle.go_mset_core.specs.table_core.Entries.{same_id}
+use Rattle.go_mset_core.specs.table_core.Underlying.{written_out, IdenticalUnder}
 use Rattle.go_mset_core.specs.embed_core.Ids.{same_id_is, same_id_from}
 use Rattle.go_decide_core.specs.Identity.{tags_agree, has_alike, identical_by, same_fields, has_all, same_sign, same_terms, identical_under_of}
 use Rattle.go_decide_core.specs.Laws.{IdentityIsDecided}
 use Rattle.go_decide_core.proofs.Tests.{both_decide, some_decide, never, decides_number, decides_flag, decides_tags, decides_basic, decides_key}
-use Rattle.go_constant_core.specs.Values.{bool_same}
+use Rattle.go_denote_core.specs.constant_core.Values.{bool_same}
 
 pub decides_id : (a p b q : List ℕ) → IsTrue (same_id a p b q) ↔ SameId a p b q
 decides_id a p b q = (λ h. same_id_is a p b q h, λ h. same_id_from a p b q h)

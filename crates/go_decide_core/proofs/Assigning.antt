@@ -4,9 +4,9 @@ use Rattle.go_term_core.specs.declared.term.Basic.{Basic}
 use Rattle.go_term_core.specs.declared.term.Basic.TheVariants as basics
 use Rattle.go_term_core.specs.Terms.{Term, NoType, Predeclared, ErrorType, Defined, PointerTo, StructOf, InterfaceOf, Fields}
 use Rattle.go_term_core.specs.Identity.{Identical}
-use Rattle.go_table_core.specs.Entries.{EntryLook, find_entry, underlying_in, IsUnnamed}
-use Rattle.go_table_core.specs.Underlying.{IdenticalUnder}
-use Rattle.go_table_core.specs.Assign.{Assigned, AValue, ANil, AnInteger, AText, ABoolean, IsNamed, IsInterface, IsPointer, IsValueAssignable, identical, alike, implements_it, IsFitting, is_named}
+use Rattle.go_mset_core.specs.table_core.Entries.{EntryLook, find_entry, underlying_in, IsUnnamed}
+use Rattle.go_mset_core.specs.table_core.Underlying.{IdenticalUnder}
+use Rattle.go_mset_core.specs.table_core.Assign.{Assigned, AValue, ANil, AnInteger, AText, ABoolean, IsNamed, IsInterface, IsPointer, IsValueAssignable, identical, alike, implements_it, IsFitting, is_named}
 use Rattle.go_denote_core.specs.operand_core.declared.types.TypeForm.TheVariants as forms
 use Rattle.go_decide_core.specs.Rules.{form_under}
 use Rattle.go_mset_core.specs.Implementing.{Implements}

@@ -4,7 +4,7 @@ use Rattle.go_text_core.specs.Text.{is_blank}
 use Rattle.go_text_core.specs.declared.rule.Rule.{Rule}
 use Rattle.go_text_core.specs.declared.rule.Rule.TheVariants.{M0, S8}
 use Rattle.go_term_core.specs.Terms.{Term}
-use Rattle.go_table_core.specs.Entries.{Entry, EntryLook, find_entry}
+use Rattle.go_mset_core.specs.table_core.Entries.{Entry, EntryLook, find_entry}
 use Rattle.go_mset_core.specs.embed_core.Owners.{Found, AFieldOf, AMethodOf, AnInterfaces, TheErrorMethod}
 use Rattle.go_mset_core.specs.embed_core.OwnersShown.{found_shown}
 use Rattle.go_mset_core.specs.level_core.declared.search.Selected.{Selected}

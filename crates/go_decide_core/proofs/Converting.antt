@@ -1,8 +1,8 @@
 -- Convertibility is decided.
 use Rattle.std.proofs.Common.{◌≡◌, ◌↔◌, false, IsTrue, ◌⊎◌, inl, inr, refl, subst}
 use Rattle.go_term_core.specs.Terms.{Term, NoType, Predeclared, ErrorType, Defined, PointerTo, StructOf, InterfaceOf, is_no_type}
-use Rattle.go_table_core.specs.Entries.{EntryLook, underlying_in}
-use Rattle.go_table_core.specs.Assign.{IsType}
+use Rattle.go_mset_core.specs.table_core.Entries.{EntryLook, underlying_in}
+use Rattle.go_mset_core.specs.table_core.Assign.{IsType}
 use Rattle.go_decide_core.specs.Identity.{identical_under_of}
 use Rattle.go_decide_core.specs.Conversion.{AreAlike, IsTermConvertible, alike, pointers, is_type_term, are_alike, pointers_alike, convertible_of}
 use Rattle.go_decide_core.specs.Laws.{ConvertibilityIsDecided}

@@ -2,7 +2,7 @@
 use Rattle.std.proofs.Common.{◌≡◌, ℕ, Bool, List, Ok, Err, ap}
 use Rattle.go_text_core.specs.declared.rule.Rule.{Rule}
 use Rattle.go_term_core.specs.Terms.{Term}
-use Rattle.go_table_core.specs.Entries.{Entry, find_entry}
+use Rattle.go_mset_core.specs.table_core.Entries.{Entry, find_entry}
 use Rattle.go_mset_core.specs.embed_core.Owners.{Found, AFieldOf, AMethodOf, AnInterfaces, TheErrorMethod}
 use Rattle.go_mset_core.specs.level_core.Selectors.{IsDenoted, IsRule}
 use Rattle.go_decide_core.specs.Selecting.{choice, selected_of}

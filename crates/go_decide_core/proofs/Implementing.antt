@@ -5,7 +5,7 @@ use Rattle.go_text_core.specs.declared.rule.Rule.{Rule}
 use Rattle.go_term_core.specs.declared.term.MemberPlace.{MemberPlace}
 use Rattle.go_term_core.specs.Terms.{Term, NoType, Predeclared, ErrorType, Defined, PointerTo, StructOf, InterfaceOf, Methods, NoMethod, AMethod, Sign}
 use Rattle.go_term_core.specs.Identity.{IsMethod}
-use Rattle.go_table_core.specs.Entries.{Entry, EntryLook, find_entry, underlying_in}
+use Rattle.go_mset_core.specs.table_core.Entries.{Entry, EntryLook, find_entry, underlying_in}
 use Rattle.go_mset_core.specs.embed_core.Owners.{Found, AFieldOf, AMethodOf, AnInterfaces, TheErrorMethod}
 use Rattle.go_mset_core.specs.level_core.Selectors.{Searched, Refused, In, FieldsIn, searched, IsFoundAs}
 use Rattle.go_mset_core.specs.MethodSets.{IsCallable, IsMethodFound}

@@ -6,10 +6,10 @@ use Rattle.go_term_core.specs.decl_core.declared.keys.DeclKey.{DeclKey}
 use Rattle.go_term_core.specs.declared.term.Basic.TheVariants as basics
 use Rattle.go_term_core.specs.Terms.{Term, NoType, Predeclared, PointerTo, is_no_type, term_keys}
 use Rattle.go_term_core.proofs.Members.{in_contained}
-use Rattle.go_table_core.specs.Entries.{Entry, EntryLook, find_entry, underlying_in}
-use Rattle.go_table_core.specs.Assign.{Assigned, AValue, ANil, AnInteger, AText, ABoolean, is_named}
-use Rattle.go_table_core.specs.Laws.{LeadsTo, AgreeFrom, AssignedAgrees}
-use Rattle.go_table_core.proofs.Meanings.{underlying_local}
+use Rattle.go_mset_core.specs.table_core.Entries.{Entry, EntryLook, find_entry, underlying_in}
+use Rattle.go_mset_core.specs.table_core.Assign.{Assigned, AValue, ANil, AnInteger, AText, ABoolean, is_named}
+use Rattle.go_mset_core.specs.table_core.Laws.{LeadsTo, AgreeFrom, AssignedAgrees}
+use Rattle.go_mset_core.specs.table_core.Meanings.{underlying_local}
 use Rattle.go_mset_core.specs.level_core.Selectors.{IsRule}
 use Rattle.go_mset_core.specs.select_core.Local.{agree_back, denoted_there, local}
 use Rattle.go_mset_core.specs.select_core.Meanings.{one_answer}

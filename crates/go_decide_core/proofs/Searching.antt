@@ -4,7 +4,7 @@ use Rattle.std.proofs.lemmas.Bool.{or_cases, or_left, or_right}
 use Rattle.go_text_core.specs.declared.rule.Rule.{Rule}
 use Rattle.go_term_core.specs.Terms.{Term}
 use Rattle.go_term_core.proofs.Members.{In}
-use Rattle.go_table_core.specs.Entries.{Entry, EntryLook, find_entry}
+use Rattle.go_mset_core.specs.table_core.Entries.{Entry, EntryLook, find_entry}
 use Rattle.go_mset_core.specs.embed_core.Owners.{owner_in, Found, has_spelled}
 use Rattle.go_mset_core.specs.level_core.Paths.{Hit, HasHit, IsSelected, IsAmbiguous, IsMemberSpelled}
 use Rattle.go_mset_core.specs.level_core.Selectors.{IsMissing, ambiguous, hidden, absent}

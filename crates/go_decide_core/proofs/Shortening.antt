@@ -4,7 +4,7 @@ use Rattle.std.specs.Prelude.{nat_eq}
 use Rattle.std.specs.Map.{lookup}
 use Rattle.go_term_core.specs.Terms.{Term, NoType, Predeclared, ErrorType, Defined, PointerTo, StructOf, InterfaceOf}
 use Rattle.go_term_core.proofs.Members.{In}
-use Rattle.go_table_core.specs.Entries.{Entry, find_entry, term_in, underlying_in}
+use Rattle.go_mset_core.specs.table_core.Entries.{Entry, find_entry, term_in, underlying_in}
 use Rattle.go_mset_core.specs.embed_core.Owners.{EmbeddedEdge, owner_in, term_embedded, embedded_in}
 use Rattle.go_mset_core.specs.level_core.Paths.{Step, FieldsLead}
 use Rattle.go_mset_core.specs.level_core.mirrors.Ways.{IsNumbered}
@@ -13,7 +13,7 @@ use Rattle.go_mset_core.specs.level_core.Edges.{step_edge}
 use Rattle.go_mset_core.specs.level_core.Weights.{find_deep, left_falls, term_deep}
 use Rattle.go_mset_core.specs.select_core.Short.{Avoids, avoids_none, last_visit, left_none, marked, numbered, starts}
 use Rattle.go_decide_core.specs.Selecting.{last_depth}
-use Rattle.go_table_core.specs.Nesting.{nesting, deepest}
+use Rattle.go_mset_core.specs.table_core.Nesting.{nesting, deepest}
 
 -- a type that embeds one is of the table, or the one stands within it
 abbrev Falls : List Entry → Term → Term → Type 0

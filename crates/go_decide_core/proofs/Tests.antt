@@ -8,11 +8,11 @@ use Rattle.go_term_core.specs.decl_core.declared.keys.DeclKey.{DeclKey}
 use Rattle.go_term_core.specs.declared.term.Basic.{Basic}
 use Rattle.go_term_core.specs.declared.term.Basic.TheVariants as basics
 use Rattle.go_term_core.specs.Identity.{TagsAgree}
-use Rattle.go_table_core.specs.Entries.{same_key}
-use Rattle.go_table_core.proofs.Keys.{same_key_itself, same_key_true}
+use Rattle.go_mset_core.specs.table_core.Entries.{same_key}
+use Rattle.go_mset_core.specs.table_core.Keys.{same_key_itself, same_key_true}
 use Rattle.go_denote_core.specs.operand_core.Values.{is_basic}
 use Rattle.go_decide_core.specs.Identity.{tags_agree}
-use Rattle.go_constant_core.specs.Values.{bool_same}
+use Rattle.go_denote_core.specs.constant_core.Values.{bool_same}
 
 -- both of two tests
 pub both_decide : {P Q : Type 0} (a b : Bool) → (IsTrue a ↔ P) → (IsTrue b ↔ Q) → IsTrue (a && b) ↔ (P × Q)

@@ -1,9 +1,9 @@
 -- Which types values are convertible to, beside what is assignable: the Go specification, "Conversions".
 use Rattle.std.specs.Prelude.{◌≡◌, Bool, false, not, ◌&&◌, ◌||◌}
 use Rattle.go_term_core.specs.Terms.{Term, PointerTo, is_no_type}
-use Rattle.go_table_core.specs.Entries.{EntryLook, underlying_in}
-use Rattle.go_table_core.specs.Underlying.{IdenticalUnder}
-use Rattle.go_table_core.specs.Assign.{IsType}
+use Rattle.go_mset_core.specs.table_core.Entries.{EntryLook, underlying_in}
+use Rattle.go_mset_core.specs.table_core.Underlying.{IdenticalUnder}
+use Rattle.go_mset_core.specs.table_core.Assign.{IsType}
 use Rattle.go_decide_core.specs.Identity.{identical_under_of}
 
 -- the underlying types are identical apart from tags, and it is one

@@ -3,10 +3,10 @@ use Rattle.std.specs.Prelude.{ℕ, Bool, true, false, ◌&&◌, ◌||◌, List, 
 use Rattle.std.specs.Str.{bytes_eq}
 use Rattle.go_term_core.specs.Terms.{Term, NoType, Predeclared, ErrorType, Defined, PointerTo, StructOf, InterfaceOf, Fields, NoField, AField, Methods, NoMethod, AMethod, Sign, SignOf, Terms, NoTerm, ATerm}
 use Rattle.go_term_core.specs.Identity.{method_count}
-use Rattle.go_table_core.specs.Entries.{same_key, same_id}
-use Rattle.go_table_core.specs.Underlying.{written_out}
+use Rattle.go_mset_core.specs.table_core.Entries.{same_key, same_id}
+use Rattle.go_mset_core.specs.table_core.Underlying.{written_out}
 use Rattle.go_denote_core.specs.operand_core.Values.{is_basic}
-use Rattle.go_constant_core.specs.Values.{bool_same}
+use Rattle.go_denote_core.specs.constant_core.Values.{bool_same}
 
 -- the same tags, where tags count
 abbrev pub tags_agree : Bool → List ℕ → List ℕ → Bool

@@ -2,7 +2,7 @@
 use Rattle.std.specs.Prelude.{ℕ, Bool, true, false, not, ◌&&◌, ◌||◌, List, [], Result, Ok, Err, codes}
 use Rattle.go_text_core.specs.declared.rule.Rule.{Rule}
 use Rattle.go_term_core.specs.Terms.{Term, NoType, Predeclared, ErrorType, Defined, PointerTo, StructOf, InterfaceOf, Methods, NoMethod, AMethod, Sign}
-use Rattle.go_table_core.specs.Entries.{Entry, find_entry, underlying_in}
+use Rattle.go_mset_core.specs.table_core.Entries.{Entry, find_entry, underlying_in}
 use Rattle.go_mset_core.specs.embed_core.Owners.{Found, AFieldOf, AMethodOf, AnInterfaces, TheErrorMethod}
 use Rattle.go_mset_core.specs.Implementing.{error_sign}
 use Rattle.go_decide_core.specs.Identity.{same_sign_of}

@@ -6,16 +6,16 @@ use Rattle.go_term_core.specs.declared.term.Basic.{Basic}
 use Rattle.go_term_core.specs.declared.term.MemberPlace.{MemberPlace}
 use Rattle.go_term_core.specs.Terms.{Term, Predeclared, PointerTo, StructOf, Fields, Sign}
 use Rattle.go_term_core.specs.Identity.{Identical, IdenticalButForTags, SameSign}
-use Rattle.go_table_core.specs.Entries.{Entry, EntryLook, find_entry, underlying_in, IsUnnamed}
+use Rattle.go_mset_core.specs.table_core.Entries.{Entry, EntryLook, find_entry, underlying_in, IsUnnamed}
 use Rattle.go_mset_core.specs.embed_core.Owners.{Found, AFieldOf, AMethodOf, AnInterfaces, TheErrorMethod}
 use Rattle.go_mset_core.specs.level_core.declared.search.Selected.{Selected}
 use Rattle.go_mset_core.specs.level_core.Selectors.{IsDenoted, IsRule, IsSelectorAnswer}
 use Rattle.go_decide_core.specs.Identity.{identical_of, identical_but_for_tags_of, identical_under_of, same_sign_of}
 use Rattle.go_decide_core.specs.Conversion.{IsTermConvertible, convertible_of}
-use Rattle.go_table_core.specs.Underlying.{IdenticalUnder}
-use Rattle.go_table_core.specs.Assign.{Assigned, AValue, IsInterface, IsType, IsTermAssignable}
+use Rattle.go_mset_core.specs.table_core.Underlying.{IdenticalUnder}
+use Rattle.go_mset_core.specs.table_core.Assign.{Assigned, AValue, IsInterface, IsType, IsTermAssignable}
 use Rattle.go_denote_core.specs.operand_core.declared.types.TypeForm.TheVariants as forms
-use Rattle.go_table_core.specs.Laws.{AgreeFrom, AssignedAgrees}
+use Rattle.go_mset_core.specs.table_core.Laws.{AgreeFrom, AssignedAgrees}
 use Rattle.go_mset_core.specs.Implementing.{HasMethod, Implements, error_sign}
 use Rattle.go_denote_core.specs.declared.things.Selection.TheVariants as selections
 use Rattle.go_decide_core.specs.Selecting.{choice, selected_of, chosen_of}

@@ -6,8 +6,12 @@ pub mod Assigning
 pub mod Rules
 pub mod Worked
 pub mod Laws
+pub mod constant_core
 pub mod denote_core
 pub mod embed_core
 pub mod level_core
 pub mod mset_core
+pub mod operand_core
+pub mod select_core
+pub mod settle_core
 pub mod table_core

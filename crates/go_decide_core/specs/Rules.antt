@@ -3,8 +3,8 @@ use Rattle.std.specs.Prelude.{ℕ, Bool, false, List, [], ◌∷◌, Option, Som
 use Rattle.go_text_core.specs.declared.rule.Rule.{Rule}
 use Rattle.go_term_core.specs.declared.term.Basic.TheVariants as basics
 use Rattle.go_term_core.specs.Terms.{Term, NoType, Predeclared, ErrorType, Defined, PointerTo, StructOf, InterfaceOf, NoMethod, Sign, SignOf, Terms, NoTerm, ATerm}
-use Rattle.go_table_core.specs.Entries.{Entry, EntryLook, find_entry, underlying_in}
-use Rattle.go_table_core.specs.Assign.{AValue}
+use Rattle.go_mset_core.specs.table_core.Entries.{Entry, EntryLook, find_entry, underlying_in}
+use Rattle.go_mset_core.specs.table_core.Assign.{AValue}
 use Rattle.go_mset_core.specs.embed_core.Owners.{Found, AFieldOf, AMethodOf, AnInterfaces, TheErrorMethod}
 use Rattle.go_mset_core.specs.Implementing.{error_sign}
 use Rattle.go_denote_core.specs.operand_core.declared.types.TypeForm.{TypeForm}

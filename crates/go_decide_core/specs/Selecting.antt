@@ -4,12 +4,12 @@ use Rattle.go_text_core.specs.Text.{is_blank}
 use Rattle.go_text_core.specs.declared.rule.Rule.{Rule}
 use Rattle.go_text_core.specs.declared.rule.Rule.TheVariants.{S1, S2, S3, S7, S8}
 use Rattle.go_term_core.specs.Terms.{Term}
-use Rattle.go_table_core.specs.Entries.{Entry, EntryLook, find_entry, same_id}
+use Rattle.go_mset_core.specs.table_core.Entries.{Entry, EntryLook, find_entry, same_id}
 use Rattle.go_mset_core.specs.embed_core.Owners.{EmbeddedEdge, owner_in, embedded_in, Found, AFieldOf, AMethodOf, AnInterfaces, TheErrorMethod, Named, members_of, has_spelled}
 use Rattle.go_mset_core.specs.embed_core.OwnersShown.{found_shown}
 use Rattle.go_mset_core.specs.level_core.declared.search.Selected.{Selected}
 use Rattle.go_mset_core.specs.level_core.Selectors.{Searched, Refused, In, FieldsIn, searched}
-use Rattle.go_table_core.specs.Nesting.{nesting, deepest}
+use Rattle.go_mset_core.specs.table_core.Nesting.{nesting, deepest}
 
 -- a type that embedded fields lead to: these, whether one of them has a star, and the type
 pub record Trail : Type 0 where

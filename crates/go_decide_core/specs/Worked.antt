@@ -7,8 +7,8 @@ use Rattle.go_term_core.specs.declared.term.Basic.TheVariants as basics
 use Rattle.go_term_core.specs.declared.term.MemberPlace.{MemberPlace}
 use Rattle.go_term_core.specs.declared.term.MemberPlace.TheVariants as places
 use Rattle.go_term_core.specs.Terms.{Term, NoType, Predeclared, ErrorType, Defined, PointerTo, StructOf, InterfaceOf, Fields, NoField, AField, NoMethod, AMethod, Sign, SignOf, NoTerm, ATerm}
-use Rattle.go_table_core.specs.Entries.{Member, Entry, find_entry}
-use Rattle.go_table_core.specs.Assign.{AValue, ANil, AnInteger, AText, ABoolean}
+use Rattle.go_mset_core.specs.table_core.Entries.{Member, Entry, find_entry}
+use Rattle.go_mset_core.specs.table_core.Assign.{AValue, ANil, AnInteger, AText, ABoolean}
 use Rattle.go_mset_core.specs.embed_core.Owners.{AFieldOf, AMethodOf, AnInterfaces, TheErrorMethod}
 use Rattle.go_mset_core.specs.Implementing.{error_sign}
 use Rattle.go_denote_core.specs.operand_core.declared.types.TypeForm.TheVariants as forms

@@ -1,4 +1,8 @@
 -- What the crates above name of go_table_core.
-pub use Rattle.go_table_core.specs.Assign as Assign
-pub use Rattle.go_table_core.specs.Entries as Entries
-pub use Rattle.go_table_core.specs.Underlying as Underlying
+pub use Rattle.go_mset_core.specs.table_core.Assign as Assign
+pub use Rattle.go_mset_core.specs.table_core.Entries as Entries
+pub use Rattle.go_mset_core.specs.table_core.Finding as Finding
+pub use Rattle.go_mset_core.specs.table_core.Shown as Shown
+pub use Rattle.go_mset_core.specs.table_core.Tables as Tables
+pub use Rattle.go_mset_core.specs.table_core.Underlying as Underlying
+pub use Rattle.go_mset_core.specs.table_core.codes as codes

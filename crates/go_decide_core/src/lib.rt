@@ -25,7 +25,7 @@ pub mod mset_core {
 
 /// What the crates above name of `go_operand_core`.
 pub mod operand_core {
-    pub use go_denote_core::operand_core::{TypeForm, TypeLooks};
+    pub use go_denote_core::operand_core::{Operand, TypeForm, TypeLooks, ValueType};
 }
 
 /// What the crates above name of `go_select_core`.
@@ -37,12 +37,13 @@ pub mod select_core {
 
 /// What the crates above name of `go_settle_core`.
 pub mod settle_core {
-    pub use go_mset_core::settle_core::{Kind, kind_of};
+    pub use go_mset_core::settle_core::{Kind, kind_of, settle, settle_signature};
 }
 
 /// What the crates above name of `go_table_core`.
 pub mod table_core {
-    pub use go_table_core::{
-        TypeTable, identical_under, identical_under_but_for_tags, is_named_type,
+    pub use go_mset_core::table_core::{
+        DeclaredMethod, DefinedType, PackageTypes, TypeTable, identical_under,
+        identical_under_but_for_tags, is_named_type,
     };
 }

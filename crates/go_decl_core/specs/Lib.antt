@@ -9,3 +9,4 @@ pub mod Shown
 pub mod Table
 pub mod TopDecls
 pub mod mirrors
+pub mod tree_core

@@ -24,3 +24,8 @@ pub use laws::{
 pub use places::{DeclKind, Place, Places};
 pub use tops::{DeclForm, Outline, TopDecl, kind_of_value};
 pub use type_places::last_ident;
+
+/// What the crates above name of `go_tree_core`.
+pub mod tree_core {
+    pub use go_tree_core::Role;
+}

@@ -14,7 +14,7 @@ use Rattle.go_denote_core.specs.declared.things.Dot.TheVariants as dots
 use Rattle.go_denote_core.specs.declared.things.Argument.{Argument}
 use Rattle.go_denote_core.specs.declared.things.Argument.TheVariants as arguments
 use Rattle.go_text_core.specs.declared.rule.Rule.{Rule}
-use Rattle.go_constant_core.specs.declared.values.Constant.{Constant}
+use Rattle.go_operand_core.specs.constant_core.declared.values.Constant.{Constant}
 use Rattle.go_term_core.specs.declared.term.Basic.{Basic}
 use Rattle.go_term_core.specs.declared.term.Basic.TheVariants as basics
 use Rattle.go_operand_core.specs.declared.types.ValueType.{ValueType}

@@ -7,4 +7,5 @@ pub mod Contexts
 pub mod Rules
 pub mod Laws
 pub mod mirrors
+pub mod constant_core
 pub mod operand_core

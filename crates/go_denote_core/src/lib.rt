@@ -29,7 +29,15 @@ pub use things::{
     Answer, Argument, Builtin, Denoted, Dot, Exported, Found, Outcome, Selection, Stand,
 };
 
+/// What the crates above name of `go_constant_core`.
+pub mod constant_core {
+    pub use go_operand_core::constant_core::{Constant, ConstantText, natural};
+}
+
 /// What the crates above name of `go_operand_core`.
 pub mod operand_core {
-    pub use go_operand_core::{Operand, TypeForm, TypeLooks, ValueType, assignable_to};
+    pub use go_operand_core::{
+        Operand, TypeForm, TypeLooks, ValueType, assignable_to, basic_under, binary, default_type,
+        form_basic, increment, is_condition, refused_binary, refused_unary, unary, update,
+    };
 }

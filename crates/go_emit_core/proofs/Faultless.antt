@@ -4,17 +4,17 @@ use Rattle.std.proofs.lemmas.Bool.{and_parts, and_from}
 use Rattle.std.proofs.lemmas.List.Elements.{All-nil, All-cons}
 use Rattle.go_tree_nodes.specs.Trees.{FileTree}
 use Rattle.go_needs_core.proofs.Edges.{none_inside}
-use Rattle.go_denote_core.specs.declared.things.Outcome.{Outcome}
-use Rattle.go_denote_core.specs.declared.things.Outcome.TheVariants as outcomes
-use Rattle.go_handle_core.specs.Declarations.{Declaration}
+use Rattle.go_meaning_core.specs.denote_core.declared.things.Outcome.{Outcome}
+use Rattle.go_meaning_core.specs.denote_core.declared.things.Outcome.TheVariants as outcomes
+use Rattle.go_meaning_core.specs.handle_core.Declarations.{Declaration}
 use Rattle.go_local_core.specs.declared.Fault.{Fault}
-use Rattle.go_summary_core.specs.Summaries.{SummaryModel}
-use Rattle.go_graph_core.specs.Lists.{AllNumbered}
-use Rattle.go_block_core.specs.Blocks.{BlocksModel}
+use Rattle.go_meaning_core.specs.summary_core.Summaries.{SummaryModel}
+use Rattle.go_meaning_core.specs.graph_core.Lists.{AllNumbered}
+use Rattle.go_meaning_core.specs.block_core.Blocks.{BlocksModel}
 use Rattle.go_meaning_core.specs.body_core.Notes.{TheUse}
 use Rattle.go_meaning_core.specs.package_core.Checked.{AnswersOf}
 use Rattle.go_meaning_core.specs.ready_core.Packages.{trees_in}
-use Rattle.go_report_core.specs.Faults.{IsSaid}
+use Rattle.go_meaning_core.specs.report_core.Faults.{IsSaid}
 use Rattle.go_meaning_core.specs.used_core.Used.{is_declared}
 use Rattle.go_meaning_core.specs.part_core.Inputs.{InputModel}
 use Rattle.go_meaning_core.specs.part_core.Parts.{ContentOf, FileOf, IsFileMadeIn, IsPart}

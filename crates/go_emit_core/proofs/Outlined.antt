@@ -1,9 +1,9 @@
 -- What is made of a package by the outlines of its files is what its trees give.
 use Rattle.std.proofs.Common.{◌≡◌, ℕ, suc, List, [], ◌∷◌, ◌++◌, map, refl, ap, ◌∙◌}
-use Rattle.go_graph_core.specs.Packages.{Trees, tree_shown, trees_of}
+use Rattle.go_meaning_core.specs.graph_core.Packages.{Trees, tree_shown, trees_of}
 use Rattle.go_decl_core.specs.TopDecls.{top_decls}
-use Rattle.go_entry_core.specs.Outlines.{FileOutline, outline_of}
-use Rattle.go_handle_core.specs.Declarations.{Declaration}
+use Rattle.go_meaning_core.specs.entry_core.Outlines.{FileOutline, outline_of}
+use Rattle.go_meaning_core.specs.handle_core.Declarations.{Declaration}
 use Rattle.go_object_core.specs.Objects.{ObjectOf}
 use Rattle.go_meaning_core.specs.ready_core.Packages.{trees_in}
 use Rattle.go_meaning_core.specs.part_core.Inputs.{InputModel, path_in}

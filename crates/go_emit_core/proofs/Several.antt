@@ -1,7 +1,7 @@
 -- The objects of parts are those of the parts of which nothing is reported.
 use Rattle.std.proofs.Common.{◌≡◌, ℕ, Bool, true, false, cond, if◌then◌else◌, List, [], ◌∷◌, ◌++◌, map, filter, Option, Some, None, refl, sym, ap, ap₂}
-use Rattle.go_handle_core.specs.Declarations.{Declaration}
-use Rattle.go_summary_core.specs.Summaries.{SummaryModel}
+use Rattle.go_meaning_core.specs.handle_core.Declarations.{Declaration}
+use Rattle.go_meaning_core.specs.summary_core.Summaries.{SummaryModel}
 use Rattle.go_object_core.specs.Objects.{ObjectOf}
 use Rattle.go_meaning_core.specs.part_core.Inputs.{path_in}
 use Rattle.go_meaning_core.specs.part_core.Parts.{PartModel}

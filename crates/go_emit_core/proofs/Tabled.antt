@@ -1,9 +1,9 @@
 -- By the tables of what packages tell a package has the object, and parts have the objects, that they have over what these packages tell.
 use Rattle.std.proofs.Common.{◌≡◌, Bool, true, if◌then◌else◌, List, Some, None, sym, ap, ◌∙◌}
 use Rattle.std.specs.List.{flat_map}
-use Rattle.go_handle_core.specs.Declarations.{Declaration}
-use Rattle.go_summary_core.specs.Summaries.{SummaryModel}
-use Rattle.go_summary_core.specs.Views.{faces_told, types_told}
+use Rattle.go_meaning_core.specs.handle_core.Declarations.{Declaration}
+use Rattle.go_meaning_core.specs.summary_core.Summaries.{SummaryModel}
+use Rattle.go_meaning_core.specs.summary_core.Views.{faces_told, types_told}
 use Rattle.go_object_core.specs.Objects.{ObjectOf}
 use Rattle.go_meaning_core.specs.ready_core.Packages.{trees_in}
 use Rattle.go_meaning_core.specs.part_core.Inputs.{InputModel, path_in}

@@ -2,11 +2,11 @@
 use Rattle.std.specs.Prelude.{◌≡◌, ◌↔◌, ◌<◌, ◌&&◌, ℕ, Bool, true, nat_le, nat_lt, List, [], ◌∷◌, Option, Some, None, is_some, slice_get, All, AllPairs, Contains, filter, map}
 use Rattle.go_tree_nodes.specs.Trees.{FileTree, FuncTree}
 use Rattle.go_tree_nodes.specs.Rules.{Wf_file}
-use Rattle.go_denote_core.specs.declared.things.Outcome.{Outcome}
-use Rattle.go_denote_core.specs.declared.things.Outcome.TheVariants as outcomes
-use Rattle.go_handle_core.specs.Declarations.{Declaration}
-use Rattle.go_block_core.specs.declared.imports.Imported.{Imported}
-use Rattle.go_summary_core.specs.Summaries.{SummaryModel}
+use Rattle.go_meaning_core.specs.denote_core.declared.things.Outcome.{Outcome}
+use Rattle.go_meaning_core.specs.denote_core.declared.things.Outcome.TheVariants as outcomes
+use Rattle.go_meaning_core.specs.handle_core.Declarations.{Declaration}
+use Rattle.go_meaning_core.specs.block_core.declared.imports.Imported.{Imported}
+use Rattle.go_meaning_core.specs.summary_core.Summaries.{SummaryModel}
 use Rattle.go_meaning_core.specs.body_core.Notes.{TheUse}
 use Rattle.go_meaning_core.specs.ready_core.Packages.{trees_in}
 use Rattle.go_meaning_core.specs.used_core.Used.{is_declared}

@@ -3,7 +3,10 @@ pub mod Emitted
 pub mod Laws
 pub mod Samples
 pub mod mirrors
+pub mod answer_core
+pub mod local_core
 pub mod meaning_core
 pub mod package_core
 pub mod ready_core
+pub mod report_core
 pub mod used_core

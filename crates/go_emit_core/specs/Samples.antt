@@ -18,12 +18,12 @@ use Rattle.go_decl_core.specs.TopDecls.{TopDeclTree, FuncForm}
 use Rattle.go_term_core.specs.declared.term.Basic.TheVariants as basics
 use Rattle.go_term_core.specs.declared.term.MemberPlace.TheVariants as places
 use Rattle.go_term_core.specs.Terms.{Term, Predeclared, Sign, SignOf, NoTerm, ATerm}
-use Rattle.go_operand_core.specs.declared.types.ValueType.TheVariants as value_types
-use Rattle.go_denote_core.specs.declared.things.Outcome.TheVariants as outcomes
-use Rattle.go_handle_core.specs.Declarations.{Declaration, Universe, InFile}
-use Rattle.go_face_core.specs.declared.face.Face.TheVariants as faces
-use Rattle.go_face_core.specs.Faces.{TheFace}
-use Rattle.go_face_core.specs.Packages.{PackageFacesModel}
+use Rattle.go_meaning_core.specs.operand_core.declared.types.ValueType.TheVariants as value_types
+use Rattle.go_meaning_core.specs.denote_core.declared.things.Outcome.TheVariants as outcomes
+use Rattle.go_meaning_core.specs.handle_core.Declarations.{Declaration, Universe, InFile}
+use Rattle.go_meaning_core.specs.face_core.declared.face.Face.TheVariants as faces
+use Rattle.go_meaning_core.specs.face_core.Faces.{TheFace}
+use Rattle.go_meaning_core.specs.face_core.Packages.{PackageFacesModel}
 use Rattle.go_meaning_core.specs.body_core.Notes.{TheUse, TheLocal}
 use Rattle.go_instruction_core.specs.declared.instruction.Instruction.TheVariants as instructions
 use Rattle.go_code_core.specs.Samples.{argument, ident_at, int_written, line, name, paren, returns, two_params}

@@ -1,10 +1,10 @@
 //! The packages that imports come to.
 ghost use Rattle.std.specs.Prelude.{◌≡◌, ◌++◌, IfOk, OnOk, map};
 ghost use Rattle.std.specs.List.{flat_map};
-ghost use Rattle.go_block_core.specs.Naming.{imported_in};
+ghost use Rattle.go_meaning_core.specs.block_core.Naming.{imported_in};
 ghost use Rattle.go_emit_core.specs.Imports.{all_passing, imported_paths};
 
-use go_block_core::Imported;
+use go_meaning_core::block_core::Imported;
 use go_path_core::ImportPath;
 use go_text_core::add;
 use std::alloc::{AllocError, Global};

@@ -22,7 +22,17 @@ pub mod answer_core {
     pub use go_meaning_core::answer_core::{Answer, Site};
 }
 
+/// What the crates above name of `go_local_core`.
+pub mod local_core {
+    pub use go_local_core::Fault;
+}
+
 /// What the crates above name of `go_package_core`.
 pub mod package_core {
     pub use go_meaning_core::package_core::FileAnswers;
+}
+
+/// What the crates above name of `go_tree_core`.
+pub mod tree_core {
+    pub use go_tree_core::OccId;
 }

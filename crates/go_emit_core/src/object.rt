@@ -2,9 +2,9 @@
 ghost use Rattle.std.specs.Prelude.{◌≡◌, ◌++◌, [], IfOk, OnOk, map};
 ghost use Rattle.std.specs.List.{flat_map};
 ghost use Rattle.std.specs.Option.{option_map};
-ghost use Rattle.go_entry_core.specs.Outlines.{outline_of, outline_shown};
-ghost use Rattle.go_summary_core.specs.Views.{PathsAreApart, faces_told, types_told};
-ghost use Rattle.go_graph_core.specs.Packages.{trees_of};
+ghost use Rattle.go_meaning_core.specs.entry_core.Outlines.{outline_of, outline_shown};
+ghost use Rattle.go_meaning_core.specs.summary_core.Views.{PathsAreApart, faces_told, types_told};
+ghost use Rattle.go_meaning_core.specs.graph_core.Packages.{trees_of};
 ghost use Rattle.go_object_core.specs.Objects.{function_shown, object_shown};
 ghost use Rattle.go_meaning_core.specs.part_core.Parts.{file_shown};
 ghost use Rattle.go_emit_core.specs.Emitted.{AreOfDifferentPackages, are_clean, code_scene_over, object_of, objects_of, told_by, told_to, whole_object};
@@ -17,12 +17,12 @@ use crate::functions::add_file;
 use crate::imports::passing_of;
 use crate::tables::tables_of;
 use go_decl_core::Outline;
-use go_entry_core::outlines;
 use go_meaning_core::answer_core::Site;
+use go_meaning_core::entry_core::outlines;
 use go_meaning_core::part_core::{Part, PartFile};
+use go_meaning_core::summary_core::{Summary, View, view_of};
 use go_meaning_core::{PackageNames, Tables, names_of, shorter};
 use go_object_core::{FunctionCode, Object};
-use go_summary_core::{Summary, View, view_of};
 use go_text_core::add;
 use std::alloc::{AllocError, Global};
 

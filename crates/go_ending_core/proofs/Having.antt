@@ -7,7 +7,7 @@ use Rattle.go_local_core.specs.declared.Fault.{Fault}
 use Rattle.go_local_core.specs.Law.{Out}
 use Rattle.go_walk_core.specs.Ends.{are_terminating, lines_loop_faults}
 use Rattle.go_body_core.specs.Ends.{returns_some, panics_at, calls_one, end_faults}
-use Rattle.go_env_core.specs.declared.meaning.Meaning.{Meaning}
+use Rattle.go_body_core.specs.env_core.declared.meaning.Meaning.{Meaning}
 use Rattle.go_body_core.specs.Notes.{TheUse, NoteOf, all_uses, noted_faults}
 use Rattle.go_ending_core.specs.Functions.{LacksReturn, lack_at, IsFaultOf, OfAPiece, OfAName, OfAJump, OfItsEnd}
 use Rattle.go_ending_core.specs.FunctionLaws.{FunctionsHaveTheirFaults}

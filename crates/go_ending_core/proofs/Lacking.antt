@@ -7,7 +7,7 @@ use Rattle.go_universe_core.specs.declared.Predeclared.{Predeclared}
 use Rattle.go_universe_core.specs.declared.Predeclared.TheVariants as predeclared
 use Rattle.go_tree_nodes.specs.Trees as tree
 use Rattle.go_tree_nodes.specs.Trees.{SignatureTree, ResultTree, Signed, NoResult, OneResult, Results, ParamTrees, NoParams, Param, ExprTree, Integer, Named, Paren, Unary, Binary, Select, Call, Literal, StructLiteral, StmtTree, Lines, FuncTree}
-use Rattle.go_handle_core.specs.Declarations.{Declaration, Universe, OfError, Package, InFile}
+use Rattle.go_body_core.specs.handle_core.Declarations.{Declaration, Universe, OfError, Package, InFile}
 use Rattle.go_denote_core.specs.declared.things.Outcome.{Outcome}
 use Rattle.go_denote_core.specs.declared.things.Outcome.TheVariants as outcomes
 use Rattle.go_walk_core.specs.Ends.{are_terminating}

@@ -7,7 +7,7 @@ use Rattle.go_local_core.specs.Law.{Out}
 use Rattle.go_local_core.specs.declared.Fault.{Fault}
 use Rattle.go_body_core.specs.Body.{body_of}
 use Rattle.go_body_core.specs.Ends.{panics_at, calls_one, end_faults}
-use Rattle.go_env_core.specs.declared.meaning.Meaning.{Meaning}
+use Rattle.go_body_core.specs.env_core.declared.meaning.Meaning.{Meaning}
 use Rattle.go_body_core.specs.Notes.{TheUse, NoteOf}
 use Rattle.go_ending_core.specs.Functions.{IsPanicCall, LacksReturn, lack_at, IsFaultOf}
 

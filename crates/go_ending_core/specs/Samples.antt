@@ -11,7 +11,7 @@ use Rattle.go_term_core.specs.declared.term.MemberPlace.TheVariants as places
 use Rattle.go_tree_core.specs.declared.occurrence.Role.TheVariants as roles
 use Rattle.go_denote_core.specs.declared.things.Outcome.{Outcome}
 use Rattle.go_denote_core.specs.declared.things.Outcome.TheVariants as outcomes
-use Rattle.go_handle_core.specs.Declarations.{Declaration, Universe, InFile}
+use Rattle.go_body_core.specs.handle_core.Declarations.{Declaration, Universe, InFile}
 use Rattle.go_body_core.specs.Ends.{end_faults}
 use Rattle.go_body_core.specs.Notes.{TheUse}
 use Rattle.go_ending_core.specs.Standing.{stray_at}

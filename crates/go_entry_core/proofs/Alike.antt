@@ -5,12 +5,12 @@ use Rattle.std.specs.List.{flat_map, enumerate_from}
 use Rattle.go_tree_nodes.specs.declared.files.Receiver.{Receiver}
 use Rattle.go_tree_nodes.specs.declared.types.TypeName.{TypeName}
 use Rattle.go_tree_nodes.specs.Trees.{TypeTree, NamedType, Pointer, ParenType, Struct, Interface, FieldTrees, NoFields, NamedFields, EmbeddedField, MethodTrees, NoMethods, Method, SignatureTree, Signed, ResultTree, NoResult, OneResult, Results, ParamTrees, NoParams, Param, FuncTree}
-use Rattle.go_decl_core.specs.declared.places.DeclKind.TheVariants as kinds
-use Rattle.go_decl_core.specs.TopDecls.{TopDeclTree, FormTree, ValueForm, TypeForm, FuncForm}
+use Rattle.go_term_core.specs.decl_core.declared.places.DeclKind.TheVariants as kinds
+use Rattle.go_term_core.specs.decl_core.TopDecls.{TopDeclTree, FormTree, ValueForm, TypeForm, FuncForm}
 use Rattle.go_term_core.specs.Terms.{PointerTo, StructOf, InterfaceOf, AField, AMethod, SignOf, NoTerm, ATerm}
 use Rattle.go_table_core.specs.Entries.{Entry}
 use Rattle.go_written_core.specs.Written.{InFile, Meaning, member_place, term_starred, tag_of, named_fields, for_names, term_of, fields_of_tree, methods_of_tree, signature_of, results_of_tree, params_of_tree}
-use Rattle.go_decl_core.specs.Outer.{last_ident}
+use Rattle.go_term_core.specs.decl_core.Outer.{last_ident}
 use Rattle.go_entry_core.specs.Entries.{Received, Meanings, type_key, method_place, methods_received, func_methods, decl_methods, entry_of, file_at, file_methods, file_entries, package_methods}
 use Rattle.go_entry_core.specs.Laws.{EntriesAreLocal}
 use Rattle.go_entry_core.specs.Meanings.{file_meaning}

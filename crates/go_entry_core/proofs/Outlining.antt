@@ -4,10 +4,10 @@ use Rattle.std.proofs.lemmas.List.{map-append, take_more}
 use Rattle.std.proofs.lemmas.List.Elements.{All-map, All-same}
 use Rattle.go_tree_nodes.specs.Trees.{FileTree}
 use Rattle.go_scope_core.specs.parse_core.declared.error.SynFault.{SynFault}
-use Rattle.go_decl_core.specs.declared.tops.Outline.{Outline}
-use Rattle.go_decl_core.specs.Outer.{places_of}
-use Rattle.go_decl_core.specs.Shown.{decl_shown}
-use Rattle.go_decl_core.specs.TopDecls.{top_decls}
+use Rattle.go_term_core.specs.decl_core.declared.tops.Outline.{Outline}
+use Rattle.go_term_core.specs.decl_core.Outer.{places_of}
+use Rattle.go_term_core.specs.decl_core.Shown.{decl_shown}
+use Rattle.go_term_core.specs.decl_core.TopDecls.{top_decls}
 use Rattle.go_scope_core.specs.graph_core.Packages.{Trees, trees_of}
 use Rattle.go_scope_core.specs.graph_core.Sources.{SourceModel, source}
 use Rattle.go_scope_core.specs.graph_core.Assemblies.{one_more}

@@ -7,3 +7,9 @@ pub mod Sample
 pub mod Scoped
 pub mod Showing
 pub mod mirrors
+pub mod block_core
+pub mod block_core_lemmas
+pub mod graph_core
+pub mod open_core
+pub mod parse_core
+pub mod written_core

@@ -5,10 +5,10 @@ use Rattle.go_tree_nodes.specs.declared.types.TypeName.TheVariants as type_names
 use Rattle.go_universe_core.specs.declared.Predeclared.{Predeclared as PredeclaredName}
 use Rattle.go_universe_core.specs.declared.Predeclared.TheVariants as universe
 use Rattle.go_universe_core.specs.Universe.{found}
-use Rattle.go_decl_core.specs.declared.places.DeclKind.{DeclKind}
-use Rattle.go_decl_core.specs.declared.places.DeclKind.TheVariants as kinds
-use Rattle.go_decl_core.specs.declared.keys.DeclKey.{DeclKey}
-use Rattle.go_decl_core.specs.declared.keys.DeclRef.{DeclRef}
+use Rattle.go_term_core.specs.decl_core.declared.places.DeclKind.{DeclKind}
+use Rattle.go_term_core.specs.decl_core.declared.places.DeclKind.TheVariants as kinds
+use Rattle.go_term_core.specs.decl_core.declared.keys.DeclKey.{DeclKey}
+use Rattle.go_term_core.specs.decl_core.declared.keys.DeclRef.{DeclRef}
 use Rattle.go_scope_core.specs.block_core.declared.binding.Binding.{Binding}
 use Rattle.go_scope_core.specs.block_core.declared.binding.Target.{Target}
 use Rattle.go_scope_core.specs.block_core.declared.binding.Target.TheVariants as targets

@@ -4,7 +4,7 @@ use Rattle.std.specs.List.{flat_map}
 use Rattle.go_tree_nodes.specs.declared.files.Receiver.{Receiver}
 use Rattle.go_tree_nodes.specs.declared.types.TypeName.{TypeName}
 use Rattle.go_tree_nodes.specs.Trees.{FuncTree}
-use Rattle.go_decl_core.specs.TopDecls.{FormTree, ValueForm, TypeForm, FuncForm}
+use Rattle.go_term_core.specs.decl_core.TopDecls.{FormTree, ValueForm, TypeForm, FuncForm}
 use Rattle.go_entry_core.specs.Outlines.{FileOutline}
 use Rattle.go_tree_nodes.specs.TypeNames.{type_names_in, signature_names_in}
 

@@ -18,7 +18,7 @@ use std::alloc::{AllocError, Global};
 /// What packages show to those that import them.
 pub trait ImportedNames {
     ghost use Rattle.std.specs.Prelude.{List, ℕ, Option, ◌≡◌};
-    ghost use Rattle.go_decl_core.specs.declared.keys.DeclRef.{DeclRef as TheRef};
+    ghost use Rattle.go_term_core.specs.decl_core.declared.keys.DeclRef.{DeclRef as TheRef};
 
     ghost shows: { Self → List ℕ → List ℕ → Option TheRef };
 

@@ -3,8 +3,8 @@ ghost use Rattle.std.specs.Prelude.{◌≡◌, All, IfOk, OnOk, map, ◌++◌};
 ghost use Rattle.go_scope_core.specs.graph_core.Packages.{trees_of};
 ghost use Rattle.go_entry_core.specs.Outlines.{IsOutline, outline_of, outline_shown};
 
-use go_decl_core::{Outline, outline};
 use go_scope_core::graph_core::SourceFile;
+use go_term_core::decl_core::{Outline, outline};
 use go_text_core::add;
 use std::alloc::{AllocError, Global};
 

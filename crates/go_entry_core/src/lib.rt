@@ -21,5 +21,18 @@ pub use shown_packages::ShownPackages;
 
 /// What the crates above name of `go_block_core`.
 pub mod block_core {
-    pub use go_scope_core::block_core::Blocks;
+    pub use go_scope_core::block_core::{
+        Binding, BlockFault, Blocks, DeclRef, Exports, Imported, NamedDecl, Target, blocks,
+        import_names,
+    };
+}
+
+/// What the crates above name of `go_graph_core`.
+pub mod graph_core {
+    pub use go_scope_core::graph_core::{Package, SourceFile};
+}
+
+/// What the crates above name of `go_written_core`.
+pub mod written_core {
+    pub use go_written_core::{TypeNames, WrittenIn, write_signature, write_type};
 }

@@ -1,7 +1,7 @@
 //! The methods that belong to types.
 ghost use Rattle.std.specs.Prelude.{◌≡◌, ◌≤◌, ◌∷◌, [], false, length, IfOk, OnOk, map, true};
 ghost use Rattle.std.specs.List.Sorted.{IsPartitionPoint};
-ghost use Rattle.go_decl_core.specs.Shown.{decl_shown};
+ghost use Rattle.go_term_core.specs.decl_core.Shown.{decl_shown};
 ghost use Rattle.go_term_core.specs.Shapes.{shape};
 ghost use Rattle.go_term_core.specs.Terms.{Defined};
 ghost use Rattle.go_tree_nodes.specs.Shapes.{func_of};
@@ -10,10 +10,10 @@ ghost use Rattle.go_table_core.specs.Tables.{KeysRise};
 ghost use Rattle.go_written_core.specs.Written.{in_file};
 ghost use Rattle.go_entry_core.specs.Entries.{decl_methods, file_methods, method_of, received_of};
 ghost use Rattle.go_entry_core.specs.mirrors.Gaining.{all_gaining, IsMeantAt};
-ghost use Rattle.go_decl_core.specs.Order.{is_ref_before};
+ghost use Rattle.go_term_core.specs.decl_core.Order.{is_ref_before};
 
-use go_decl_core::{DeclForm, DeclKey, DeclKind, DeclRef, TopDecl};
 use go_table_core::{DeclaredMethod, TypeEntry};
+use go_term_core::decl_core::{DeclForm, DeclKey, DeclKind, DeclRef, TopDecl};
 use go_term_core::{MemberPlace, TypeTerm};
 use go_text_core::add;
 use go_tree_nodes::{FuncDecl, Receiver, TypeName};

@@ -9,13 +9,13 @@ ghost use Rattle.go_env_core.specs.Found.{exported_face, exported_shown, face_at
 use crate::copies::face_again;
 use crate::meaning::Meaning;
 use crate::scene::Scene;
-use go_block_core::{Binding, DeclRef, Target};
-use go_constant_core::Constant;
-use go_denote_core::{Builtin, Exported, Found};
+use go_expr_core::constant_core::Constant;
+use go_expr_core::denote_core::{Builtin, Exported, Found};
+use go_expr_core::operand_core::{Operand, ValueType};
 use go_face_core::handle_core::{Decl, DeclSite, Home, SignatureRef, TypeRef};
 use go_face_core::{Face, FaceTable, ShownFace};
+use go_inline_core::block_core::{Binding, DeclRef, Target};
 use go_inline_core::names_core::Outside;
-use go_operand_core::{Operand, ValueType};
 use go_path_core::ImportPath;
 use go_term_core::{LocalPlace, MemberPlace};
 use go_universe_core::Predeclared;

@@ -7,19 +7,19 @@ use crate::fields::{field_at, field_count, field_names, seen_fields};
 use crate::found::{found_exported, found_of};
 use crate::meaning::Meaning;
 use crate::scene::Scene;
-use go_denote_core::{Exported, Found, Names, Selection};
 use go_expr_core::Exprs;
+use go_expr_core::denote_core::{Exported, Found, Names, Selection};
+use go_expr_core::literal_core::{LiteralField, Literals};
+use go_expr_core::local_core::Fault;
+use go_expr_core::operand_core::{TypeForm, TypeLooks};
 use go_face_core::Face;
 use go_face_core::handle_core::{
     Decl, SignatureRef, TypeRef, is_assignable, is_convertible, is_identical, selection, typed,
 };
 use go_face_core::select_core::EmbedPath;
 use go_inline_core::names_core::OpenNames;
+use go_inline_core::table_core::TypeTable;
 use go_inline_core::{InlineType, InlineTypes};
-use go_literal_core::{LiteralField, Literals};
-use go_local_core::Fault;
-use go_operand_core::{TypeForm, TypeLooks};
-use go_table_core::TypeTable;
 use go_tree_nodes::{TypeExpr, type_start};
 use std::alloc::{AllocError, Global};
 

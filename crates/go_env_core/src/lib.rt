@@ -21,24 +21,41 @@ pub use laws::{
 pub use meaning::{Meaning, outer_names};
 pub use scene::Scene;
 
+/// What the crates above name of `go_block_core`.
+pub mod block_core {
+    pub use go_inline_core::block_core::{DeclRef, Imported, import_specs};
+}
+
+/// What the crates above name of `go_entry_core`.
+pub mod entry_core {
+    pub use go_inline_core::entry_core::{ImportedNames, outlines};
+}
+
 /// What the crates above name of `go_face_core`.
 pub mod face_core {
-    pub use go_face_core::Face;
+    pub use go_face_core::{Face, FaceTable, WrittenFaces, written_faces};
 }
 
 /// What the crates above name of `go_handle_core`.
 pub mod handle_core {
-    pub use go_face_core::handle_core::{SignatureRef, TypeRef};
+    pub use go_face_core::handle_core::{Decl, DeclSite, Home, SignatureRef, TypeRef};
 }
 
 /// What the crates above name of `go_inline_core`.
 pub mod inline_core {
-    pub use go_inline_core::InlineTypes;
+    pub use go_inline_core::{Ground, InlineTypes, function_types, initialiser_types};
+}
+
+/// What the crates above name of `go_names_core`.
+pub mod names_core {
+    pub use go_inline_core::names_core::{
+        Checker, Meant, OpenNames, check_function, header_idents, listed_idents,
+    };
 }
 
 /// What the crates above name of `go_scope_core`.
 pub mod scope_core {
-    pub use go_scope_core::Scopes;
+    pub use go_inline_core::scope_core::{InScope, Scopes};
 }
 
 /// What the crates above name of `go_select_core`.

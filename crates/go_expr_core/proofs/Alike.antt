@@ -13,27 +13,27 @@ use Rattle.go_tree_nodes.specs.declared.usage.Usage.TheVariants as usages
 use Rattle.go_tree_nodes.specs.Trees.{TypeTree, FieldTrees, MethodTrees, SignatureTree, ResultTree, ParamTrees, NamedType, Pointer, ParenType, Struct, Interface, NoFields, NamedFields, EmbeddedField, NoMethods, Method, Signed, NoResult, OneResult, Results, NoParams, Param, ExprTree, ItemTrees, Integer, Text, Named, Paren, Unary, Binary, Select, Call, Literal, StructLiteral, NoItems, Item}
 use Rattle.go_tree_nodes.specs.WrittenTypes.{expr_types, items_types}
 use Rattle.go_tree_nodes.specs.Counts.{item_count}
-use Rattle.go_tree_core.specs.declared.occurrence.Role.TheVariants as roles
-use Rattle.go_operand_core.specs.declared.types.ValueType.{ValueType}
-use Rattle.go_operand_core.specs.TypeRules.{TypeRules}
-use Rattle.go_operand_core.specs.Values.{default_type}
-use Rattle.go_denote_core.specs.declared.things.Stand.{Stand}
-use Rattle.go_denote_core.specs.declared.things.Stand.TheVariants as stands
-use Rattle.go_denote_core.specs.declared.things.Builtin.TheVariants as builtins
-use Rattle.go_denote_core.specs.declared.things.Dot.{Dot}
-use Rattle.go_denote_core.specs.declared.things.Dot.TheVariants as dots
-use Rattle.go_denote_core.specs.declared.things.Found.{Found}
-use Rattle.go_denote_core.specs.declared.things.Argument.{Argument}
-use Rattle.go_denote_core.specs.declared.things.Argument.TheVariants as arguments
-use Rattle.go_denote_core.specs.declared.things.Denoted as declared_denoted
-use Rattle.go_denote_core.specs.declared.things.Denoted.TheVariants as denotes
-use Rattle.go_denote_core.specs.declared.things.Answer.{Answer}
-use Rattle.go_denote_core.specs.Answers.{refused, found_answer}
-use Rattle.go_denote_core.specs.Selectors.{dot_of, selector_answer}
-use Rattle.go_denote_core.specs.Arguments.{arguments_of, is_free, single_rule}
-use Rattle.go_denote_core.specs.Calls.{call_answer}
-use Rattle.go_denote_core.specs.Laws.{ValueAlike, GivenAlike, EachAlike, ArgumentAlike, ArgumentsAlike, CallsAlike}
-use Rattle.go_denote_core.proofs.Locality.{calls_local}
+use Rattle.go_term_core.specs.tree_core.declared.occurrence.Role.TheVariants as roles
+use Rattle.go_literal_core.specs.operand_core.declared.types.ValueType.{ValueType}
+use Rattle.go_literal_core.specs.operand_core.TypeRules.{TypeRules}
+use Rattle.go_literal_core.specs.operand_core.Values.{default_type}
+use Rattle.go_literal_core.specs.denote_core.declared.things.Stand.{Stand}
+use Rattle.go_literal_core.specs.denote_core.declared.things.Stand.TheVariants as stands
+use Rattle.go_literal_core.specs.denote_core.declared.things.Builtin.TheVariants as builtins
+use Rattle.go_literal_core.specs.denote_core.declared.things.Dot.{Dot}
+use Rattle.go_literal_core.specs.denote_core.declared.things.Dot.TheVariants as dots
+use Rattle.go_literal_core.specs.denote_core.declared.things.Found.{Found}
+use Rattle.go_literal_core.specs.denote_core.declared.things.Argument.{Argument}
+use Rattle.go_literal_core.specs.denote_core.declared.things.Argument.TheVariants as arguments
+use Rattle.go_literal_core.specs.denote_core.declared.things.Denoted as declared_denoted
+use Rattle.go_literal_core.specs.denote_core.declared.things.Denoted.TheVariants as denotes
+use Rattle.go_literal_core.specs.denote_core.declared.things.Answer.{Answer}
+use Rattle.go_literal_core.specs.denote_core.Answers.{refused, found_answer}
+use Rattle.go_literal_core.specs.denote_core.Selectors.{dot_of, selector_answer}
+use Rattle.go_literal_core.specs.denote_core.Arguments.{arguments_of, is_free, single_rule}
+use Rattle.go_literal_core.specs.denote_core.Calls.{call_answer}
+use Rattle.go_literal_core.specs.denote_core.Laws.{ValueAlike, GivenAlike, EachAlike, ArgumentAlike, ArgumentsAlike, CallsAlike}
+use Rattle.go_literal_core.specs.denote_core.Locality.{calls_local}
 use Rattle.go_literal_core.specs.declared.things.KeyAnswer.{KeyAnswer}
 use Rattle.go_literal_core.specs.declared.things.Keys.{Keys}
 use Rattle.go_literal_core.specs.declared.things.Mode.{Mode}

@@ -7,7 +7,7 @@ use Rattle.go_text_core.specs.declared.rule.Rule.TheVariants.{Y4}
 use Rattle.go_tree_nodes.specs.declared.exprs.Key.{Key}
 use Rattle.go_tree_nodes.specs.Trees.{ItemTrees, NoItems, Item}
 use Rattle.go_tree_nodes.specs.Counts.{item_count}
-use Rattle.go_denote_core.specs.declared.things.Denoted.{Denoted}
+use Rattle.go_literal_core.specs.denote_core.declared.things.Denoted.{Denoted}
 use Rattle.go_literal_core.specs.declared.things.Keys.{Keys}
 use Rattle.go_literal_core.specs.declared.things.Keys.TheVariants as keys
 use Rattle.go_literal_core.specs.declared.things.Mode.{Mode}

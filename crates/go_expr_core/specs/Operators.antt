@@ -6,12 +6,12 @@ use Rattle.std.specs.Prelude.{Bool, true, false, if◌then◌else◌, Option, So
 use Rattle.go_text_core.specs.declared.rule.Rule.{Rule}
 use Rattle.go_token_core.specs.declared.kind.Operator.{Operator}
 use Rattle.go_token_core.specs.declared.kind.Operator.TheVariants as operators
-use Rattle.go_operand_core.specs.declared.types.Operand.{Operand}
-use Rattle.go_operand_core.specs.TypeRules.{TypeRules}
-use Rattle.go_operand_core.specs.Operators.{binary_operand, refused_binary}
-use Rattle.go_operand_core.specs.Prefixes.{unary_operand, refused_unary}
-use Rattle.go_denote_core.specs.declared.things.Denoted.{Denoted}
-use Rattle.go_denote_core.specs.declared.things.Denoted.TheVariants as denotes
+use Rattle.go_literal_core.specs.operand_core.declared.types.Operand.{Operand}
+use Rattle.go_literal_core.specs.operand_core.TypeRules.{TypeRules}
+use Rattle.go_literal_core.specs.operand_core.Operators.{binary_operand, refused_binary}
+use Rattle.go_literal_core.specs.operand_core.Prefixes.{unary_operand, refused_unary}
+use Rattle.go_literal_core.specs.denote_core.declared.things.Denoted.{Denoted}
+use Rattle.go_literal_core.specs.denote_core.declared.things.Denoted.TheVariants as denotes
 use Rattle.go_expr_core.specs.declared.things.Judged.{Judged}
 
 abbrev pub of_operand : {T S D : Type 0} → Result (Operand T) Rule → Judged T S D

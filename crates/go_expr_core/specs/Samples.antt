@@ -12,20 +12,20 @@ use Rattle.go_tree_nodes.specs.declared.types.TypeName.TheVariants as type_names
 use Rattle.go_tree_nodes.specs.declared.usage.Usage.TheVariants as usages
 use Rattle.go_tree_nodes.specs.Trees.{One, NamedType, Struct, NoFields, NamedFields, ExprTree, ItemTrees, Integer, Paren, Unary, Binary, Select, Call, Literal, StructLiteral, NoItems, Item}
 use Rattle.go_tree_nodes.specs.Samples.{at, called, name_at}
-use Rattle.go_tree_core.specs.declared.occurrence.Role.{Role}
-use Rattle.go_tree_core.specs.declared.occurrence.Role.TheVariants as roles
-use Rattle.go_operand_core.specs.declared.types.TypeForm.{TypeForm}
-use Rattle.go_operand_core.specs.declared.types.TypeForm.TheVariants as forms
-use Rattle.go_operand_core.specs.declared.types.ValueType.TheVariants as value_types
-use Rattle.go_denote_core.specs.declared.things.Stand.TheVariants as stands
-use Rattle.go_denote_core.specs.declared.things.Outcome.TheVariants as outcomes
-use Rattle.go_denote_core.specs.declared.things.Denoted.TheVariants as denotes
-use Rattle.go_denote_core.specs.declared.things.Found.{Found}
-use Rattle.go_denote_core.specs.declared.things.Found.TheVariants as founds
-use Rattle.go_denote_core.specs.declared.things.Exported.{Exported}
-use Rattle.go_denote_core.specs.declared.things.Exported.TheVariants as exporteds
-use Rattle.go_denote_core.specs.declared.things.Selection.{Selection}
-use Rattle.go_denote_core.specs.declared.things.Selection.TheVariants as selections
+use Rattle.go_term_core.specs.tree_core.declared.occurrence.Role.{Role}
+use Rattle.go_term_core.specs.tree_core.declared.occurrence.Role.TheVariants as roles
+use Rattle.go_literal_core.specs.operand_core.declared.types.TypeForm.{TypeForm}
+use Rattle.go_literal_core.specs.operand_core.declared.types.TypeForm.TheVariants as forms
+use Rattle.go_literal_core.specs.operand_core.declared.types.ValueType.TheVariants as value_types
+use Rattle.go_literal_core.specs.denote_core.declared.things.Stand.TheVariants as stands
+use Rattle.go_literal_core.specs.denote_core.declared.things.Outcome.TheVariants as outcomes
+use Rattle.go_literal_core.specs.denote_core.declared.things.Denoted.TheVariants as denotes
+use Rattle.go_literal_core.specs.denote_core.declared.things.Found.{Found}
+use Rattle.go_literal_core.specs.denote_core.declared.things.Found.TheVariants as founds
+use Rattle.go_literal_core.specs.denote_core.declared.things.Exported.{Exported}
+use Rattle.go_literal_core.specs.denote_core.declared.things.Exported.TheVariants as exporteds
+use Rattle.go_literal_core.specs.denote_core.declared.things.Selection.{Selection}
+use Rattle.go_literal_core.specs.denote_core.declared.things.Selection.TheVariants as selections
 use Rattle.go_literal_core.specs.Look.{FieldOf}
 use Rattle.go_expr_core.specs.declared.things.Use.{Use}
 use Rattle.go_local_core.specs.declared.Fault.{Fault}

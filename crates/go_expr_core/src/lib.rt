@@ -26,7 +26,32 @@ pub use things::{Notes, Use};
 pub use types::{check_signature, check_type};
 pub use walk::{check_called, check_expr, check_operand};
 
+/// What the crates above name of `go_constant_core`.
+pub mod constant_core {
+    pub use go_literal_core::constant_core::Constant;
+}
+
 /// What the crates above name of `go_denote_core`.
 pub mod denote_core {
-    pub use go_denote_core::Outcome;
+    pub use go_literal_core::denote_core::{Builtin, Exported, Found, Names, Outcome, Selection};
+}
+
+/// What the crates above name of `go_literal_core`.
+pub mod literal_core {
+    pub use go_literal_core::{LiteralField, Literals};
+}
+
+/// What the crates above name of `go_local_core`.
+pub mod local_core {
+    pub use go_local_core::Fault;
+}
+
+/// What the crates above name of `go_operand_core`.
+pub mod operand_core {
+    pub use go_literal_core::operand_core::{Operand, TypeForm, TypeLooks, ValueType};
+}
+
+/// What the crates above name of `go_tree_core`.
+pub mod tree_core {
+    pub use go_term_core::tree_core::Role;
 }

@@ -3,8 +3,8 @@ ghost use Rattle.std.specs.Prelude.{◌≡◌, IfOk};
 ghost use Rattle.go_expr_core.specs.Operators as operators;
 
 use crate::things::Judged;
-use go_denote_core::{Denoted, Names};
-use go_operand_core::{Operand, binary, refused_binary, refused_unary, unary};
+use go_literal_core::denote_core::{Denoted, Names};
+use go_literal_core::operand_core::{Operand, binary, refused_binary, refused_unary, unary};
 use go_text_core::Rule;
 use go_token_core::Operator;
 use std::alloc::{AllocError, Global};

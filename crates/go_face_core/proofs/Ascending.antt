@@ -3,9 +3,9 @@ use Rattle.std.proofs.Common.{◌≡◌, ℕ, ◌+◌, inl, inr, List, [], ◌�
 use Rattle.std.specs.Prelude.{⊤}
 use Rattle.std.specs.List.{flat_map, enumerate_from}
 use Rattle.std.proofs.lemmas.List.Elements.{All-head, All-tail}
-use Rattle.go_decl_core.specs.TopDecls.{TopDeclTree}
+use Rattle.go_term_core.specs.decl_core.TopDecls.{TopDeclTree}
 use Rattle.go_handle_core.specs.table_core.Entries.{Entry}
-use Rattle.go_written_core.specs.Written.{InFile, Meaning}
+use Rattle.go_entry_core.specs.written_core.Written.{InFile, Meaning}
 use Rattle.go_entry_core.specs.Entries.{Meanings, file_at}
 use Rattle.go_entry_core.specs.Outlines.{FileOutline, IsOutline}
 use Rattle.go_entry_core.proofs.Ordered.{NumbersFrom, IsFrom, outline_rises, before_next}

@@ -5,8 +5,8 @@ use Rattle.std.specs.Str.{bytes_eq}
 use Rattle.std.specs.String.{string_eq}
 use Rattle.std.specs.declared.string.String.{String}
 use Rattle.indexmap.specs.IndexMap.{IndexMap, get_by, insert_entry}
-use Rattle.go_block_core.specs.Tables.{in_block, block_of}
-use Rattle.go_block_core.proofs.TableLemmas.{in_table}
+use Rattle.go_entry_core.specs.block_core.Tables.{in_block, block_of}
+use Rattle.go_entry_core.specs.block_core_lemmas.TableLemmas.{in_table}
 use Rattle.go_entry_core.proofs.Shown.{same_text}
 use Rattle.go_face_core.specs.Packages.{PackageFacesModel, package_in, with_faces}
 use Rattle.go_face_core.specs.mirrors.Tables.{AreKeyed, packages_of}

@@ -7,16 +7,16 @@ use Rattle.go_tree_nodes.specs.declared.decls.ValueKind.{ValueKind}
 use Rattle.go_tree_nodes.specs.declared.decls.ValueKind.TheVariants as value_kinds
 use Rattle.go_tree_nodes.specs.declared.types.TypeName.{TypeName}
 use Rattle.go_tree_nodes.specs.Trees.{TypeTree, TypeSpecTree, SignatureTree}
-use Rattle.go_decl_core.specs.declared.keys.DeclKey.{DeclKey}
-use Rattle.go_decl_core.specs.TopDecls.{TopDeclTree, FormTree, ValueForm, TypeForm, FuncForm, kind_of_form}
-use Rattle.go_block_core.specs.Blocks.{BlocksModel}
-use Rattle.go_settle_core.specs.Settled.{kind_of_term, settled, settled_sign}
-use Rattle.go_settle_core.proofs.Local.{settling_is_local, sign_alike}
-use Rattle.go_settle_core.proofs.Mentions.{settled_mentions_written}
+use Rattle.go_term_core.specs.decl_core.declared.keys.DeclKey.{DeclKey}
+use Rattle.go_term_core.specs.decl_core.TopDecls.{TopDeclTree, FormTree, ValueForm, TypeForm, FuncForm, kind_of_form}
+use Rattle.go_entry_core.specs.block_core.Blocks.{BlocksModel}
+use Rattle.go_handle_core.specs.settle_core.Settled.{kind_of_term, settled, settled_sign}
+use Rattle.go_handle_core.specs.settle_core.Local.{settling_is_local, sign_alike}
+use Rattle.go_handle_core.specs.settle_core.Mentions.{settled_mentions_written}
 use Rattle.go_term_core.specs.Terms.{Term, NoType, Predeclared, ErrorType, Defined, PointerTo, StructOf, InterfaceOf, is_no_type, term_keys, sign_keys}
 use Rattle.go_handle_core.specs.table_core.Entries.{Entry, find_entry, term_in}
-use Rattle.go_written_core.specs.Written.{InFile, Meaning, term_of, signature_of}
-use Rattle.go_written_core.proofs.ByNames.{written_by_names}
+use Rattle.go_entry_core.specs.written_core.Written.{InFile, Meaning, term_of, signature_of}
+use Rattle.go_entry_core.specs.written_core.ByNames.{written_by_names}
 use Rattle.go_handle_core.specs.decide_core.Rules.{typed}
 use Rattle.go_entry_core.specs.Entries.{file_at, type_key}
 use Rattle.go_entry_core.specs.Meanings.{Shows, file_meaning}
@@ -27,7 +27,7 @@ use Rattle.go_face_core.specs.Faces.{variable_face}
 use Rattle.go_face_core.specs.Laws.{LookAlike, MeanAlikeInFaces, WrittenAreLocal}
 use Rattle.go_face_core.specs.Names.{value_names, face_names, names_faced}
 use Rattle.go_face_core.specs.Written.{type_written, value_as_written, form_as_written, written_of, file_written, package_written}
-use Rattle.go_block_core.specs.Declarations.{decl_ref}
+use Rattle.go_entry_core.specs.block_core.Declarations.{decl_ref}
 use Rattle.go_handle_core.specs.table_core.Entries.{kinds_in}
 use Rattle.go_tree_nodes.specs.TypeNames.{type_names_in, signature_names_in}
 

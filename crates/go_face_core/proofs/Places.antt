@@ -4,9 +4,9 @@ use Rattle.std.specs.Prelude.{slice_get}
 use Rattle.std.specs.List.{enumerate_from}
 use Rattle.std.specs.Option.{option_map}
 use Rattle.std.proofs.lemmas.Option.{slice_get_within}
-use Rattle.go_decl_core.specs.declared.keys.DeclRef.{DeclRef}
-use Rattle.go_decl_core.specs.TopDecls.{TopDeclTree, kind_of_form}
-use Rattle.go_block_core.specs.Blocks.{BlocksModel}
+use Rattle.go_term_core.specs.decl_core.declared.keys.DeclRef.{DeclRef}
+use Rattle.go_term_core.specs.decl_core.TopDecls.{TopDeclTree, kind_of_form}
+use Rattle.go_entry_core.specs.block_core.Blocks.{BlocksModel}
 use Rattle.go_handle_core.specs.table_core.Entries.{Entry}
 use Rattle.go_entry_core.specs.Entries.{file_at, package_meanings}
 use Rattle.go_entry_core.specs.Laws.{IsDeclaredInFile}
@@ -19,7 +19,7 @@ use Rattle.go_face_core.specs.Written.{DeclsRise, WrittenOf, decls_of, file_writ
 use Rattle.go_face_core.proofs.Ascending.{written_rises}
 use Rattle.go_face_core.proofs.Placed.{same_itself}
 use Rattle.go_face_core.proofs.Searching.{number_of, number_at}
-use Rattle.go_block_core.specs.Declarations.{decl_ref}
+use Rattle.go_entry_core.specs.block_core.Declarations.{decl_ref}
 
 -- items and their numbers
 

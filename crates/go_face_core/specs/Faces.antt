@@ -7,9 +7,9 @@ use Rattle.go_term_core.specs.declared.term.TypeTerm.{TypeTerm}
 use Rattle.go_term_core.specs.declared.term.Signature.{Signature}
 use Rattle.go_term_core.specs.Terms.{Term, Sign}
 use Rattle.go_term_core.specs.Shapes.{shape, sign_of}
-use Rattle.go_operand_core.specs.declared.types.ValueType.{ValueType}
-use Rattle.go_operand_core.specs.declared.types.ValueType.TheVariants as value_types
-use Rattle.go_operand_core.specs.declared.types.Operand.{Operand}
+use Rattle.go_handle_core.specs.operand_core.declared.types.ValueType.{ValueType}
+use Rattle.go_handle_core.specs.operand_core.declared.types.ValueType.TheVariants as value_types
+use Rattle.go_handle_core.specs.operand_core.declared.types.Operand.{Operand}
 use Rattle.go_face_core.specs.declared.face.Face.{Face}
 use Rattle.go_face_core.specs.declared.face.Face.TheVariants as faces
 

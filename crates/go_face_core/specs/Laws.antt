@@ -2,11 +2,11 @@
 use Rattle.std.specs.Prelude.{◌≡◌, ◌<◌, ℕ, true, List, Some, length, map, slice_get, All, Contains}
 use Rattle.std.specs.List.{flat_map, enumerate_from}
 use Rattle.go_tree_nodes.specs.declared.types.TypeName.{TypeName}
-use Rattle.go_decl_core.specs.declared.keys.DeclKey.{DeclKey}
-use Rattle.go_decl_core.specs.declared.keys.DeclRef.{DeclRef}
+use Rattle.go_term_core.specs.decl_core.declared.keys.DeclKey.{DeclKey}
+use Rattle.go_term_core.specs.decl_core.declared.keys.DeclRef.{DeclRef}
 use Rattle.go_tree_nodes.specs.Trees.{TypeSpecTree}
-use Rattle.go_decl_core.specs.TopDecls.{TopDeclTree, TypeForm, kind_of_form}
-use Rattle.go_block_core.specs.Blocks.{BlocksModel}
+use Rattle.go_term_core.specs.decl_core.TopDecls.{TopDeclTree, TypeForm, kind_of_form}
+use Rattle.go_entry_core.specs.block_core.Blocks.{BlocksModel}
 use Rattle.go_term_core.specs.Terms.{term_keys}
 use Rattle.go_handle_core.specs.table_core.Entries.{Entry, find_entry}
 use Rattle.go_entry_core.specs.Entries.{file_at, type_key}
@@ -15,7 +15,7 @@ use Rattle.go_entry_core.specs.Meanings.{Shows, file_meaning}
 use Rattle.go_entry_core.specs.Outlines.{FileOutline, IsOutline}
 use Rattle.go_face_core.specs.Names.{names_faced}
 use Rattle.go_face_core.specs.Written.{WrittenOf, package_written, position_of, same_decl_place, written_of}
-use Rattle.go_block_core.specs.Declarations.{decl_ref}
+use Rattle.go_entry_core.specs.block_core.Declarations.{decl_ref}
 
 -- places
 

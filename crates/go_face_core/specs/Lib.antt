@@ -8,5 +8,12 @@ pub mod Showing
 pub mod Written
 pub mod codes
 pub mod mirrors
+pub mod block_core
 pub mod decide_core
+pub mod entry_core
+pub mod graph_core
 pub mod handle_core
+pub mod level_core
+pub mod operand_core
+pub mod select_core
+pub mod table_core

@@ -8,20 +8,20 @@ use Rattle.std.specs.Option.{option_map}
 use Rattle.go_tree_nodes.specs.declared.decls.ValueKind.{ValueKind}
 use Rattle.go_tree_nodes.specs.declared.decls.ValueKind.TheVariants as value_kinds
 use Rattle.go_tree_nodes.specs.Trees.{TypeTree}
-use Rattle.go_decl_core.specs.declared.keys.DeclRef.{DeclRef}
-use Rattle.go_decl_core.specs.TopDecls.{TopDeclTree, FormTree, ValueForm, TypeForm, FuncForm, kind_of_form}
-use Rattle.go_block_core.specs.Blocks.{BlocksModel}
-use Rattle.go_settle_core.specs.Settled.{settled, settled_sign}
+use Rattle.go_term_core.specs.decl_core.declared.keys.DeclRef.{DeclRef}
+use Rattle.go_term_core.specs.decl_core.TopDecls.{TopDeclTree, FormTree, ValueForm, TypeForm, FuncForm, kind_of_form}
+use Rattle.go_entry_core.specs.block_core.Blocks.{BlocksModel}
+use Rattle.go_handle_core.specs.settle_core.Settled.{settled, settled_sign}
 use Rattle.go_term_core.specs.Terms.{Term, Defined}
 use Rattle.go_handle_core.specs.table_core.Entries.{Entry, find_entry}
-use Rattle.go_written_core.specs.Written.{InFile, Meaning, term_of, signature_of}
+use Rattle.go_entry_core.specs.written_core.Written.{InFile, Meaning, term_of, signature_of}
 use Rattle.go_entry_core.specs.Outlines.{FileOutline}
 use Rattle.go_entry_core.specs.Entries.{Meanings, file_at, package_meanings, type_key}
 use Rattle.go_entry_core.specs.Meanings.{Shows}
 use Rattle.go_handle_core.specs.decide_core.Rules.{typed}
 use Rattle.go_face_core.specs.declared.face.Face.TheVariants as faces
 use Rattle.go_face_core.specs.Faces.{TheFace, variable_face}
-use Rattle.go_block_core.specs.Declarations.{decl_ref}
+use Rattle.go_entry_core.specs.block_core.Declarations.{decl_ref}
 use Rattle.go_handle_core.specs.table_core.Entries.{kinds_in}
 
 -- a declaration with what it is as it is written, if that is written

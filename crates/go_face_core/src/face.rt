@@ -1,5 +1,5 @@
 //! What a declaration is to those that name it.
-use go_operand_core::Operand;
+use go_handle_core::operand_core::Operand;
 
 /// What a declaration of a package block is to those that name it. `T` stands for types, `S` for signatures.
 #[derive(Drop)]

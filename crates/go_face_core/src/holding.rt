@@ -7,8 +7,8 @@ ghost use Rattle.go_handle_core.specs.Stars.{starred};
 ghost use Rattle.go_face_core.specs.Faces.{face_shown, operand_shown, value_type_shown};
 
 use crate::face::Face;
+use go_handle_core::operand_core::{Operand, ValueType};
 use go_handle_core::{SignatureRef, TypeRef};
-use go_operand_core::{Operand, ValueType};
 use go_term_core::{Signature, TypeTerm, copy, copy_signature};
 use go_text_core::boxed;
 use std::alloc::{AllocError, Global};

@@ -5,8 +5,8 @@ ghost use Rattle.go_term_core.specs.Shapes.{shape};
 ghost use Rattle.go_face_core.specs.Faces.{face_shown, operand_shown, value_type_shown, face_variable};
 
 use crate::face::Face;
+use go_handle_core::operand_core::{Operand, ValueType};
 use go_handle_core::{SignatureRef, TypeRef};
-use go_operand_core::{Operand, ValueType};
 use go_term_core::{Signature, TypeTerm};
 use std::alloc::AllocError;
 

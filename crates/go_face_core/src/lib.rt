@@ -27,6 +27,23 @@ pub use shown::{DeclaredFace, PackageFaces, ShownFace};
 pub use table::FaceTable;
 pub use written::WrittenFaces;
 
+/// What the crates above name of `go_block_core`.
+pub mod block_core {
+    pub use go_entry_core::block_core::{
+        Blocks, Exports, Imported, NamedDecl, blocks, import_names,
+    };
+}
+
+/// What the crates above name of `go_entry_core`.
+pub mod entry_core {
+    pub use go_entry_core::ShownPackages;
+}
+
+/// What the crates above name of `go_graph_core`.
+pub mod graph_core {
+    pub use go_entry_core::graph_core::{Package, SourceFile};
+}
+
 /// What the crates above name of `go_handle_core`.
 pub mod handle_core {
     pub use go_handle_core::{
@@ -35,7 +52,17 @@ pub mod handle_core {
     };
 }
 
+/// What the crates above name of `go_operand_core`.
+pub mod operand_core {
+    pub use go_handle_core::operand_core::{Operand, ValueType};
+}
+
 /// What the crates above name of `go_select_core`.
 pub mod select_core {
     pub use go_handle_core::select_core::EmbedPath;
+}
+
+/// What the crates above name of `go_table_core`.
+pub mod table_core {
+    pub use go_handle_core::table_core::{DeclaredMethod, DefinedType, PackageTypes, TypeTable};
 }

@@ -1,8 +1,8 @@
 //! What a package shows to those that import it, with faces.
 ghost use Rattle.std.specs.Prelude.{◌≡◌, ◌↔◌, IfOk, IsTrue, OnOk, map, slice_get};
 ghost use Rattle.std.specs.Option.{option_map};
-ghost use Rattle.go_block_core.specs.Exports.{name_and_decl};
-ghost use Rattle.go_block_core.specs.Tables.{has, in_block, block_of, with_first};
+ghost use Rattle.go_entry_core.specs.block_core.Exports.{name_and_decl};
+ghost use Rattle.go_entry_core.specs.block_core.Tables.{has, in_block, block_of, with_first};
 ghost use Rattle.go_face_core.specs.Faces.{face_shown};
 ghost use Rattle.go_face_core.specs.Held.{declared_shown};
 ghost use Rattle.go_face_core.specs.Packages.{as_seen, decls_declared, face_among, face_by, names_seen, package_faces, seen_after, shown_by};
@@ -10,10 +10,10 @@ ghost use Rattle.go_face_core.specs.Written.{DeclsRise};
 
 use crate::face::Face;
 use crate::lending::lend;
-use go_block_core::{Blocks, DeclRef, NamedDecl};
-use go_decl_core::place_order;
+use go_entry_core::block_core::{Blocks, DeclRef, NamedDecl};
 use go_handle_core::{SignatureRef, TypeRef};
 use go_path_core::ImportPath;
+use go_term_core::decl_core::place_order;
 use go_term_core::{Signature, TypeTerm};
 use go_text_core::is_exported;
 use indexmap::IndexMap;
@@ -71,7 +71,7 @@ impl Drop for PackageFaces {
 impl Model for PackageFaces {
     ghost use Rattle.std.specs.Prelude.{map};
     ghost use Rattle.std.specs.Arc.{arc_value};
-    ghost use Rattle.go_block_core.specs.Tables.{block_of};
+    ghost use Rattle.go_entry_core.specs.block_core.Tables.{block_of};
     ghost use Rattle.go_face_core.specs.Held.{declared_shown};
     ghost use Rattle.go_face_core.specs.Packages.{PackageFacesModel, decls_declared, package_faces};
     ghost use Rattle.go_face_core.specs.Written.{DeclsRise};

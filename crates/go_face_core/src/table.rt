@@ -23,7 +23,7 @@ impl Drop for FaceTable {
 impl Model for FaceTable {
     ghost use Rattle.std.specs.Prelude.{List};
     ghost use Rattle.std.specs.Coded.{coded_list};
-    ghost use Rattle.go_block_core.specs.Tables.{block_of};
+    ghost use Rattle.go_entry_core.specs.block_core.Tables.{block_of};
     ghost use Rattle.go_face_core.specs.Packages.{PackageFacesModel};
     ghost use Rattle.go_face_core.specs.codes.FaceCodes.{coded_package_faces};
     ghost use Rattle.go_face_core.specs.mirrors.Tables.{AreKeyed, packages_of};

@@ -2,8 +2,8 @@
 use Rattle.std.specs.Prelude.{ℕ, List, [], ◌∷◌, Option, Some, None, slice_get}
 use Rattle.std.specs.List.{flat_map}
 use Rattle.go_text_core.specs.declared.rule.Rule.{Rule}
-use Rattle.go_decl_core.specs.declared.keys.DeclRef.{DeclRef}
-use Rattle.go_decl_core.specs.declared.places.Place.{Place}
+use Rattle.go_term_core.specs.decl_core.declared.keys.DeclRef.{DeclRef}
+use Rattle.go_term_core.specs.decl_core.declared.places.Place.{Place}
 use Rattle.go_term_core.specs.declared.term.MemberPlace.{MemberPlace}
 use Rattle.go_term_core.specs.declared.term.MemberPlace.TheVariants as places
 use Rattle.go_embed_core.specs.declared.faults.MemberFault.{MemberFault}

@@ -10,3 +10,23 @@ mod receivers;
 
 pub use entries::{WrittenTypes, type_faults};
 pub use places::PackageFault;
+
+/// What the crates above name of `go_block_core`.
+pub mod block_core {
+    pub use go_entry_core::block_core::{Binding, BlockFault, Blocks, Imported, NamedDecl, Target};
+}
+
+/// What the crates above name of `go_entry_core`.
+pub mod entry_core {
+    pub use go_entry_core::{ImportedNames, outlines, type_entries};
+}
+
+/// What the crates above name of `go_graph_core`.
+pub mod graph_core {
+    pub use go_entry_core::graph_core::Package;
+}
+
+/// What the crates above name of `go_type_core`.
+pub mod type_core {
+    pub use go_embed_core::type_core::{PackageTypes, TypeTable, build_types};
+}

@@ -7,17 +7,17 @@ use Rattle.go_text_core.specs.declared.span.Span.{Span}
 use Rattle.go_tree_nodes.specs.declared.decls.ValueKind.{ValueKind}
 use Rattle.go_tree_nodes.specs.Trees.{ValueSpecTree, TypeSpecTree, Specs, Single, Group, DeclTree, Value, Types, Func, TopTree, ImportSpecTree, ImportTree, of_specs}
 use Rattle.go_tree_nodes.specs.Rules.{Wf_group, Wf_specs, Wf_value_spec, Wf_type, Wf_decl, Wf_tops}
-use Rattle.go_tree_core.specs.declared.occurrence.Role.{Role}
-use Rattle.go_tree_core.specs.declared.occurrence.Role.TheVariants as roles
-use Rattle.go_tree_core.specs.declared.occurrence.Occ.{Occ}
-use Rattle.go_tree_core.specs.Occurrences.{group_occs, specs_occs, value_spec_occs, type_spec_occs, decl_occs, tops_occs, import_occs, imports_occs}
-use Rattle.go_block_core.specs.declared.imports.Imported.{Imported}
-use Rattle.go_block_core.specs.Naming.{specs_in, specs_of, file_specs}
+use Rattle.go_func_core.specs.tree_core.declared.occurrence.Role.{Role}
+use Rattle.go_func_core.specs.tree_core.declared.occurrence.Role.TheVariants as roles
+use Rattle.go_func_core.specs.tree_core.declared.occurrence.Occ.{Occ}
+use Rattle.go_func_core.specs.tree_core.Occurrences.{group_occs, specs_occs, value_spec_occs, type_spec_occs, decl_occs, tops_occs, import_occs, imports_occs}
+use Rattle.go_func_core.specs.block_core.declared.imports.Imported.{Imported}
+use Rattle.go_func_core.specs.block_core.Naming.{specs_in, specs_of, file_specs}
 use Rattle.go_term_core.specs.Terms.{Term, Sign}
-use Rattle.go_handle_core.specs.Declarations.{Declaration}
-use Rattle.go_local_core.specs.Steps.{Spec}
-use Rattle.go_expr_core.specs.Laws.{use_place, occurrence_place}
-use Rattle.go_expr_core.proofs.Occurring.{uses_occur}
+use Rattle.go_func_core.specs.handle_core.Declarations.{Declaration}
+use Rattle.go_top_core.specs.local_core.Steps.{Spec}
+use Rattle.go_top_core.specs.expr_core.Laws.{use_place, occurrence_place}
+use Rattle.go_top_core.specs.expr_core.Occurring.{uses_occur}
 use Rattle.go_top_core.specs.piece_core.Specifications.{spec_uses}
 use Rattle.go_top_core.specs.piece_core.Occurring.{pieces_occur}
 use Rattle.go_func_core.specs.env_core.Looks.{TheLooks}

@@ -10,18 +10,18 @@ use Rattle.go_tree_nodes.specs.declared.decls.ValueKind.TheVariants as kinds
 use Rattle.go_tree_nodes.specs.Trees.{Separated, One, Then, TypeTree, ExprTree, ValueSpecTree, TypeSpecTree, Specs, Single, Group, ValueTree, TypeDeclTree, of_specs}
 use Rattle.go_tree_nodes.specs.WrittenTypes.{expr_types, exprs_types, values_types, some_type, spec_types, specs_types}
 use Rattle.go_term_core.specs.Terms.{Term, Sign}
-use Rattle.go_handle_core.specs.Declarations.{Declaration}
-use Rattle.go_local_core.specs.Steps.{Spec, Condition}
-use Rattle.go_denote_core.specs.declared.things.Stand.TheVariants as stands
-use Rattle.go_expr_core.specs.Places.{start}
-use Rattle.go_expr_core.specs.Faults.{fault_at}
-use Rattle.go_expr_core.specs.Denoting.{named_type}
-use Rattle.go_expr_core.specs.Laws.{AgreeOnIdents}
-use Rattle.go_expr_core.specs.Locality.{SameWritten}
-use Rattle.go_expr_core.proofs.Alike.{pieces, expressions_seen}
+use Rattle.go_func_core.specs.handle_core.Declarations.{Declaration}
+use Rattle.go_top_core.specs.local_core.Steps.{Spec, Condition}
+use Rattle.go_top_core.specs.denote_core.declared.things.Stand.TheVariants as stands
+use Rattle.go_top_core.specs.expr_core.Places.{start}
+use Rattle.go_top_core.specs.expr_core.Faults.{fault_at}
+use Rattle.go_top_core.specs.expr_core.Denoting.{named_type}
+use Rattle.go_top_core.specs.expr_core.Laws.{AgreeOnIdents}
+use Rattle.go_top_core.specs.expr_core.Locality.{SameWritten}
+use Rattle.go_top_core.specs.expr_core.Alike.{pieces, expressions_seen}
 use Rattle.go_top_core.specs.inline_core.Types.{InlineOf}
 use Rattle.go_top_core.specs.piece_core.Laws.{SamePiece, SameOuter, piece_idents}
-use Rattle.go_local_core.specs.Pieces.{piece_types}
+use Rattle.go_top_core.specs.local_core.Pieces.{piece_types}
 use Rattle.go_top_core.specs.piece_core.Specifications.{spec_uses}
 use Rattle.go_top_core.specs.piece_core.Local.{pieces_local, outer_local}
 use Rattle.go_func_core.specs.env_core.Looks.{TheLooks, inline_rules}

@@ -7,11 +7,11 @@ use Rattle.go_tree_nodes.specs.Trees.{FuncTree, ValueTree, TypeDeclTree}
 use Rattle.go_tree_nodes.specs.WrittenTypes.{specs_types}
 use Rattle.go_tree_nodes.specs.Shapes.{shape_type_decl, shape_value}
 use Rattle.go_func_core.specs.scope_core.Models.{scopes_model}
-use Rattle.go_entry_core.specs.Meanings.{Shows}
-use Rattle.go_names_core.specs.declared.look.OpenNames.{OpenNames}
-use Rattle.go_local_core.specs.Tables.{IsFuncPlaced}
+use Rattle.go_func_core.specs.entry_core.Meanings.{Shows}
+use Rattle.go_func_core.specs.names_core.declared.look.OpenNames.{OpenNames}
+use Rattle.go_top_core.specs.local_core.Tables.{IsFuncPlaced}
 use Rattle.go_top_core.specs.inline_core.Types.{InlineOf}
-use Rattle.go_local_core.specs.declared.Fault.{Fault}
+use Rattle.go_top_core.specs.local_core.declared.Fault.{Fault}
 use Rattle.go_func_core.specs.env_core.declared.here.Here.{Here}
 use Rattle.go_func_core.specs.env_core.declared.meaning.Meaning.{Meaning}
 use Rattle.go_func_core.specs.env_core.Scenes.{scene_shown}

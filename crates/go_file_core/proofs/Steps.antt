@@ -6,8 +6,8 @@ use Rattle.std.proofs.lemmas.List.Elements.{Contains-append_left, Contains-appen
 use Rattle.go_tree_nodes.specs.declared.files.TopDecl.{TopDecl}
 use Rattle.go_tree_nodes.specs.Trees.{FuncTree, DeclTree, Value, Types, Func, TopTree}
 use Rattle.go_tree_nodes.specs.Shapes.{top_of, decl_of}
-use Rattle.go_entry_core.proofs.Numbered.{flat_item}
-use Rattle.go_local_core.specs.Tables.{IsFuncPlaced}
+use Rattle.go_func_core.specs.entry_core.Numbered.{flat_item}
+use Rattle.go_top_core.specs.local_core.Tables.{IsFuncPlaced}
 use Rattle.go_top_core.specs.inline_core.Types.{InlineOf}
 use Rattle.go_top_core.specs.inline_core.Trees.{decl_types}
 use Rattle.go_func_core.specs.Stands.{FileStand}

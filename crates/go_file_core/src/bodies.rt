@@ -5,7 +5,7 @@ ghost use Rattle.go_file_core.specs.Package.{IsReady, checked_file_shown, files_
 
 use crate::file_at::FileAt;
 use crate::whole::{CheckedFile, check_file};
-use go_entry_core::ImportedNames;
+use go_func_core::entry_core::ImportedNames;
 use go_text_core::add;
 use go_tree_nodes::File;
 use std::alloc::{AllocError, Global};

@@ -2,7 +2,7 @@
 ghost use Rattle.std.specs.Prelude.{◌≡◌, ◌++◌, [], IfOk, OnOk, map};
 ghost use Rattle.go_tree_nodes.specs.Shapes.{decl_of, func_of, shape_type_decl, shape_value, top_of};
 ghost use Rattle.go_tree_nodes.specs.WrittenTypes.{specs_types};
-ghost use Rattle.go_local_core.specs.Tables.{IsFuncPlaced};
+ghost use Rattle.go_top_core.specs.local_core.Tables.{IsFuncPlaced};
 ghost use Rattle.go_top_core.specs.inline_core.Trees.{decl_types};
 ghost use Rattle.go_func_core.specs.scope_core.Models.{scopes_model};
 ghost use Rattle.go_func_core.specs.env_core.Scenes.{scene_shown};
@@ -18,11 +18,11 @@ ghost use Rattle.go_file_core.specs.mirrors.Steps.{AreMade, AreSeen, HasNext, be
 use crate::file_at::FileAt;
 use crate::notes::FileNotes;
 use crate::spec_decl::{SpecDecl, check_spec_decl};
-use go_entry_core::ImportedNames;
 use go_func_core::body_core::{Local, check_body};
+use go_func_core::entry_core::ImportedNames;
 use go_func_core::env_core::{Meaning, outer_names, stand};
+use go_func_core::names_core::OpenNames;
 use go_func_core::scope_core::Scopes;
-use go_names_core::OpenNames;
 use go_top_core::inline_core::InlineTypes;
 use go_tree_nodes::{Decl, FuncDecl, TopDecl, TypeDecl, ValueDecl};
 use std::alloc::{AllocError, Global};

@@ -1,18 +1,18 @@
 //! What the imports of a file have.
 ghost use Rattle.std.specs.Prelude.{◌≡◌, ◌++◌, ◌∷◌, [], OnOk, map};
 ghost use Rattle.go_tree_nodes.specs.Shapes.{import_of, shape_import_spec};
-ghost use Rattle.go_block_core.specs.Naming.{specs_of};
-ghost use Rattle.go_block_core.specs.mirrors.Shown.{spec_shown};
+ghost use Rattle.go_func_core.specs.block_core.Naming.{specs_of};
+ghost use Rattle.go_func_core.specs.block_core.mirrors.Shown.{spec_shown};
 ghost use Rattle.go_file_core.specs.Imports as has;
 
-use go_block_core::{Imported, import_specs};
-use go_denote_core::Outcome;
-use go_expr_core::Use;
+use go_func_core::block_core::{Imported, import_specs};
 use go_func_core::body_core::BodyUse;
-use go_handle_core::{Decl, DeclSite};
-use go_select_core::EmbedPath;
+use go_func_core::handle_core::{Decl, DeclSite};
+use go_func_core::select_core::EmbedPath;
+use go_func_core::tree_core::Role;
 use go_text_core::add;
-use go_tree_core::Role;
+use go_top_core::denote_core::Outcome;
+use go_top_core::expr_core::Use;
 use go_tree_nodes::{ImportDecl, ImportSpec};
 use std::alloc::{AllocError, Global};
 

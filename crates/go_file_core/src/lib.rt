@@ -22,3 +22,18 @@ pub use whole::{CheckedFile, check_file};
 pub mod body_core {
     pub use go_func_core::body_core::Local;
 }
+
+/// What the crates above name of `go_face_core`.
+pub mod face_core {
+    pub use go_func_core::face_core::Face;
+}
+
+/// What the crates above name of `go_func_core`.
+pub mod func_core {
+    pub use go_func_core::{functions_have_one_table, locals_are_declarations};
+}
+
+/// What the crates above name of `go_type_core`.
+pub mod type_core {
+    pub use go_top_core::type_core::{PackageTypes, TypeTable};
+}

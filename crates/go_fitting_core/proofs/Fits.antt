@@ -8,7 +8,7 @@ use Rattle.std.proofs.lemmas.List.Elements.{All-contains}
 use Rattle.std.proofs.lemmas.Option.{get_or_from_slice_get, slice_get_within}
 use Rattle.std.proofs.lemmas.Slice.Eq.{bytes_eq-Decides}
 use Rattle.go_text_core.specs.Text.{is_blank}
-use Rattle.go_graph_core.specs.Workspaces.{by_bytes}
+use Rattle.go_block_core.specs.graph_core.Workspaces.{by_bytes}
 use Rattle.go_tree_nodes.specs.declared.usage.Usage.{Usage}
 use Rattle.go_decl_core.specs.declared.keys.DeclKey.{DeclKey}
 use Rattle.go_block_core.specs.declared.binding.Target.{Target}
@@ -20,8 +20,8 @@ use Rattle.go_denote_core.specs.declared.things.Stand.{Stand}
 use Rattle.go_face_core.specs.declared.shown.ShownFace.{ShownFace}
 use Rattle.go_face_core.specs.declared.shown.ShownFace.TheVariants as shows
 use Rattle.go_face_core.specs.Packages.{PackageFacesModel, exported_in, face_in, package_in, shown_by, shown_in_some}
-use Rattle.go_summary_core.specs.Summaries.{SummaryModel}
-use Rattle.go_summary_core.specs.Views.{faces_told}
+use Rattle.go_shown_core.specs.summary_core.Summaries.{SummaryModel}
+use Rattle.go_shown_core.specs.summary_core.Views.{faces_told}
 use Rattle.go_context_core.specs.Alone as alone
 use Rattle.go_context_core.specs.Alone.{fits, fits_some, stands_alone, thing_found}
 use Rattle.go_context_core.proofs.Listed.{filter_had, filter_has}

@@ -22,7 +22,7 @@ use Rattle.go_face_core.specs.declared.shown.ShownFace.{ShownFace}
 use Rattle.go_face_core.specs.declared.shown.ShownFace.TheVariants as shows
 use Rattle.go_face_core.specs.Faces.{TheFace}
 use Rattle.go_face_core.specs.Packages.{PackageFacesModel, exported_in, face_in, shown_by}
-use Rattle.go_summary_core.specs.Summaries.{SummaryModel}
+use Rattle.go_shown_core.specs.summary_core.Summaries.{SummaryModel}
 
 -- what a declaration is that is this; one of which nothing is known is a constant or a variable
 abbrev pub thing_of_face : Option TheFace → Thing

@@ -1,2 +1,3 @@
 pub mod Fitting
 pub mod mirrors
+pub mod handle_core

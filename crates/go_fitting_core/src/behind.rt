@@ -1,11 +1,11 @@
 //! The names that fit behind the name of a package.
 ghost use Rattle.std.specs.Prelude.{◌≡◌, ◌↔◌, ℕ, List, true, All, Contains, IfOk, IfErr, filter, map, string_bytes};
 ghost use Rattle.std.specs.List.Sorted.{IsStrictlySortedBy};
-ghost use Rattle.go_graph_core.specs.Workspaces.{by_bytes};
+ghost use Rattle.go_block_core.specs.graph_core.Workspaces.{by_bytes};
 ghost use Rattle.go_open_core.specs.Blocks.{names_in};
 ghost use Rattle.go_denote_core.specs.Selectors as selectors;
 ghost use Rattle.go_shown_core.specs.Shown.{texts};
-ghost use Rattle.go_summary_core.specs.Views.{faces_told};
+ghost use Rattle.go_shown_core.specs.summary_core.Views.{faces_told};
 ghost use Rattle.go_fitting_core.specs.Fitting as fitting;
 ghost use Rattle.go_fitting_core.specs.Fitting.{ShowsItsExports};
 ghost use Rattle.go_fitting_core.specs.mirrors.Steps as steps;
@@ -15,7 +15,7 @@ use crate::things::{fits, thing_of_face, told_by};
 use go_denote_core::Stand;
 use go_face_core::{PackageFaces, ShownFace};
 use go_path_core::ImportPath;
-use go_summary_core::{ReachedSummaries, Summary};
+use go_shown_core::summary_core::{ReachedSummaries, Summary};
 use go_text_core::{Rule, is_blank};
 use go_tree_nodes::Usage;
 use std::alloc::{AllocError, Global};

@@ -8,7 +8,7 @@ use Rattle.go_text_core.specs.declared.span.Span.{Span}
 use Rattle.go_token_core.specs.declared.kind.Operator.{Operator}
 use Rattle.go_tree_nodes.specs.declared.names.Ident.{Ident}
 use Rattle.go_tree_nodes.specs.Trees.{ExprTree, ItemTrees, Integer, Text, Named, Paren, Unary, Binary, Select, Call, Literal, StructLiteral, NoItems, Item}
-use Rattle.go_literal_core.specs.declared.things.Mode.{Mode}
+use Rattle.go_expr_core.specs.literal_core.declared.things.Mode.{Mode}
 use Rattle.go_denote_core.specs.declared.things.Stand.{Stand}
 use Rattle.go_denote_core.specs.declared.things.Stand.TheVariants as stands
 use Rattle.go_denote_core.specs.declared.things.Outcome.{Outcome}

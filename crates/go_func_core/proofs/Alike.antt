@@ -5,23 +5,23 @@ use Rattle.go_text_core.proofs.Each.{Each}
 use Rattle.go_text_core.specs.declared.span.Span.{Span}
 use Rattle.go_tree_nodes.specs.Terminals.{Terminal, TerminalKind, Spelled, Number, Quoted, Word, Mark, Stray}
 use Rattle.go_tree_nodes.specs.Trees.{TypeTree, FuncTree}
-use Rattle.go_decl_core.specs.declared.keys.DeclKey.{DeclKey}
+use Rattle.go_term_core.specs.decl_core.declared.keys.DeclKey.{DeclKey}
 use Rattle.go_term_core.specs.Terms.{Term, Sign, NoType}
-use Rattle.go_settle_core.specs.declared.kind.Kind.{Kind}
-use Rattle.go_written_core.specs.Written as types
-use Rattle.go_written_core.specs.Written.{InFile}
+use Rattle.go_body_core.specs.settle_core.declared.kind.Kind.{Kind}
+use Rattle.go_body_core.specs.written_core.Written as types
+use Rattle.go_body_core.specs.written_core.Written.{InFile}
 use Rattle.go_body_core.specs.handle_core.Declarations.{Declaration}
-use Rattle.go_local_core.specs.Steps.{Piece, spell_piece}
-use Rattle.go_local_core.specs.Binding.{NameLook}
-use Rattle.go_local_core.specs.Pieces.{piece_types}
-use Rattle.go_local_core.specs.Alike.{Alike, AlikeAt, LookAtNames}
-use Rattle.go_expr_core.specs.Locality.{SameWritten}
-use Rattle.go_inline_core.specs.declared.scoped.Scoped.{Scoped}
-use Rattle.go_inline_core.specs.declared.scoped.Scoped.TheVariants as scoped
-use Rattle.go_inline_core.specs.Types.{InlineOf}
-use Rattle.go_inline_core.specs.Inline.{inline_of, inlines}
-use Rattle.go_inline_core.specs.Functions.{looked_up_ident, is_local, meaning_in}
-use Rattle.go_inline_core.specs.mirrors.Alike.{inlines_alike}
+use Rattle.go_body_core.specs.local_core.Steps.{Piece, spell_piece}
+use Rattle.go_body_core.specs.local_core.Binding.{NameLook}
+use Rattle.go_body_core.specs.local_core.Pieces.{piece_types}
+use Rattle.go_body_core.specs.local_core.Alike.{Alike, AlikeAt, LookAtNames}
+use Rattle.go_body_core.specs.expr_core.Locality.{SameWritten}
+use Rattle.go_body_core.specs.inline_core.declared.scoped.Scoped.{Scoped}
+use Rattle.go_body_core.specs.inline_core.declared.scoped.Scoped.TheVariants as scoped
+use Rattle.go_body_core.specs.inline_core.Types.{InlineOf}
+use Rattle.go_body_core.specs.inline_core.Inline.{inline_of, inlines}
+use Rattle.go_body_core.specs.inline_core.Functions.{looked_up_ident, is_local, meaning_in}
+use Rattle.go_body_core.specs.inline_core.mirrors.Alike.{inlines_alike}
 use Rattle.go_body_core.specs.piece_core.Headers.{returned_types, returned_names}
 use Rattle.go_body_core.specs.piece_core.Laws.{FindByNames}
 use Rattle.go_body_core.specs.env_core.declared.meaning.Meaning.{Meaning}

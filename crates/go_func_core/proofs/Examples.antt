@@ -1,7 +1,7 @@
 -- The function that was worked out by hand.
 use Rattle.std.proofs.Common.{refl}
 use Rattle.go_universe_core.specs.Universe.{spelling_of, found}
-use Rattle.go_scope_core.specs.Scopes.{universe}
+use Rattle.go_body_core.specs.scope_core.Scopes.{universe}
 use Rattle.go_func_core.specs.Worked.{WorkedFunctionTypes}
 
 pub worked_types : WorkedFunctionTypes

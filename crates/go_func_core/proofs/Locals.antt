@@ -1,8 +1,8 @@
 -- The locals of a function are its declarations.
 use Rattle.std.proofs.Common.{◌≡◌, List, Contains, refl, sym, ap, subst, ◌∙◌, append-nil}
 use Rattle.go_tree_nodes.specs.Trees.{FuncTree}
-use Rattle.go_local_core.specs.Binding.{Local}
-use Rattle.go_local_core.specs.Tables.{IsFuncPlaced}
+use Rattle.go_body_core.specs.local_core.Binding.{Local}
+use Rattle.go_body_core.specs.local_core.Tables.{IsFuncPlaced}
 use Rattle.go_body_core.specs.piece_core.Headers.{returned_types, returned_names}
 use Rattle.go_body_core.specs.piece_core.Pieces.{piece_values}
 use Rattle.go_body_core.specs.env_core.declared.meaning.Meaning.{Meaning}

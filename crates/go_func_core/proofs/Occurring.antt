@@ -1,12 +1,12 @@
 -- What is noted of a function stands where its occurrences stand.
 use Rattle.std.proofs.Common.{◌≡◌, ℕ, true, List, [], map, sym, ap, ◌∙◌, append-nil}
 use Rattle.go_tree_nodes.specs.Trees.{FuncTree}
-use Rattle.go_tree_core.specs.declared.occurrence.Role.{Role}
+use Rattle.go_body_core.specs.tree_core.declared.occurrence.Role.{Role}
 use Rattle.go_term_core.specs.Terms.{Term, Sign}
 use Rattle.go_body_core.specs.handle_core.Declarations.{Declaration}
-use Rattle.go_local_core.specs.Steps.{Piece, Header, Spec, Act, Condition, Given}
-use Rattle.go_local_core.specs.Outline.{func_steps, func_opens, func_closes}
-use Rattle.go_expr_core.specs.Laws.{use_place, occurrence_place}
+use Rattle.go_body_core.specs.local_core.Steps.{Piece, Header, Spec, Act, Condition, Given}
+use Rattle.go_body_core.specs.local_core.Outline.{func_steps, func_opens, func_closes}
+use Rattle.go_body_core.specs.expr_core.Laws.{use_place, occurrence_place}
 use Rattle.go_body_core.specs.piece_core.Pieces.{piece_uses}
 use Rattle.go_body_core.specs.piece_core.Occurring.{pieces_occur}
 use Rattle.go_body_core.specs.env_core.declared.meaning.Meaning.{Meaning}

@@ -11,23 +11,23 @@ use Rattle.go_tree_nodes.specs.declared.names.Ident.{Ident}
 use Rattle.go_tree_nodes.specs.Terminals.{Terminal, TerminalKind, InOrder, least_width, Spelled, Number, Quoted, Word, Mark, Stray}
 use Rattle.go_tree_nodes.specs.Trees.{FuncTree}
 use Rattle.go_tree_nodes.proofs.InOrder.{in_order_ends}
-use Rattle.go_open_core.specs.Blocks.{or_else}
+use Rattle.go_body_core.specs.open_core.Blocks.{or_else}
 use Rattle.go_body_core.specs.block_core.Blocks.{BlocksModel}
-use Rattle.go_scope_core.specs.Scopes as scopes
-use Rattle.go_scope_core.specs.Scopes.{Denoted}
-use Rattle.go_scope_core.specs.Models.{scopes_model}
-use Rattle.go_scope_core.specs.Laws.{denotes}
-use Rattle.go_local_core.specs.Steps.{Piece, Steps, Done, Check, Declare, Inner, Header, spell_piece}
-use Rattle.go_local_core.specs.Outline.{func_steps, func_opens, func_closes, header_idents, lines_steps}
-use Rattle.go_local_core.specs.Binding.{Local, NameLook, bound, is_first, is_second, shown, region_has, innermost_of}
-use Rattle.go_local_core.specs.Binding as binding
-use Rattle.go_local_core.specs.Law.{Rules, locals_of_names, declared_from, law_out}
-use Rattle.go_local_core.specs.Alike.{Alike, AlikeAt}
-use Rattle.go_local_core.specs.Tables.{IsFuncPlaced, IsTable}
-use Rattle.go_local_core.proofs.Placed.{Placed, func_placed}
-use Rattle.go_local_core.proofs.Parts.{IsPart, law_parts}
+use Rattle.go_body_core.specs.scope_core.Scopes as scopes
+use Rattle.go_body_core.specs.scope_core.Scopes.{Denoted}
+use Rattle.go_body_core.specs.scope_core.Models.{scopes_model}
+use Rattle.go_body_core.specs.scope_core.Laws.{denotes}
+use Rattle.go_body_core.specs.local_core.Steps.{Piece, Steps, Done, Check, Declare, Inner, Header, spell_piece}
+use Rattle.go_body_core.specs.local_core.Outline.{func_steps, func_opens, func_closes, header_idents, lines_steps}
+use Rattle.go_body_core.specs.local_core.Binding.{Local, NameLook, bound, is_first, is_second, shown, region_has, innermost_of}
+use Rattle.go_body_core.specs.local_core.Binding as binding
+use Rattle.go_body_core.specs.local_core.Law.{Rules, locals_of_names, declared_from, law_out}
+use Rattle.go_body_core.specs.local_core.Alike.{Alike, AlikeAt}
+use Rattle.go_body_core.specs.local_core.Tables.{IsFuncPlaced, IsTable}
+use Rattle.go_body_core.specs.local_core.Placed.{Placed, func_placed}
+use Rattle.go_body_core.specs.local_core.Parts.{IsPart, law_parts}
 use Rattle.go_body_core.specs.names_core.Scope.{some_meaning}
-use Rattle.go_inline_core.specs.Hiding.{hides}
+use Rattle.go_body_core.specs.inline_core.Hiding.{hides}
 use Rattle.go_body_core.specs.env_core.declared.meaning.Meaning.{Meaning}
 use Rattle.go_body_core.specs.env_core.declared.meaning.Meaning.TheVariants as meanings
 use Rattle.go_func_core.specs.Types.{is_local_meaning}

@@ -3,7 +3,7 @@ use Rattle.std.proofs.Common.{◌≡◌, true, List, [], ◌∷◌, ◌++◌, re
 use Rattle.go_text_core.proofs.Each.{Each}
 use Rattle.go_tree_nodes.specs.Trees.{TypeTree, SignatureTree, ResultTree, ParamTrees, Signed, NoResult, OneResult, Results, NoParams, Param}
 use Rattle.go_tree_nodes.specs.WrittenTypes.{params_types, result_types, signature_types}
-use Rattle.go_expr_core.specs.Denoting.{written_type}
+use Rattle.go_body_core.specs.expr_core.Denoting.{written_type}
 use Rattle.go_body_core.specs.piece_core.Headers.{of_entry, entry_types, types_of_result, returned_types}
 use Rattle.go_body_core.specs.env_core.Looks.{TheLooks}
 

@@ -2,16 +2,16 @@
 --
 -- docs/RULES.md, "Types inside functions", "Bodies of functions". The Go specification, "Declarations and scope", "Types".
 use Rattle.std.specs.Prelude.{ℕ, List, Option, Some}
-use Rattle.go_decl_core.specs.declared.keys.DeclKey.{DeclKey}
+use Rattle.go_term_core.specs.decl_core.declared.keys.DeclKey.{DeclKey}
 use Rattle.go_term_core.specs.Terms.{Term}
-use Rattle.go_settle_core.specs.declared.kind.Kind.{Kind}
-use Rattle.go_settle_core.specs.Settled.{kind_of_term}
-use Rattle.go_table_core.specs.Entries.{find_entry, term_in}
-use Rattle.go_written_core.specs.Written as types
-use Rattle.go_written_core.specs.Written.{InFile}
-use Rattle.go_local_core.specs.Binding.{NameLook}
-use Rattle.go_expr_core.specs.Looks.{WrittenRules}
-use Rattle.go_inline_core.specs.Inline.{inline_of}
+use Rattle.go_body_core.specs.settle_core.declared.kind.Kind.{Kind}
+use Rattle.go_body_core.specs.settle_core.Settled.{kind_of_term}
+use Rattle.go_body_core.specs.table_core.Entries.{find_entry, term_in}
+use Rattle.go_body_core.specs.written_core.Written as types
+use Rattle.go_body_core.specs.written_core.Written.{InFile}
+use Rattle.go_body_core.specs.local_core.Binding.{NameLook}
+use Rattle.go_body_core.specs.expr_core.Looks.{WrittenRules}
+use Rattle.go_body_core.specs.inline_core.Inline.{inline_of}
 use Rattle.go_body_core.specs.face_core.Faces.{TheFace}
 use Rattle.go_body_core.specs.env_core.declared.meaning.Meaning.{Meaning}
 use Rattle.go_body_core.specs.env_core.Scenes.{SceneModel}

@@ -11,11 +11,11 @@ use Rattle.go_tree_nodes.specs.declared.decls.ValueKind.TheVariants as kinds
 use Rattle.go_tree_nodes.specs.Trees as tree
 use Rattle.go_tree_nodes.specs.Trees.{One, TypeTree, Struct, NoFields, NamedFields, Signed, OneResult, NoParams, Param, Named, ValueSpecTree, Single, Lines, Return, NoLines, Line, FuncTree}
 use Rattle.go_tree_nodes.specs.Samples.{at, called, type_at}
-use Rattle.go_tree_core.specs.declared.occurrence.Role.{Role}
-use Rattle.go_tree_core.specs.declared.occurrence.Role.TheVariants as roles
-use Rattle.go_decl_core.specs.declared.places.DeclKind.TheVariants as decl_kind
-use Rattle.go_decl_core.specs.declared.keys.DeclRef.{DeclRef}
-use Rattle.go_decl_core.specs.declared.keys.DeclKey.{DeclKey}
+use Rattle.go_body_core.specs.tree_core.declared.occurrence.Role.{Role}
+use Rattle.go_body_core.specs.tree_core.declared.occurrence.Role.TheVariants as roles
+use Rattle.go_term_core.specs.decl_core.declared.places.DeclKind.TheVariants as decl_kind
+use Rattle.go_term_core.specs.decl_core.declared.keys.DeclRef.{DeclRef}
+use Rattle.go_term_core.specs.decl_core.declared.keys.DeclKey.{DeclKey}
 use Rattle.go_body_core.specs.block_core.Blocks.{BlocksModel, blocks_model}
 use Rattle.go_term_core.specs.declared.term.Basic.TheVariants as basics
 use Rattle.go_term_core.specs.declared.term.MemberPlace.{MemberPlace}

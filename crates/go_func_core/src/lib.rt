@@ -11,9 +11,19 @@ pub use laws::{
     locals_are_declarations, types_are_seen_alike, worked_types,
 };
 
+/// What the crates above name of `go_block_core`.
+pub mod block_core {
+    pub use go_body_core::block_core::{Imported, import_specs};
+}
+
 /// What the crates above name of `go_body_core`.
 pub mod body_core {
     pub use go_body_core::{BodyUse, Local, check_body};
+}
+
+/// What the crates above name of `go_entry_core`.
+pub mod entry_core {
+    pub use go_body_core::entry_core::ImportedNames;
 }
 
 /// What the crates above name of `go_env_core`.
@@ -23,15 +33,35 @@ pub mod env_core {
 
 /// What the crates above name of `go_face_core`.
 pub mod face_core {
-    pub use go_body_core::face_core::Face;
+    pub use go_body_core::face_core::{Face, FaceTable, WrittenFaces, written_faces};
 }
 
 /// What the crates above name of `go_handle_core`.
 pub mod handle_core {
-    pub use go_body_core::handle_core::Home;
+    pub use go_body_core::handle_core::{Decl, DeclSite, Home, SignatureRef, TypeRef};
+}
+
+/// What the crates above name of `go_inline_core`.
+pub mod inline_core {
+    pub use go_body_core::inline_core::{Ground, InlineTypes, function_types, initialiser_types};
+}
+
+/// What the crates above name of `go_names_core`.
+pub mod names_core {
+    pub use go_body_core::names_core::OpenNames;
 }
 
 /// What the crates above name of `go_scope_core`.
 pub mod scope_core {
-    pub use go_scope_core::Scopes;
+    pub use go_body_core::scope_core::Scopes;
+}
+
+/// What the crates above name of `go_select_core`.
+pub mod select_core {
+    pub use go_body_core::select_core::EmbedPath;
+}
+
+/// What the crates above name of `go_tree_core`.
+pub mod tree_core {
+    pub use go_body_core::tree_core::Role;
 }

@@ -3,8 +3,8 @@ use Rattle.std.proofs.Common.{◌≡◌, ◌++◌, List, [], ◌∷◌, Option, 
 use Rattle.go_text_core.specs.declared.span.Span.{Span}
 use Rattle.go_tree_nodes.specs.Terminals.{value_of}
 use Rattle.go_tree_nodes.specs.Trees.{ImportTree, ImportSpecTree, Specs, Single, Group}
-use Rattle.go_tree_core.specs.Names.{import_strings, take_group, take_specs}
-use Rattle.go_tree_core.proofs.Telling.{imports_are_occurrences}
+use Rattle.go_parse_core.specs.tree_core.Names.{import_strings, take_group, take_specs}
+use Rattle.go_parse_core.specs.tree_core.Telling.{imports_are_occurrences}
 use Rattle.go_graph_core.specs.Imports.{texts_in, texts_of, content_texts}
 use Rattle.go_graph_core.specs.ImportLaws.{TextsAreStrings, TextsAreOccurrences}
 use Rattle.go_graph_core.proofs.Additions.{map_append}

@@ -10,8 +10,8 @@ use Rattle.go_text_core.specs.declared.rule.Rule.TheVariants.{I1, I2, I3, I5, I6
 use Rattle.go_path_core.specs.Path.{elements, IsPath, IsElement, IsPathByte, MayImport}
 use Rattle.go_path_core.specs.mirrors.Steps.{importable}
 use Rattle.go_path_core.proofs.Paths.{may_import_is}
-use Rattle.go_cycle_core.specs.declared.edge.Edge.{Edge}
-use Rattle.go_cycle_core.specs.Cycle.{Leads}
+use Rattle.go_reach_core.specs.cycle_core.declared.edge.Edge.{Edge}
+use Rattle.go_reach_core.specs.cycle_core.Cycle.{Leads}
 use Rattle.go_graph_core.specs.declared.assembly.KFault.{KFault}
 use Rattle.go_graph_core.specs.declared.imports.ImportAt.{ImportAt}
 use Rattle.go_graph_core.specs.declared.imports.ImportOutcome.{ImportOutcome}

@@ -5,9 +5,9 @@ use Rattle.std.specs.Prelude.{IfOk}
 use Rattle.std.proofs.lemmas.List.{length-map}
 use Rattle.std.proofs.lemmas.List.Elements.{All-contains, Contains-get_or}
 use Rattle.std.proofs.lemmas.Option.{slice_get_within}
-use Rattle.go_cycle_core.specs.declared.edge.Edge.{Edge}
-use Rattle.go_cycle_core.specs.Cycle.{InRange}
-use Rattle.go_cycle_core.proofs.Walks.{by_more}
+use Rattle.go_reach_core.specs.cycle_core.declared.edge.Edge.{Edge}
+use Rattle.go_reach_core.specs.cycle_core.Cycle.{InRange}
+use Rattle.go_reach_core.specs.cycle_core.Walks.{by_more}
 use Rattle.go_reach_core.specs.Numbers.{Numbers}
 use Rattle.go_reach_core.specs.Reach.{ReachesByEdges, AreReachSets, AreStarts, EndsStandBefore}
 use Rattle.go_graph_core.specs.declared.imports.ImportAt.{ImportAt}

@@ -13,7 +13,7 @@ use crate::assembly::{assembly_fault, clause_name};
 use crate::path_table::PathTable;
 use crate::source::SourceFile;
 use crate::workspace::PackageSource;
-use go_parse_types::add;
+use go_parse_core::parse_types::add;
 use go_path_core::{ImportPath, PathText, may_import_text};
 use go_text_core::Rule;
 use go_tree_nodes::{ImportSpec, ImportSpecs};

@@ -24,3 +24,8 @@ pub use laws::one_assembly;
 pub use planning::{Plan, plan_imports};
 pub use source::SourceFile;
 pub use workspace::{PackageSource, Workspace};
+
+/// What the crates above name of `go_parse_types`.
+pub mod parse_types {
+    pub use go_parse_core::parse_types::add;
+}

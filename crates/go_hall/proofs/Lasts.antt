@@ -3,13 +3,13 @@ use Rattle.std.proofs.Common.{◌≡◌, ℕ, ◌+◌, ◌-◌, ◌<◌, ◌≤�
 use Rattle.std.specs.Prelude.{MatchOption, ⊤, slice_get}
 use Rattle.std.specs.Option.{option_copied}
 use Rattle.go_graph_core.specs.Workspaces.{PackageModel, packages_inside}
-use Rattle.go_snap_core.specs.Snapshots.{SnapshotModel}
-use Rattle.go_snap_core.specs.declared.fault.PlacedFault.{PlacedFault}
-use Rattle.go_submit_core.specs.Published.{AreSound, IsOneWorker, last_of, sources_of}
-use Rattle.go_submit_core.specs.Trees.{TreeModel}
-use Rattle.go_submit_core.specs.declared.published.PublishedBatch.{PublishedBatch}
-use Rattle.go_submit_core.proofs.Lists.{none_last}
-use Rattle.go_submit_core.proofs.Sounds.{last_sound}
+use Rattle.go_query_core.specs.snap_core.Snapshots.{SnapshotModel}
+use Rattle.go_query_core.specs.snap_core.declared.fault.PlacedFault.{PlacedFault}
+use Rattle.go_hall_core.specs.submit_core.Published.{AreSound, IsOneWorker, last_of, sources_of}
+use Rattle.go_hall_core.specs.submit_core.Trees.{TreeModel}
+use Rattle.go_hall_core.specs.submit_core.declared.published.PublishedBatch.{PublishedBatch}
+use Rattle.go_hall_core.specs.submit_core.Lists.{none_last}
+use Rattle.go_hall_core.specs.submit_core.Sounds.{last_sound}
 use Rattle.go_hall.specs.Built.{IsBuilt, faults_inside}
 use Rattle.go_hall.specs.declared.faults.Fault.{Fault}
 

@@ -17,7 +17,7 @@ use Rattle.go_graph_core.specs.Workspaces.{HaveDistinctNames, PackageModel, Puts
 use Rattle.go_graph_core.proofs.Reading.{map_last}
 use Rattle.go_text_core.specs.declared.rule.Rule.{Rule}
 use Rattle.go_text_core.specs.declared.rule.Rule.TheVariants.{M0}
-use Rattle.go_submit_core.specs.Trees.{TreeModel, tree_rule}
+use Rattle.go_hall_core.specs.submit_core.Trees.{TreeModel, tree_rule}
 use Rattle.go_hall.specs.Edits.{IsEditRefusal, IsEdited, edited_texts, files_or_none, other_files, text_there, texts_of}
 
 -- one more file of a package is looked at

@@ -4,11 +4,11 @@ use Rattle.std.specs.List.{filter_map}
 use Rattle.go_text_core.specs.declared.rule.Rule.{Rule}
 use Rattle.go_graph_core.specs.Sources.{SourceModel}
 use Rattle.go_graph_core.specs.Workspaces.{PackageModel, is_path_inside, packages_inside}
-use Rattle.go_snap_core.specs.declared.fault.PlacedFault.{PlacedFault}
-use Rattle.go_snap_core.specs.Snapshots.{SnapshotModel}
-use Rattle.go_submit_core.specs.Published.{IsOneWorker, sources_of}
-use Rattle.go_submit_core.specs.Trees.{TreeModel}
-use Rattle.go_submit_core.specs.declared.published.PublishedBatch.{PublishedBatch}
+use Rattle.go_query_core.specs.snap_core.declared.fault.PlacedFault.{PlacedFault}
+use Rattle.go_query_core.specs.snap_core.Snapshots.{SnapshotModel}
+use Rattle.go_hall_core.specs.submit_core.Published.{IsOneWorker, sources_of}
+use Rattle.go_hall_core.specs.submit_core.Trees.{TreeModel}
+use Rattle.go_hall_core.specs.submit_core.declared.published.PublishedBatch.{PublishedBatch}
 use Rattle.go_hall.specs.declared.faults.Fault.{Fault}
 
 -- a fault in this file of the package of a path, with their names

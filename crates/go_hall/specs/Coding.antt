@@ -1,11 +1,11 @@
 -- What contracts see of sessions and looks, as it is stored.
 use Rattle.std.specs.Prelude.{refl, ℕ, List}
 use Rattle.std.specs.Coded.{Coded, code_by, coded_list, coded×, coded_ℕ}
-use Rattle.go_submit_core.specs.Coding.{coded_batches}
-use Rattle.go_submit_core.specs.Trees.{TreeModel, coded_tree}
-use Rattle.go_submit_core.specs.declared.published.PublishedBatch.{PublishedBatch}
-use Rattle.go_sched_core.specs.declared.event.SessionId.{SessionId}
-use Rattle.go_sched_core.specs.contracts.event.SessionId as session
+use Rattle.go_hall_core.specs.submit_core.Coding.{coded_batches}
+use Rattle.go_hall_core.specs.submit_core.Trees.{TreeModel, coded_tree}
+use Rattle.go_hall_core.specs.submit_core.declared.published.PublishedBatch.{PublishedBatch}
+use Rattle.go_hall_core.specs.sched_core.declared.event.SessionId.{SessionId}
+use Rattle.go_hall_core.specs.sched_core.contracts.event.SessionId as session
 use Rattle.go_hall.specs.Seat.{Looked, Seat, looked_with, seat_with}
 
 abbrev pub coded_seat : Coded Seat

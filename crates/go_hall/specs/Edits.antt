@@ -7,7 +7,7 @@ use Rattle.go_text_core.specs.declared.rule.Rule.TheVariants.{M0, E1}
 use Rattle.go_path_core.specs.Path.{IsPath}
 use Rattle.go_graph_core.specs.Sources.{SourceModel}
 use Rattle.go_graph_core.specs.Workspaces.{PackageModel, Puts, files_at, is_path_inside}
-use Rattle.go_submit_core.specs.Trees.{TreeModel, tree_rule}
+use Rattle.go_hall_core.specs.submit_core.Trees.{TreeModel, tree_rule}
 
 -- the names and texts of files
 abbrev pub texts_of : List SourceModel → List (List ℕ × List ℕ)

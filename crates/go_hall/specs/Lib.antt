@@ -6,3 +6,12 @@ pub mod Laws
 pub mod Queries
 pub mod Seat
 pub mod mirrors
+pub mod batch_core
+pub mod board_core
+pub mod hall_core
+pub mod query_core
+pub mod sched_core
+pub mod shown_core
+pub mod snap_core
+pub mod submit_core
+pub mod symbol_core

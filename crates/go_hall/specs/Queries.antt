@@ -1,12 +1,16 @@
 -- What sessions ask beside parts: listings, docs and definitions, by the snapshot of the last batch.
-use Rattle.std.specs.Prelude.{◌≡◌, ◌⊎◌, ℕ, List, Result, Ok, Err, string_bytes}
+use Rattle.std.specs.Prelude.{◌≡◌, ◌⊎◌, ℕ, List, Result, Ok, Err, Option, string_bytes}
+use Rattle.std.specs.Option.{option_map}
 use Rattle.std.specs.declared.alloc.Global.{Global}
 use Rattle.std.specs.declared.string.String.{String}
+use Rattle.std.specs.declared.vec.Vec.{Vec}
+use Rattle.go_query_core.specs.place_core.Completions.{texts_of}
+use Rattle.go_query_core.specs.Completing.{IsCompletion, IsUnasked}
 use Rattle.go_text_core.specs.declared.rule.Rule.{Rule}
 use Rattle.go_text_core.specs.declared.rule.Rule.TheVariants.{M0, Q1}
-use Rattle.go_handle_core.specs.Declarations.{Declaration}
+use Rattle.go_site_core.specs.handle_core.Declarations.{Declaration}
 use Rattle.go_site_core.specs.Sites.{site_text}
-use Rattle.go_snap_core.specs.Snapshots.{SnapshotModel}
+use Rattle.go_query_core.specs.snap_core.Snapshots.{SnapshotModel}
 use Rattle.go_query_core.specs.Defining.{HasNoPart, IsDefinition, IsRefusal}
 use Rattle.go_query_core.specs.Documenting.{IsDoc, IsDocRefusal, doc_shown}
 use Rattle.go_query_core.specs.Listing.{IsListing}
@@ -27,3 +31,8 @@ IsDocAnswer from path s (Err rule) = (rule ≡ M0) ⊎ IsDocRefusal s from path 
 abbrev pub IsDefineAnswer : List ℕ → List ℕ → ℕ → SnapshotModel → Result (String Global) Rule → Type 0
 IsDefineAnswer path file offset s (Ok text) = (site : Declaration) × IsDefinition s path file offset site × (string_bytes text ≡ site_text s.sources site)
 IsDefineAnswer path file offset s (Err rule) = (rule ≡ M0) ⊎ IsRefusal s path file offset rule
+
+-- the names that may stand in the place of the identifier at an offset of a file
+abbrev pub IsCompleteAnswer : List ℕ → List ℕ → ℕ → SnapshotModel → Result (Option (Vec (String Global) Global)) Rule → Type 0
+IsCompleteAnswer path file offset s (Ok names) = IsCompletion s path file offset (option_map texts_of names)
+IsCompleteAnswer path file offset s (Err rule) = (rule ≡ M0) ⊎ IsUnasked s path file offset rule

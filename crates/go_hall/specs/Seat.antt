@@ -1,10 +1,10 @@
 -- What a contract sees of a session.
 use Rattle.std.specs.Prelude.{ℕ, List, Option, Some, None}
-use Rattle.go_submit_core.specs.Trees.{TreeModel}
-use Rattle.go_sched_core.specs.declared.event.SessionId.{SessionId}
-use Rattle.go_submit_core.specs.declared.published.PublishedBatch.{PublishedBatch}
-use Rattle.go_board_core.specs.Views.{newcomer}
-use Rattle.go_board_core.specs.declared.rule.View.{View}
+use Rattle.go_hall_core.specs.submit_core.Trees.{TreeModel}
+use Rattle.go_hall_core.specs.sched_core.declared.event.SessionId.{SessionId}
+use Rattle.go_hall_core.specs.submit_core.declared.published.PublishedBatch.{PublishedBatch}
+use Rattle.go_hall_core.specs.board_core.Views.{newcomer}
+use Rattle.go_hall_core.specs.board_core.declared.rule.View.{View}
 
 -- the session's number, its draft, what it saw of the board and was told of it, and how often it submitted
 pub record Seat : Type 0 where

@@ -1,19 +1,19 @@
 //! What sessions ask of a board that they have entered.
 ghost use Rattle.std.specs.Prelude.{◌≡◌, ◌⊎◌, [], IfErr, IfOk, Some, length};
-ghost use Rattle.go_submit_core.specs.Published.{IsOneWorker, last_of, sources_of};
-ghost use Rattle.go_submit_core.specs.declared.published.PublishedBatch.{PublishedBatch};
+ghost use Rattle.go_hall_core.specs.submit_core.Published.{IsOneWorker, last_of, sources_of};
+ghost use Rattle.go_hall_core.specs.submit_core.declared.published.PublishedBatch.{PublishedBatch};
 ghost use Rattle.go_hall.specs.Asked.{IsAnswer, IsPartAnswer};
-ghost use Rattle.go_hall.specs.Queries.{IsDefineAnswer, IsDocAnswer, IsListAnswer};
+ghost use Rattle.go_hall.specs.Queries.{IsCompleteAnswer, IsDefineAnswer, IsDocAnswer, IsListAnswer};
 ghost use Rattle.go_hall.specs.Seat.{looked_with};
 
 use crate::places::asked_path;
 use crate::shown::last_batch;
-use go_board_core::Board;
-use go_make_core::part_core::Part;
+use go_hall_core::board_core::Board;
 use go_path_core::{ImportPath, Module};
-use go_query_core::{Listing, PackageDoc, define, doc, list};
+use go_query_core::part_core::Part;
+use go_query_core::snap_core::Snapshot;
+use go_query_core::{Listing, PackageDoc, complete, define, doc, list};
 use go_site_core::site_text_of;
-use go_snap_core::Snapshot;
 use go_text_core::Rule;
 use std::alloc::Global;
 use std::marker::Model;
@@ -82,6 +82,22 @@ fn defined(
             Ok(text) => Ok(text),
             Err(_) => Err(Rule::M0),
         },
+        Err(rule) => Err(rule),
+    }
+}
+
+// The names that may stand in the place of the identifier at an offset of a file.
+fn completed(
+    alloc: Global,
+    snapshot: &Snapshot,
+    path: &ImportPath,
+    file: &str,
+    offset: usize,
+) -> Result<Option<Vec<String>>, Rule>
+    ensures { IsCompleteAnswer path.now file.now offset snapshot.now result }
+{
+    match complete(alloc, snapshot, path, file, offset) {
+        Ok(names) => Ok(names),
         Err(rule) => Err(rule),
     }
 }
@@ -199,6 +215,31 @@ impl Look {
         let snapshot = last_snapshot(&self.board)?;
         match defined(alloc, snapshot, &path, file, offset as usize) {
             Ok(text) => Ok((self.batches(), text)),
+            Err(rule) => Err(rule),
+        }
+    }
+
+    /// The names that may stand in the place of the identifier at an offset of a file, in bytes from 0, in byte order, by the last batch, with the number
+    /// of batches that this covers. None where the identifier stands behind a value, or is a key of a composite literal.
+    ///
+    /// # Errors
+    ///
+    /// `Rule::Q4` where the path lies outside the module; `Rule::Q1` where no assembled package has it; `Rule::Q2` where it has no file of this name, or
+    /// no identifier stands at the offset; `Rule::Q3` where one stands there and is not used. `Rule::M0` where memory is wanting.
+    #[tactic(auto, using(crate::proofs::Answered::answers, crate::proofs::Answered::refuses))]
+    pub fn complete(
+        &self,
+        alloc: Global,
+        path: &str,
+        file: &str,
+        offset: u64,
+    ) -> Result<(u64, Option<Vec<String>>), Rule>
+        ensures { IsAnswer self.now.own path.now self.now.board (IsCompleteAnswer path.now file.now offset) result }
+    {
+        let path = asked_path(alloc, &self.own, path)?;
+        let snapshot = last_snapshot(&self.board)?;
+        match completed(alloc, snapshot, &path, file, offset as usize) {
+            Ok(names) => Ok((self.batches(), names)),
             Err(rule) => Err(rule),
         }
     }

@@ -4,13 +4,13 @@ ghost use Rattle.std.specs.BTreeMap.{is_at};
 ghost use Rattle.std.specs.List.Sorted.{IsStrictlySortedBy};
 ghost use Rattle.std.specs.Str.{bytes_eq};
 ghost use Rattle.go_graph_core.specs.Workspaces.{HaveDistinctNames, by_bytes, files_at, given_files, names_of_files};
-ghost use Rattle.go_submit_core.specs.Trees.{tree_rule, tree_with};
+ghost use Rattle.go_hall_core.specs.submit_core.Trees.{tree_rule, tree_with};
 ghost use Rattle.go_hall.specs.Edits.{IsEditOf, IsEditRefusal, IsEdited, edited_texts, files_or_none, other_files, text_there, texts_of};
 
 use crate::places::draft_path;
 use go_graph_core::{PackageSource, SourceFile, Workspace};
+use go_hall_core::submit_core::ModuleTree;
 use go_path_core::ImportPath;
-use go_submit_core::ModuleTree;
 use go_text_core::{Rule, add};
 use std::alloc::{AllocError, Global};
 

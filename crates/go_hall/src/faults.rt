@@ -6,7 +6,7 @@ ghost use Rattle.go_hall.specs.mirrors.Adding.{with_some};
 use crate::places::lies_inside;
 use go_graph_core::PackageSource;
 use go_path_core::{ImportPath, Module};
-use go_snap_core::PlacedFault;
+use go_query_core::snap_core::PlacedFault;
 use go_text_core::{Name, Rule, add};
 use std::alloc::{AllocError, Global};
 

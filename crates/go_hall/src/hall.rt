@@ -1,18 +1,18 @@
 //! The hall.
 ghost use Rattle.std.specs.Prelude.{◌≡◌, ◌+◌, ◌<◌, [], IfOk, OnErr, OnOk, length};
 ghost use Rattle.std.specs.List.{sum_by};
-ghost use Rattle.go_sched_core.specs.Service.{Service, empty};
-ghost use Rattle.go_submit_core.specs.Trees.{tree_with};
+ghost use Rattle.go_hall_core.specs.sched_core.Service.{Service, empty};
+ghost use Rattle.go_hall_core.specs.submit_core.Trees.{tree_with};
 ghost use Rattle.go_hall_core.specs.Counts.{opens_in, submits_in};
-ghost use Rattle.go_sched_core.specs.Steps.{Replay};
+ghost use Rattle.go_hall_core.specs.sched_core.Steps.{Replay};
 
 use crate::session::Session;
-use go_board_core::BoardReader;
 use go_graph_core::Workspace;
+use go_hall_core::board_core::BoardReader;
+use go_hall_core::sched_core::{Event, SessionId, TicketState};
+use go_hall_core::submit_core::{ModuleTree, Ticket};
 use go_hall_core::{Counted, Named, Submits};
 use go_path_core::Module;
-use go_sched_core::{Event, SessionId, TicketState};
-use go_submit_core::{ModuleTree, Ticket};
 use go_text_core::Rule;
 use std::alloc::Global;
 use std::sync::ledger::Blank;

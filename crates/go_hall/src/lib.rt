@@ -18,3 +18,18 @@ pub use hall::Hall;
 pub use laws::edits_change_one_file;
 pub use session::{Built, Session};
 pub use worker::{Gate, OpenGate, WorkEnd, work};
+
+/// What the crates above name of `go_hall_core`.
+pub mod hall_core {
+    pub use go_hall_core::Named;
+}
+
+/// What the crates above name of `go_query_core`.
+pub mod query_core {
+    pub use go_query_core::{Listing, PackageDoc, PackageEntry};
+}
+
+/// What the crates above name of `go_symbol_core`.
+pub mod symbol_core {
+    pub use go_query_core::symbol_core::Symbol;
+}

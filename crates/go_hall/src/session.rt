@@ -1,6 +1,6 @@
 //! Sessions, which read the board with no lock.
 ghost use Rattle.std.specs.Prelude.{◌≡◌, ◌+◌, IfErr, IfOk, OnOk, option_map, string_bytes};
-ghost use Rattle.go_submit_core.specs.Published.{BeginsWith};
+ghost use Rattle.go_hall_core.specs.submit_core.Published.{BeginsWith};
 ghost use Rattle.go_hall.specs.Asked.{BeginsTold, IsAnswer, IsPartAnswer};
 ghost use Rattle.go_hall.specs.Built.{IsBuilt};
 ghost use Rattle.go_hall.specs.Edits.{IsEditOf, IsEditRefusal};
@@ -11,11 +11,11 @@ use crate::draft::edited;
 use crate::faults::Fault;
 use crate::hall::Hall;
 use crate::shown::faults_built;
-use go_board_core::{Board, BoardReader, Sees};
+use go_hall_core::board_core::{Board, BoardReader, Sees};
+use go_hall_core::sched_core::SessionId;
+use go_hall_core::submit_core::ModuleTree;
 use go_hall_core::{Named, Submits};
-use go_make_core::part_core::Part;
-use go_sched_core::SessionId;
-use go_submit_core::ModuleTree;
+use go_query_core::part_core::Part;
 use go_text_core::Rule;
 use std::alloc::{AllocError, Global};
 use std::marker::Model;
@@ -45,7 +45,7 @@ pub struct Session<'a, L: Named> {
 
 impl<'a, L: Named> Model for Session<'a, L> {
     ghost use Rattle.std.specs.Prelude.{MatchOption};
-    ghost use Rattle.go_board_core.specs.declared.rule.View.{View};
+    ghost use Rattle.go_hall_core.specs.board_core.declared.rule.View.{View};
     ghost use Rattle.left_right.specs.Sides.{view as place_view};
     ghost use Rattle.go_hall.specs.Coding.{coded_seat};
     ghost use Rattle.go_hall.specs.Seat.{Seat, view_by};

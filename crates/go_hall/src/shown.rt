@@ -1,16 +1,16 @@
 //! What the batches of a board show of a module.
 ghost use Rattle.std.specs.Prelude.{◌≡◌, ◌≤◌, [], All, IfErr, IfOk, IsTrue, MatchOption, Some, ⊤, length, take};
 ghost use Rattle.go_graph_core.specs.Workspaces.{AreAllRead, packages_inside};
-ghost use Rattle.go_submit_core.specs.Published.{IsOneWorker, last_of, sources_of};
+ghost use Rattle.go_hall_core.specs.submit_core.Published.{IsOneWorker, last_of, sources_of};
 ghost use Rattle.go_hall.specs.Built.{IsBuilt, faults_inside};
 
 use crate::faults::{Fault, faults_in};
 use crate::places::lies_inside;
-use go_board_core::Board;
 use go_graph_core::PackageSource;
+use go_hall_core::board_core::Board;
+use go_hall_core::submit_core::{ModuleTree, PublishedBatch};
 use go_path_core::Module;
-use go_snap_core::Snapshot;
-use go_submit_core::{ModuleTree, PublishedBatch};
+use go_query_core::snap_core::Snapshot;
 use go_text_core::Rule;
 use std::alloc::{AllocError, Global};
 

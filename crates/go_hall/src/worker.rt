@@ -2,9 +2,9 @@
 ghost use Rattle.std.specs.Prelude.{◌≡◌, IfErr, IfOk, IfSome};
 
 use crate::hall::Hall;
-use go_batch_core::{ReadPart, rebuild};
 use go_hall_core::Named;
-use go_sched_core::{Action, Reply};
+use go_hall_core::batch_core::{ReadPart, rebuild};
+use go_hall_core::sched_core::{Action, Reply};
 use go_text_core::Rule;
 use std::alloc::Global;
 use std::sync::{CondvarTimeouts, Wait};

@@ -26,12 +26,22 @@ pub use selecting::selection;
 pub use signatures::{SignatureRef, typed};
 pub use types::{TypeParts, TypeRef};
 
+/// What the crates above name of `go_operand_core`.
+pub mod operand_core {
+    pub use go_decide_core::operand_core::{Operand, ValueType};
+}
+
 /// What the crates above name of `go_select_core`.
 pub mod select_core {
     pub use go_decide_core::select_core::EmbedPath;
 }
 
+/// What the crates above name of `go_settle_core`.
+pub mod settle_core {
+    pub use go_decide_core::settle_core::{settle, settle_signature};
+}
+
 /// What the crates above name of `go_table_core`.
 pub mod table_core {
-    pub use go_decide_core::table_core::TypeTable;
+    pub use go_decide_core::table_core::{DeclaredMethod, DefinedType, PackageTypes, TypeTable};
 }

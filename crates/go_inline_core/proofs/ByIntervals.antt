@@ -7,17 +7,17 @@ use Rattle.go_tree_nodes.specs.declared.decls.ValueKind.{ValueKind}
 use Rattle.go_tree_nodes.specs.Trees as tree
 use Rattle.go_tree_nodes.specs.Trees.{TypeTree, ExprTree, ValueSpecTree, Specs, Single, Group, SimpleTree, Alone, Step, Assign, Update, Define, IfTree, ForTree, Forever, While, Clauses, StmtTree, BranchTree, ElseTree, Lines, Empty, Simple, Return, Break, Continue, Block, If, For, Branch, NoElse, ElseBlock, ElseIf, NoLines, Line, FuncTree}
 use Rattle.go_tree_nodes.specs.WrittenTypes.{expr_types, spec_types, specs_types, simple_types, some_expr_types}
-use Rattle.go_decl_core.specs.declared.keys.DeclKey.{DeclKey}
-use Rattle.go_settle_core.specs.declared.kind.Kind.{Kind}
-use Rattle.go_written_core.specs.Written.{InFile, Meaning}
-use Rattle.go_local_core.specs.Steps.{Steps, Done, Check, Declare, Inner}
-use Rattle.go_local_core.specs.Binding.{Local, bound}
-use Rattle.go_local_core.specs.Law.{law_out}
-use Rattle.go_local_core.specs.Outline.{group_steps, specs_steps, simple_steps, some_simple_steps, init_steps, some_condition_steps, if_steps, for_steps, stmt_steps, branch_steps, else_steps, lines_steps, func_steps}
+use Rattle.go_term_core.specs.decl_core.declared.keys.DeclKey.{DeclKey}
+use Rattle.go_embed_core.specs.settle_core.declared.kind.Kind.{Kind}
+use Rattle.go_entry_core.specs.written_core.Written.{InFile, Meaning}
+use Rattle.go_names_core.specs.local_core.Steps.{Steps, Done, Check, Declare, Inner}
+use Rattle.go_names_core.specs.local_core.Binding.{Local, bound}
+use Rattle.go_names_core.specs.local_core.Law.{law_out}
+use Rattle.go_names_core.specs.local_core.Outline.{group_steps, specs_steps, simple_steps, some_simple_steps, init_steps, some_condition_steps, if_steps, for_steps, stmt_steps, branch_steps, else_steps, lines_steps, func_steps}
 use Rattle.go_inline_core.specs.declared.scoped.Scoped.{Scoped}
 use Rattle.go_inline_core.specs.Types.{InlineOf}
 use Rattle.go_inline_core.specs.Trees.{some_simple_types, init_types, if_types, for_types, stmt_types, branch_types, else_types, lines_types, func_types}
-use Rattle.go_local_core.specs.Pieces.{piece_types}
+use Rattle.go_names_core.specs.local_core.Pieces.{piece_types}
 use Rattle.go_inline_core.specs.Inline.{inline_with}
 use Rattle.go_inline_core.specs.Functions.{meaning_in, inlines_in, inline_note_rules}
 
@@ -100,7 +100,7 @@ mutual
   lines_all (Line s semicolon more) rest = stmt_all s (lines_steps more rest) ∙ through (stmt_types s) (steps_types (lines_steps more rest)) (lines_types more) (steps_types rest) (lines_all more rest)
 
 pub func_all : (f : FuncTree) → steps_types (func_steps f) ≡ func_types f
-func_all f = ap (λ l. piece_types (Rattle.go_local_core.specs.Steps.Header f.receiver f.signature) ++ l) (lines_all f.body Done ∙ append-nil (lines_types f.body))
+func_all f = ap (λ l. piece_types (Rattle.go_names_core.specs.local_core.Steps.Header f.receiver f.signature) ++ l) (lines_all f.body Done ∙ append-nil (lines_types f.body))
 
 module _ (kind : DeclKey → Kind) (f : InFile) (top : Meaning) (beyond : List ℕ → Option Scoped) (all : List (Local Scoped)) where
   abbrev noted : List TypeTree → List (ℕ × InlineOf)

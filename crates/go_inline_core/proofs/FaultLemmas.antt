@@ -19,10 +19,10 @@ use Rattle.go_tree_nodes.specs.declared.types.«Param» as declared_param
 use Rattle.go_tree_nodes.specs.Trees.{FieldTrees}
 use Rattle.go_tree_nodes.specs.TypeShapes.{shape_type, shape_signature, shape_results, fields_before, fields_of, methods_of, params_of}
 use Rattle.go_tree_nodes.proofs.TypeShapes.{listed_parts, signature_parts}
-use Rattle.go_settle_core.specs.Settled.{repeats_earlier}
-use Rattle.go_local_core.specs.declared.Fault.{Fault}
-use Rattle.go_local_core.specs.Faults.{ident_fault}
-use Rattle.go_local_core.specs.Outline.{signature_idents}
+use Rattle.go_embed_core.specs.settle_core.Settled.{repeats_earlier}
+use Rattle.go_names_core.specs.local_core.declared.Fault.{Fault}
+use Rattle.go_names_core.specs.local_core.Faults.{ident_fault}
+use Rattle.go_names_core.specs.local_core.Outline.{signature_idents}
 use Rattle.go_inline_core.specs.Inline.{repeat_faults, repeated_params, repeated_in_fields, repeated_in_methods, repeated_in_signature, repeated_in_result, repeated_in_entries}
 use Rattle.go_inline_core.specs.mirrors.Names.{names_of, field_repeated}
 use Rattle.go_embed_core.specs.mirrors.Passing.{SameNames}

@@ -1,14 +1,14 @@
 -- The types of a function, and of a file, are found.
 use Rattle.std.proofs.Common.{◌≡◌, ℕ, List, [], Option, ap, ◌∙◌}
 use Rattle.go_tree_nodes.specs.Trees.{FuncTree, FileTree}
-use Rattle.go_decl_core.specs.declared.keys.DeclKey.{DeclKey}
-use Rattle.go_decl_core.specs.TopDecls.{TopDeclTree, top_decls}
-use Rattle.go_settle_core.specs.declared.kind.Kind.{Kind}
-use Rattle.go_written_core.specs.Written.{InFile, Meaning}
-use Rattle.go_local_core.specs.declared.Fault.{Fault}
-use Rattle.go_local_core.specs.Binding.{bound}
-use Rattle.go_local_core.specs.Outline.{func_opens, func_closes, func_steps}
-use Rattle.go_local_core.specs.Tables.{IsFuncPlaced}
+use Rattle.go_term_core.specs.decl_core.declared.keys.DeclKey.{DeclKey}
+use Rattle.go_term_core.specs.decl_core.TopDecls.{TopDeclTree, top_decls}
+use Rattle.go_embed_core.specs.settle_core.declared.kind.Kind.{Kind}
+use Rattle.go_entry_core.specs.written_core.Written.{InFile, Meaning}
+use Rattle.go_names_core.specs.local_core.declared.Fault.{Fault}
+use Rattle.go_names_core.specs.local_core.Binding.{bound}
+use Rattle.go_names_core.specs.local_core.Outline.{func_opens, func_closes, func_steps}
+use Rattle.go_names_core.specs.local_core.Tables.{IsFuncPlaced}
 use Rattle.go_names_core.specs.Body.{AreGiven}
 use Rattle.go_inline_core.specs.declared.scoped.Scoped.{Scoped}
 use Rattle.go_inline_core.specs.Types.{InlineOf, inline_at}

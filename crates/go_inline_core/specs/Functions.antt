@@ -6,16 +6,16 @@ use Rattle.go_tree_nodes.specs.declared.names.Ident.{Ident}
 use Rattle.go_tree_nodes.specs.declared.types.TypeName.{TypeName}
 use Rattle.go_tree_nodes.specs.declared.types.TypeName.TheVariants as type_names
 use Rattle.go_tree_nodes.specs.Trees.{TypeTree, FuncTree}
-use Rattle.go_decl_core.specs.declared.keys.DeclKey.{DeclKey}
+use Rattle.go_term_core.specs.decl_core.declared.keys.DeclKey.{DeclKey}
 use Rattle.go_term_core.specs.Terms.{NoType}
-use Rattle.go_settle_core.specs.declared.kind.Kind.{Kind}
-use Rattle.go_settle_core.specs.Settled.{kind_of_term}
+use Rattle.go_embed_core.specs.settle_core.declared.kind.Kind.{Kind}
+use Rattle.go_embed_core.specs.settle_core.Settled.{kind_of_term}
 use Rattle.go_embed_core.specs.table_core.Entries.{find_entry, term_in}
-use Rattle.go_written_core.specs.Written.{InFile, Meaning}
+use Rattle.go_entry_core.specs.written_core.Written.{InFile, Meaning}
 use Rattle.go_entry_core.specs.Meanings.{Shows, file_meaning}
-use Rattle.go_local_core.specs.Binding.{Local, NameLook, bound}
-use Rattle.go_local_core.specs.Law.{Rules}
-use Rattle.go_local_core.specs.Tables.{IsTable}
+use Rattle.go_names_core.specs.local_core.Binding.{Local, NameLook, bound}
+use Rattle.go_names_core.specs.local_core.Law.{Rules}
+use Rattle.go_names_core.specs.local_core.Tables.{IsTable}
 use Rattle.go_names_core.specs.declared.meaning.Outside.{Outside}
 use Rattle.go_names_core.specs.Scope.{beyond_in}
 use Rattle.go_inline_core.specs.declared.ground.Ground.{Ground}
@@ -23,7 +23,7 @@ use Rattle.go_inline_core.specs.declared.scoped.Scoped.{Scoped}
 use Rattle.go_inline_core.specs.declared.scoped.Scoped.TheVariants as scoped
 use Rattle.go_inline_core.specs.Types.{InlineOf}
 use Rattle.go_inline_core.specs.Trees.{func_types}
-use Rattle.go_local_core.specs.Pieces.{piece_types}
+use Rattle.go_names_core.specs.local_core.Pieces.{piece_types}
 use Rattle.go_inline_core.specs.Inline.{inlines}
 
 -- names

@@ -4,14 +4,14 @@
 use Rattle.std.specs.Prelude.{◌≡◌, ℕ, Bool, List, Option, filter, is_some, if◌then◌else◌}
 use Rattle.std.specs.Str.{bytes_eq}
 use Rattle.go_tree_nodes.specs.Trees.{FuncTree}
-use Rattle.go_decl_core.specs.declared.keys.DeclKey.{DeclKey}
+use Rattle.go_term_core.specs.decl_core.declared.keys.DeclKey.{DeclKey}
 use Rattle.go_names_core.specs.block_core.Blocks.{BlocksModel}
 use Rattle.go_term_core.specs.Terms.{NoType}
-use Rattle.go_settle_core.specs.declared.kind.Kind.{Kind}
-use Rattle.go_written_core.specs.Written.{InFile, Meaning}
-use Rattle.go_local_core.specs.Binding.{Local, shown, innermost_of}
-use Rattle.go_local_core.specs.Law.{Rules}
-use Rattle.go_local_core.specs.Tables.{IsTable, IsFuncPlaced}
+use Rattle.go_embed_core.specs.settle_core.declared.kind.Kind.{Kind}
+use Rattle.go_entry_core.specs.written_core.Written.{InFile, Meaning}
+use Rattle.go_names_core.specs.local_core.Binding.{Local, shown, innermost_of}
+use Rattle.go_names_core.specs.local_core.Law.{Rules}
+use Rattle.go_names_core.specs.local_core.Tables.{IsTable, IsFuncPlaced}
 use Rattle.go_names_core.specs.Scope.{beyond_in}
 use Rattle.go_inline_core.specs.Types.{InlineOf}
 use Rattle.go_inline_core.specs.Trees.{func_types}

@@ -6,7 +6,7 @@ use Rattle.std.specs.Map.{lookup}
 use Rattle.indexmap.specs.IndexMap.{IndexMap}
 use Rattle.go_term_core.specs.Terms.{Term}
 use Rattle.go_term_core.specs.Shapes.{shape}
-use Rattle.go_local_core.specs.declared.Fault.{Fault}
+use Rattle.go_names_core.specs.local_core.declared.Fault.{Fault}
 use Rattle.go_inline_core.specs.declared.types.InlineType.{InlineType}
 
 -- a type, settled, and the faults of its fields, its methods and their parameters

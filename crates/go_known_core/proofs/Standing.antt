@@ -5,13 +5,13 @@ use Rattle.std.proofs.lemmas.Option.{slice_get-map}
 use Rattle.go_tree_nodes.specs.declared.decls.ValueKind.{ValueKind}
 use Rattle.go_tree_nodes.specs.Trees.{ValueSpecTree}
 use Rattle.go_term_core.specs.Terms.{Term}
-use Rattle.go_operand_core.specs.declared.types.Operand.{Operand}
-use Rattle.go_scope_core.specs.Models.{ScopesModel, scopes_model}
-use Rattle.go_names_core.specs.Scope.{look_in_scope}
+use Rattle.go_value_core.specs.operand_core.declared.types.Operand.{Operand}
+use Rattle.go_value_core.specs.scope_core.Models.{ScopesModel, scopes_model}
+use Rattle.go_value_core.specs.names_core.Scope.{look_in_scope}
 use Rattle.go_value_core.specs.inline_core.Types.{InlineOf}
-use Rattle.go_decl_core.specs.Shown.{form_shown}
-use Rattle.go_face_core.specs.Faces.{TheFace}
-use Rattle.go_face_core.specs.Written.{written_at}
+use Rattle.go_term_core.specs.decl_core.Shown.{form_shown}
+use Rattle.go_value_core.specs.face_core.Faces.{TheFace}
+use Rattle.go_value_core.specs.face_core.Written.{written_at}
 use Rattle.go_value_core.specs.env_core.declared.here.Here.{Here}
 use Rattle.go_value_core.specs.env_core.declared.meaning.Meaning.{Meaning}
 use Rattle.go_value_core.specs.env_core.declared.meaning.Meaning.TheVariants as meanings

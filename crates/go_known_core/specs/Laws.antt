@@ -1,15 +1,15 @@
 -- Laws of the places of a package's declarations.
 use Rattle.std.specs.Prelude.{◌≡◌, ℕ, List, length, map}
-use Rattle.go_decl_core.specs.declared.keys.DeclRef.{DeclRef}
-use Rattle.go_decl_core.specs.TopDecls.{kind_of_form}
-use Rattle.go_block_core.specs.Blocks.{BlocksModel}
-use Rattle.go_table_core.specs.Entries.{Entry}
-use Rattle.go_entry_core.specs.Outlines.{FileOutline}
-use Rattle.go_entry_core.specs.Meanings.{Shows}
-use Rattle.go_face_core.specs.Written.{decls_of, package_written}
+use Rattle.go_term_core.specs.decl_core.declared.keys.DeclRef.{DeclRef}
+use Rattle.go_term_core.specs.decl_core.TopDecls.{kind_of_form}
+use Rattle.go_value_core.specs.block_core.Blocks.{BlocksModel}
+use Rattle.go_value_core.specs.table_core.Entries.{Entry}
+use Rattle.go_value_core.specs.entry_core.Outlines.{FileOutline}
+use Rattle.go_value_core.specs.entry_core.Meanings.{Shows}
+use Rattle.go_value_core.specs.face_core.Written.{decls_of, package_written}
 use Rattle.go_value_core.specs.inline_core.Types.{InlineOf}
 use Rattle.go_value_core.specs.Package.{PlacedOf, placed_decls}
-use Rattle.go_block_core.specs.Declarations.{decl_ref}
+use Rattle.go_value_core.specs.block_core.Declarations.{decl_ref}
 
 -- which declaration of its package a placed one is
 abbrev pub decl_placed : PlacedOf → DeclRef

@@ -5,3 +5,5 @@ pub use Rattle.go_value_core.specs.Initial as Initial
 pub use Rattle.go_value_core.specs.Laws as Laws
 pub use Rattle.go_value_core.proofs.Owning as Owning
 pub use Rattle.go_value_core.specs.Package as Package
+pub use Rattle.go_value_core.proofs.Seeing as Seeing
+pub use Rattle.go_value_core.specs.mirrors as mirrors

@@ -1,16 +1,16 @@
 //! What the declarations of a package are.
 ghost use Rattle.std.specs.Prelude.{◌≡◌, IfOk, length, map};
-ghost use Rattle.go_entry_core.specs.Outlines.{outline_shown};
+ghost use Rattle.go_value_core.specs.entry_core.Outlines.{outline_shown};
 ghost use Rattle.go_needs_core.specs.Needs.{AreValues};
-ghost use Rattle.go_face_core.specs.Faces.{TheFace};
+ghost use Rattle.go_value_core.specs.face_core.Faces.{TheFace};
 ghost use Rattle.go_value_core.specs.env_core.Scenes.{scene_shown};
 ghost use Rattle.go_value_core.specs.Package.{declared_face, package_needs, placed_decls};
 
 use crate::stage::Stage;
-use go_decl_core::Outline;
-use go_face_core::Face;
 use go_needs_core::values_of;
+use go_term_core::decl_core::Outline;
 use go_value_core::env_core::Scene;
+use go_value_core::face_core::Face;
 use go_value_core::handle_core::{SignatureRef, TypeRef};
 use go_value_core::inline_core::InlineTypes;
 use go_value_core::{package_needs, placed_decls};

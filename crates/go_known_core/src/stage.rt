@@ -1,24 +1,24 @@
 //! What each declaration of a package is, by those that it needs.
 ghost use Rattle.std.specs.Prelude.{◌≡◌, [], IfOk, map};
-ghost use Rattle.go_decl_core.specs.Shown.{form_shown};
+ghost use Rattle.go_term_core.specs.decl_core.Shown.{form_shown};
 ghost use Rattle.go_tree_nodes.specs.Shapes.{shape_value_spec};
 ghost use Rattle.go_needs_core.specs.Needs.{known_in};
-ghost use Rattle.go_scope_core.specs.Models.{scopes_model};
-ghost use Rattle.go_face_core.specs.declared.face.Face.TheVariants as faces;
-ghost use Rattle.go_face_core.specs.Written.{written_at};
+ghost use Rattle.go_value_core.specs.scope_core.Models.{scopes_model};
+ghost use Rattle.go_value_core.specs.face_core.declared.face.Face.TheVariants as faces;
+ghost use Rattle.go_value_core.specs.face_core.Written.{written_at};
 ghost use Rattle.go_value_core.specs.env_core.Scenes.{scene_shown};
 ghost use Rattle.go_value_core.specs.Initial as initial;
 ghost use Rattle.go_value_core.specs.Package as package_values;
 
-use go_decl_core::DeclForm;
-use go_face_core::Face;
-use go_names_core::OpenNames;
 use go_needs_core::Needing;
-use go_operand_core::Operand;
-use go_scope_core::Scopes;
+use go_term_core::decl_core::DeclForm;
 use go_tree_nodes::{ValueKind, ValueSpec};
 use go_value_core::env_core::{Meaning, Scene, outer_names, stand};
+use go_value_core::face_core::Face;
 use go_value_core::handle_core::{SignatureRef, TypeRef};
+use go_value_core::names_core::OpenNames;
+use go_value_core::operand_core::Operand;
+use go_value_core::scope_core::Scopes;
 use go_value_core::{PlacedDecl, initial_value};
 use std::alloc::{AllocError, Global};
 

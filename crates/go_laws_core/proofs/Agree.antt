@@ -11,20 +11,20 @@ use Rattle.go_denote_core.specs.declared.things.Outcome.TheVariants as outcomes
 use Rattle.go_denote_core.specs.declared.things.Stand.TheVariants as stands
 use Rattle.go_expr_core.specs.Faults.{faults}
 use Rattle.go_expr_core.specs.Uses.{uses}
-use Rattle.go_handle_core.specs.Declarations.{Declaration}
-use Rattle.go_env_core.specs.declared.meaning.Meaning.{Meaning}
-use Rattle.go_body_core.specs.Notes.{TheLocal, TheUse}
-use Rattle.go_func_core.specs.Functions.{AreFuncDeclarations}
-use Rattle.go_func_core.specs.Laws.{FunctionsHaveOneTable}
-use Rattle.go_func_core.specs.Locals.{LocalsAreDeclarations}
-use Rattle.go_file_core.specs.Files.{decl_faults, decl_uses, tops_uses}
-use Rattle.go_file_core.specs.Imports.{imports_uses}
-use Rattle.go_file_core.specs.Laws.{FunctionsArePlaced}
-use Rattle.go_file_core.specs.Stands.{file_funcs}
+use Rattle.govisd_core.specs.handle_core.Declarations.{Declaration}
+use Rattle.govisd_core.specs.env_core.declared.meaning.Meaning.{Meaning}
+use Rattle.govisd_core.specs.body_core.Notes.{TheLocal, TheUse}
+use Rattle.govisd_core.specs.func_core.Functions.{AreFuncDeclarations}
+use Rattle.govisd_core.specs.func_core.Laws.{FunctionsHaveOneTable}
+use Rattle.govisd_core.specs.func_core.Locals.{LocalsAreDeclarations}
+use Rattle.govisd_core.specs.file_core.Files.{decl_faults, decl_uses, tops_uses}
+use Rattle.govisd_core.specs.file_core.Imports.{imports_uses}
+use Rattle.govisd_core.specs.file_core.Laws.{FunctionsArePlaced}
+use Rattle.govisd_core.specs.file_core.Stands.{file_funcs}
 use Rattle.go_block_core.specs.Naming.{file_specs}
-use Rattle.go_whole_core.specs.LocalLaws.{ImportsBindTheirs}
-use Rattle.go_used_core.specs.Used.{TheOutcome, is_declared}
-use Rattle.go_ready_core.specs.Packages.{trees_in}
+use Rattle.go_snap_core.specs.whole_core.LocalLaws.{ImportsBindTheirs}
+use Rattle.govisd_core.specs.used_core.Used.{TheOutcome, is_declared}
+use Rattle.govisd_core.specs.ready_core.Packages.{trees_in}
 use Rattle.go_snap_core.specs.package_core.Checked.{imports_at}
 use Rattle.go_summary_core.specs.Views.{types_told}
 use Rattle.go_snap_core.specs.part_core.Inputs.{InputModel, IsInput}

@@ -8,10 +8,10 @@ use Rattle.go_tree_core.specs.Occurrences.{file_occs}
 use Rattle.go_expr_core.specs.Laws.{use_place, occurrence_place}
 use Rattle.go_snap_core.specs.part_core.Laws.{PartHasOccurrences}
 use Rattle.go_graph_core.specs.Workspaces.{PackageModel, IsWorkspace}
-use Rattle.go_ready_core.specs.Packages.{trees_in}
+use Rattle.govisd_core.specs.ready_core.Packages.{trees_in}
 use Rattle.go_snap_core.specs.part_core.Parts.{FileOf, PartModel}
-use Rattle.go_whole_core.specs.Inputs.{AreParts}
-use Rattle.go_whole_core.proofs.PartsWhole.{all_right}
+use Rattle.go_snap_core.specs.whole_core.Inputs.{AreParts}
+use Rattle.go_snap_core.specs.whole_core.PartsWhole.{all_right}
 use Rattle.go_snap_core.proofs.Faulty.{read_there}
 use Rattle.go_laws_core.specs.AnswerLaws.{PlacesAreOfOccurrences}
 use Rattle.go_laws_core.proofs.Given.{is_input}

@@ -13,12 +13,12 @@ use Rattle.go_graph_core.specs.Packages.{IsAssembled, tree_shown, trees_of}
 use Rattle.go_graph_core.specs.Sources.{SourceModel}
 use Rattle.go_graph_core.specs.Workspaces.{PackageModel, IsPackage, IsWorkspace}
 use Rattle.go_graph_core.proofs.Zips.{numbered_at}
-use Rattle.go_ready_core.specs.Packages.{trees_in}
-use Rattle.go_used_core.specs.Used.{FileUse}
+use Rattle.govisd_core.specs.ready_core.Packages.{trees_in}
+use Rattle.govisd_core.specs.used_core.Used.{FileUse}
 use Rattle.go_snap_core.specs.part_core.Parts.{FileOf, IsFileMadeIn, PartModel}
-use Rattle.go_whole_core.specs.Inputs.{AreParts, IsPartOf}
-use Rattle.go_whole_core.proofs.Lists.{one_at}
-use Rattle.go_whole_core.proofs.PartsWhole.{all_right}
+use Rattle.go_snap_core.specs.whole_core.Inputs.{AreParts, IsPartOf}
+use Rattle.go_snap_core.specs.whole_core.Lists.{one_at}
+use Rattle.go_snap_core.specs.whole_core.PartsWhole.{all_right}
 use Rattle.go_snap_core.specs.Snapshots.{IsAnswerAt}
 use Rattle.go_snap_core.proofs.Finding.{one_key, one_part_at}
 use Rattle.go_laws_core.specs.AnswerLaws.{AnswersOccurrences, IsUseOfOccurrence, IsOccurrenceAt, OutcomesAreOfOccurrences}

@@ -54,14 +54,14 @@ use Rattle.go_expr_core.specs.Looks.{Looks, look_of_place, literals_at}
 use Rattle.go_expr_core.specs.Places.{inside, under_place, left_place, whole, is_name, is_literal, is_lone_call}
 use Rattle.go_expr_core.specs.Operators.{of_operand, is_star, unary_of, operand_of, binary_operands}
 use Rattle.go_expr_core.specs.Denoting.{ident_answer, type_name_answer, denoted, denoted_items, named_type, select_answer, written_type}
-use Rattle.go_handle_core.specs.Declarations.{Declaration}
-use Rattle.go_env_core.specs.Looks.{TheLooks}
-use Rattle.go_near_core.specs.Near.{NearRest, IfAny, NearDot}
-use Rattle.go_near_core.specs.Looks.{AreClosed, LooksAgree}
-use Rattle.go_near_core.proofs.Closing.{either, default_near, dot_near}
-use Rattle.go_near_core.proofs.Expressions.{denoted_near, ident_near}
+use Rattle.govisd_core.specs.handle_core.Declarations.{Declaration}
+use Rattle.govisd_core.specs.env_core.Looks.{TheLooks}
+use Rattle.go_snap_core.specs.near_core.Near.{NearRest, IfAny, NearDot}
+use Rattle.go_snap_core.specs.near_core.Looks.{AreClosed, LooksAgree}
+use Rattle.go_snap_core.specs.near_core.Closing.{either, default_near, dot_near}
+use Rattle.go_snap_core.specs.near_core.Expressions.{denoted_near, ident_near}
 use Rattle.go_laws_core.specs.Reached.{HasDeclaredIn, IsDeclaredIn}
-use Rattle.go_statement_core.specs.Locality.{Each}
+use Rattle.go_piece_core.specs.statement_core.Locality.{Each}
 
 -- look-ups agree with themselves
 pub alike_itself : {T S D P : Type 0} (Near : T → Type 0) (Rest : NearRest S D) (looks : Looks T S D P) → LooksAgree Near Rest looks looks

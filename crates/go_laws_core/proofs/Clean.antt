@@ -7,12 +7,12 @@ use Rattle.go_tree_nodes.specs.Trees.{FileTree}
 use Rattle.go_graph_core.specs.Lists.{AllNumbered}
 use Rattle.go_denote_core.specs.declared.things.Outcome.TheVariants as outcomes
 use Rattle.go_local_core.specs.declared.Fault.{Fault}
-use Rattle.go_handle_core.specs.Declarations.{Declaration}
-use Rattle.go_report_core.specs.Faults.{IsSaid, IsSettled}
-use Rattle.go_body_core.specs.Notes.{TheUse}
-use Rattle.go_file_core.specs.Files.{file_faults, file_locals, file_uses}
-use Rattle.go_used_core.specs.Used.{TheOutcome, is_declared, is_import, judged_import, refused_use, unused_outcome}
-use Rattle.go_ready_core.specs.Packages.{trees_in}
+use Rattle.govisd_core.specs.handle_core.Declarations.{Declaration}
+use Rattle.govisd_core.specs.report_core.Faults.{IsSaid, IsSettled}
+use Rattle.govisd_core.specs.body_core.Notes.{TheUse}
+use Rattle.govisd_core.specs.file_core.Files.{file_faults, file_locals, file_uses}
+use Rattle.govisd_core.specs.used_core.Used.{TheOutcome, is_declared, is_import, judged_import, refused_use, unused_outcome}
+use Rattle.govisd_core.specs.ready_core.Packages.{trees_in}
 use Rattle.go_snap_core.specs.package_core.Checked.{IsFileChecked, imports_at}
 use Rattle.go_summary_core.specs.Views.{types_told}
 use Rattle.go_snap_core.specs.part_core.Inputs.{InputModel, IsInput}

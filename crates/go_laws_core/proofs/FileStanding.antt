@@ -19,7 +19,7 @@ use Rattle.go_block_core.specs.declared.imports.Imported.TheVariants as given
 use Rattle.go_block_core.specs.Naming.{IsGiven}
 use Rattle.go_summary_core.specs.Summaries.{SummaryModel}
 use Rattle.go_snap_core.specs.part_core.Parts.{PartModel}
-use Rattle.go_whole_core.specs.Inputs.{AreToldTo, ComesTo, IsPassingImport, ReachesPackage, Shown, Tells}
+use Rattle.go_snap_core.specs.whole_core.Inputs.{AreToldTo, ComesTo, IsPassingImport, ReachesPackage, Shown, Tells}
 use Rattle.govisd_core.specs.Alone.{ImportIsRefused, package_alone, the_path, workspace_alone}
 use Rattle.govisd_core.proofs.OneFound.{letter_there}
 

@@ -10,7 +10,7 @@ use Rattle.go_tree_nodes.specs.Trees.{FileTree}
 use Rattle.go_parse_core.specs.declared.error.SynFault.{SynFault}
 use Rattle.go_parse_core.specs.Correct.{HasOneTree, IsSynFault}
 use Rattle.go_parse_core.specs.Refusing.{HasOneRule}
-use Rattle.go_answer_core.specs.Outer.{fault}
+use Rattle.go_snap_core.specs.answer_core.Outer.{fault}
 use Rattle.go_graph_core.specs.Lists.{AllNumbered}
 use Rattle.go_graph_core.specs.Packages.{blank, trees_of}
 use Rattle.go_graph_core.specs.Sources.{SourceModel, IsContent, source}
@@ -18,11 +18,11 @@ use Rattle.go_graph_core.specs.Workspaces.{PackageModel}
 use Rattle.go_block_core.specs.declared.imports.Imported.{Imported}
 use Rattle.go_block_core.specs.Naming.{AreInFile}
 use Rattle.go_block_core.proofs.Growing.{package_weaker}
-use Rattle.go_used_core.specs.Used.{FileUse}
+use Rattle.govisd_core.specs.used_core.Used.{FileUse}
 use Rattle.go_summary_core.specs.Summaries.{SummaryModel}
 use Rattle.go_snap_core.specs.part_core.Inputs.{InputModel, input_with}
 use Rattle.go_snap_core.specs.part_core.Parts.{FileOf, IsFileMadeIn, IsPart, PartModel}
-use Rattle.go_whole_core.specs.Inputs.{ComesTo, IsInputOf, IsPartOf}
+use Rattle.go_snap_core.specs.whole_core.Inputs.{ComesTo, IsInputOf, IsPartOf}
 use Rattle.go_snap_core.specs.declared.fault.PlacedFault.{PlacedFault}
 use Rattle.go_snap_core.specs.Snapshots.{IsAnswerAt, IsSnapshot, contents_of}
 use Rattle.go_snap_core.specs.mirrors.Reports.{part_faults}

@@ -11,17 +11,17 @@ use Rattle.go_block_core.specs.Exports.{ExportsModel}
 use Rattle.go_block_core.proofs.GivenSteps.{have_one_each}
 use Rattle.go_entry_core.proofs.Among.{among_to}
 use Rattle.go_summary_core.specs.Summaries.{SummaryModel, path_of}
-use Rattle.go_whole_core.specs.Known.{IsImportedPath}
+use Rattle.go_snap_core.specs.whole_core.Known.{IsImportedPath}
 use Rattle.go_snap_core.specs.part_core.Inputs.{IsInput, path_in}
 use Rattle.go_snap_core.specs.part_core.Parts.{PartModel}
-use Rattle.go_whole_core.specs.Inputs.{ComesTo, ReachesPackage, Shown}
-use Rattle.go_whole_core.specs.mirrors.Steps.{AreRight}
-use Rattle.go_whole_core.proofs.Beside.{one_place}
-use Rattle.go_whole_core.proofs.Lists.{all_from_among}
-use Rattle.go_whole_core.proofs.Order.{reaches_next, reaches_others}
-use Rattle.go_whole_core.proofs.Parts.{path_told, told_by, told_to, well_reached}
-use Rattle.go_whole_core.proofs.PartsWhole.{all_right}
-use Rattle.go_whole_core.proofs.Theirs.{imports_lead, passes}
+use Rattle.go_snap_core.specs.whole_core.Inputs.{ComesTo, ReachesPackage, Shown}
+use Rattle.go_snap_core.specs.whole_core.mirrors.Steps.{AreRight}
+use Rattle.go_snap_core.specs.whole_core.Beside.{one_place}
+use Rattle.go_snap_core.specs.whole_core.Lists.{all_from_among}
+use Rattle.go_snap_core.specs.whole_core.Order.{reaches_next, reaches_others}
+use Rattle.go_snap_core.specs.whole_core.Parts.{path_told, told_by, told_to, well_reached}
+use Rattle.go_snap_core.specs.whole_core.PartsWhole.{all_right}
+use Rattle.go_snap_core.specs.whole_core.Theirs.{imports_lead, passes}
 use Rattle.go_snap_core.specs.emit_core.Imports.{all_passing, imported_paths}
 use Rattle.go_laws_core.specs.ConstantLaws.{ImportsAreOthers, PartsAreFit}
 use Rattle.go_laws_core.proofs.ConstantLists.{HasItem, contained, from_flat, has, has_of_all}

@@ -12,13 +12,13 @@ use Rattle.go_block_core.specs.declared.imports.Imported.TheVariants as given
 use Rattle.go_block_core.specs.Naming.{file_specs}
 use Rattle.go_table_core.specs.Entries.{Entry, find_entry, has_method, underlying_in}
 use Rattle.go_settle_core.specs.Settled.{settled}
-use Rattle.go_embed_core.specs.Owners.{OwnerModel, owner_in, Found, AFieldOf, AMethodOf, AnInterfaces, TheErrorMethod}
+use Rattle.go_level_core.specs.embed_core.Owners.{OwnerModel, owner_in, Found, AFieldOf, AMethodOf, AnInterfaces, TheErrorMethod}
 use Rattle.go_decide_core.specs.Rules.{form_under, member_selection, term_rules}
 use Rattle.go_decide_core.specs.Selecting.{Choice, selected_of}
 use Rattle.go_operand_core.specs.declared.types.Operand.{Operand}
 use Rattle.go_denote_core.specs.declared.things.Selection.{Selection}
-use Rattle.go_handle_core.specs.Declarations.{Declaration, Universe, OfError, Package, InFile, declaration_found}
-use Rattle.go_handle_core.specs.Names.{selection_in, shown_choice}
+use Rattle.govisd_core.specs.handle_core.Declarations.{Declaration, Universe, OfError, Package, InFile, declaration_found}
+use Rattle.govisd_core.specs.handle_core.Names.{selection_in, shown_choice}
 use Rattle.go_written_core.specs.Written.{term_of}
 use Rattle.go_local_core.specs.Binding.{NameLook}
 use Rattle.go_local_core.specs.Steps.{Piece}
@@ -29,36 +29,36 @@ use Rattle.go_scope_core.specs.Scopes as scopes
 use Rattle.go_scope_core.specs.Scopes.{Denoted}
 use Rattle.go_scope_core.specs.Models.{scopes_model}
 use Rattle.go_scope_core.specs.Laws.{denotes}
-use Rattle.go_inline_core.specs.Functions.{looked_up_ident}
-use Rattle.go_env_core.specs.declared.meaning.Meaning.{Meaning}
-use Rattle.go_env_core.specs.declared.meaning.Meaning.TheVariants as meanings
-use Rattle.go_env_core.specs.Found.{found_exported, found_of, found_outside}
-use Rattle.go_env_core.specs.Fields.{fields_seen, owner_seen, term_seen}
+use Rattle.govisd_core.specs.inline_core.Functions.{looked_up_ident}
+use Rattle.govisd_core.specs.env_core.declared.meaning.Meaning.{Meaning}
+use Rattle.govisd_core.specs.env_core.declared.meaning.Meaning.TheVariants as meanings
+use Rattle.govisd_core.specs.env_core.Found.{found_exported, found_of, found_outside}
+use Rattle.govisd_core.specs.env_core.Fields.{fields_seen, owner_seen, term_seen}
 use Rattle.go_piece_core.specs.Headers.{returned_names, returned_types}
 use Rattle.go_piece_core.specs.Pieces.{piece_values}
 use Rattle.go_local_core.specs.Pieces.{piece_declares}
 use Rattle.go_piece_core.specs.Specifications.{spec_uses}
 use Rattle.go_expr_core.specs.TypeUses.{type_uses}
-use Rattle.go_body_core.specs.Notes.{NoteOf, TheLocal, all_locals, all_uses}
-use Rattle.go_body_core.specs.Rules.{declared_among, local_at, local_if, value_at}
-use Rattle.go_func_core.specs.Types.{is_local_meaning, named_where}
-use Rattle.go_func_core.specs.Stands.{FileStand, kinds_in_scene, looks_where, outer_look, outer_looks, outer_meanings}
-use Rattle.go_func_core.specs.Functions.{func_rules, own_rules, walked_func}
-use Rattle.go_file_core.specs.Files.{decl_locals, decl_uses, file_locals, file_uses, tops_uses}
-use Rattle.go_file_core.specs.Imports.{imports_uses}
+use Rattle.govisd_core.specs.body_core.Notes.{NoteOf, TheLocal, all_locals, all_uses}
+use Rattle.govisd_core.specs.body_core.Rules.{declared_among, local_at, local_if, value_at}
+use Rattle.govisd_core.specs.func_core.Types.{is_local_meaning, named_where}
+use Rattle.govisd_core.specs.func_core.Stands.{FileStand, kinds_in_scene, looks_where, outer_look, outer_looks, outer_meanings}
+use Rattle.govisd_core.specs.func_core.Functions.{func_rules, own_rules, walked_func}
+use Rattle.govisd_core.specs.file_core.Files.{decl_locals, decl_uses, file_locals, file_uses, tops_uses}
+use Rattle.govisd_core.specs.file_core.Imports.{imports_uses}
 use Rattle.go_names_core.specs.Body.{each_means}
-use Rattle.go_near_core.specs.Near.{IfAny, NearExported, NearField, NearForm, NearFound, NearOperand, NearRest, NearSelection}
-use Rattle.go_near_core.specs.Looks.{AreClosed, AreRulesClosed}
-use Rattle.go_near_core.proofs.Closing.{either}
-use Rattle.go_near_core.proofs.Pieces.{each_both, pieces_nearby}
-use Rattle.go_near_core.proofs.Walking.{MeansNear}
+use Rattle.go_snap_core.specs.near_core.Near.{IfAny, NearExported, NearField, NearForm, NearFound, NearOperand, NearRest, NearSelection}
+use Rattle.go_snap_core.specs.near_core.Looks.{AreClosed, AreRulesClosed}
+use Rattle.go_snap_core.specs.near_core.Closing.{either}
+use Rattle.go_snap_core.specs.near_core.PiecesProofs.{each_both, pieces_nearby}
+use Rattle.go_snap_core.specs.near_core.Walking.{MeansNear}
 use Rattle.go_laws_core.proofs.Terms.{AreFieldsIn, IsSignIn, IsTermIn, settled_in, term_in}
 use Rattle.go_laws_core.proofs.Tables.{IsEntryIn}
 use Rattle.go_laws_core.proofs.Selecting.{IsChoiceIn, IsFoundIn, params_in, results_in, selected_in, typed_in, under_in}
 use Rattle.go_laws_core.proofs.Answers.{AreKept, IsExportedKept, IsFieldKept, IsFoundKept, IsSelectionKept, alike_itself}
 use Rattle.go_laws_core.proofs.Uses.{IsUseIn, flat_each, piece_in, spec_in, specs_each, written_uses_in}
 use Rattle.go_laws_core.proofs.Walking.{SayIn, walk_in}
-use Rattle.go_statement_core.specs.Locality.{Each}
+use Rattle.go_piece_core.specs.statement_core.Locality.{Each}
 
 module _ (Inside : List ℕ → Type 0) where
   -- the name of a package stands for one of these; nothing else has names behind a dot that packages show

@@ -8,12 +8,12 @@ use Rattle.go_block_core.proofs.GivenSteps.{have_one_each}
 use Rattle.go_summary_core.specs.Summaries.{path_of}
 use Rattle.go_snap_core.specs.part_core.Inputs.{IsInput, path_in}
 use Rattle.go_snap_core.specs.part_core.Parts.{PartModel}
-use Rattle.go_whole_core.specs.Inputs.{ComesTo, ReachesPackage}
-use Rattle.go_whole_core.specs.mirrors.Steps.{AreRight}
-use Rattle.go_whole_core.proofs.Beside.{one_place}
-use Rattle.go_whole_core.proofs.Lists.{all_from_among}
-use Rattle.go_whole_core.proofs.Order.{reaches_others}
-use Rattle.go_whole_core.proofs.Parts.{path_told, told_by, well_reached}
+use Rattle.go_snap_core.specs.whole_core.Inputs.{ComesTo, ReachesPackage}
+use Rattle.go_snap_core.specs.whole_core.mirrors.Steps.{AreRight}
+use Rattle.go_snap_core.specs.whole_core.Beside.{one_place}
+use Rattle.go_snap_core.specs.whole_core.Lists.{all_from_among}
+use Rattle.go_snap_core.specs.whole_core.Order.{reaches_others}
+use Rattle.go_snap_core.specs.whole_core.Parts.{path_told, told_by, well_reached}
 
 module _ (ps : List PackageModel) (parts : List (Option PartModel)) (well : IsWorkspace ps) (right : AreRight ps parts) (n : ℕ) (part : PartModel) (there : slice_get parts n ≡ Some (Some part)) where
   -- no package is among those that it reaches

@@ -7,15 +7,15 @@ use Rattle.go_text_core.specs.declared.rule.Rule.TheVariants.{K3, K4, P1, P2}
 use Rattle.go_scan_core.proofs.Answered.{not_both}
 use Rattle.go_tree_nodes.specs.Trees.{FileTree}
 use Rattle.go_parse_core.specs.declared.error.SynFault.{SynFault}
-use Rattle.go_answer_core.specs.Outer.{fault}
+use Rattle.go_snap_core.specs.answer_core.Outer.{fault}
 use Rattle.go_graph_core.specs.Packages.{blank, trees_of}
 use Rattle.go_graph_core.specs.Sources.{SourceModel, IsContent, source}
 use Rattle.go_block_core.proofs.Growing.{package_weaker}
 use Rattle.go_local_core.specs.declared.Fault.{Fault}
 use Rattle.go_snap_core.specs.part_core.Inputs.{input_with}
 use Rattle.go_snap_core.specs.part_core.Parts.{FileOf, PartModel, part_with}
-use Rattle.go_whole_core.specs.Inputs.{AreParts, ComesTo}
-use Rattle.go_whole_core.specs.Laws.{PartsAreWhole}
+use Rattle.go_snap_core.specs.whole_core.Inputs.{AreParts, ComesTo}
+use Rattle.go_snap_core.specs.whole_core.Laws.{PartsAreWhole}
 use Rattle.go_snap_core.specs.declared.fault.PlacedFault.{PlacedFault}
 use Rattle.go_snap_core.specs.Faults.{AreFaults}
 use Rattle.go_snap_core.specs.Snapshots.{IsSnapshot, contents_of}

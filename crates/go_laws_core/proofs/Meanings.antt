@@ -17,17 +17,17 @@ use Rattle.go_block_core.specs.declared.binding.Target.TheVariants as targets
 use Rattle.go_block_core.specs.Blocks.{BlocksModel, file_binding}
 use Rattle.go_block_core.specs.Tables.{in_block}
 use Rattle.go_entry_core.specs.Meanings.{Shows, file_meaning, outside_meaning, plain_meaning, qualified_meaning, shown_type, type_in_binding, type_in_target, type_of_kind, type_of_predeclared, type_of_target, type_of_universe}
-use Rattle.go_handle_core.specs.Declarations.{Declaration, Universe, OfError, Package, InFile}
-use Rattle.go_face_core.specs.declared.face.Face.TheVariants as faces
-use Rattle.go_face_core.specs.Faces.{TheFace}
-use Rattle.go_face_core.specs.Packages.{PackageFacesModel, face_by, face_in, face_in_some, package_in, shown_in_some, shown_name}
-use Rattle.go_face_core.specs.Written.{position_of}
+use Rattle.govisd_core.specs.handle_core.Declarations.{Declaration, Universe, OfError, Package, InFile}
+use Rattle.go_summary_core.specs.face_core.declared.face.Face.TheVariants as faces
+use Rattle.go_summary_core.specs.face_core.Faces.{TheFace}
+use Rattle.go_summary_core.specs.face_core.Packages.{PackageFacesModel, face_by, face_in, face_in_some, package_in, shown_in_some, shown_name}
+use Rattle.go_summary_core.specs.face_core.Written.{position_of}
 use Rattle.go_names_core.specs.declared.meaning.Outside.{Outside}
 use Rattle.go_names_core.specs.declared.meaning.Outside.TheVariants as outsides
-use Rattle.go_env_core.specs.Scenes.{SceneModel}
-use Rattle.go_env_core.specs.Found.{TheExported, TheFound, exported_face, exported_shown, face_at, found_binding, found_exported, found_face, found_outside, found_target, found_universe}
-use Rattle.go_near_core.specs.Near.{IfAny, NearExported, NearFound, NearOperand}
-use Rattle.go_whole_core.specs.Known.{IsTargetIn}
+use Rattle.govisd_core.specs.env_core.Scenes.{SceneModel}
+use Rattle.govisd_core.specs.env_core.Found.{TheExported, TheFound, exported_face, exported_shown, face_at, found_binding, found_exported, found_face, found_outside, found_target, found_universe}
+use Rattle.go_snap_core.specs.near_core.Near.{IfAny, NearExported, NearFound, NearOperand}
+use Rattle.go_snap_core.specs.whole_core.Known.{IsTargetIn}
 use Rattle.go_laws_core.proofs.Terms.{IsSignIn, IsTermIn}
 use Rattle.go_laws_core.proofs.Answers.{IsDeclIn, IsExportedKept, IsFoundKept}
 use Rattle.go_laws_core.proofs.Functions.{IsPackageIn, Near, Rest}

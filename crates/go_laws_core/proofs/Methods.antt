@@ -12,7 +12,7 @@ use Rattle.go_table_core.specs.Tables.{AreOf}
 use Rattle.go_summary_core.specs.Summaries.{SummaryModel, IsOfOne, path_of}
 use Rattle.go_summary_core.proofs.Viewed.{text_apart}
 use Rattle.go_summary_core.specs.Views.{PathsAreApart, types_told}
-use Rattle.go_whole_core.proofs.Lists.{among_all, pairs_head, pairs_tail}
+use Rattle.go_snap_core.specs.whole_core.Lists.{among_all, pairs_head, pairs_tail}
 use Rattle.go_fragment_core.specs.declared.names.Meaning.{Meaning}
 use Rattle.go_fragment_core.specs.declared.names.Meaning.TheVariants as meanings
 use Rattle.go_snap_core.specs.meaning_core.Words.{sign_gives}

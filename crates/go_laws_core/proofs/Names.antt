@@ -27,20 +27,20 @@ use Rattle.go_denote_core.specs.declared.things.Outcome.{Outcome}
 use Rattle.go_denote_core.specs.declared.things.Outcome.TheVariants as outcomes
 use Rattle.go_denote_core.specs.declared.things.Selection.{Selection}
 use Rattle.go_denote_core.specs.declared.things.Selection.TheVariants as selections
-use Rattle.go_handle_core.specs.Declarations.{Declaration, Universe, OfError, Package, InFile}
-use Rattle.go_face_core.specs.Packages.{PackageFacesModel, face_by, face_in, face_in_some, package_in, shown_in_some, shown_name}
-use Rattle.go_env_core.specs.declared.meaning.Meaning.{Meaning as NameMeaning}
-use Rattle.go_env_core.specs.declared.meaning.Meaning.TheVariants as means
-use Rattle.go_env_core.specs.Found.{exported_shown, found_binding, found_exported, found_of, found_outside, found_target, found_universe, own_face}
-use Rattle.go_env_core.specs.Looks.{TheLooks}
-use Rattle.go_body_core.specs.Notes.{TheLocal, TheValue}
-use Rattle.go_func_core.specs.Functions.{AreFuncDeclarations, checked_func}
-use Rattle.go_func_core.specs.Locals.{LocalsAreDeclarations}
-use Rattle.go_func_core.specs.Stands.{FileStand, outer_meanings}
-use Rattle.go_file_core.specs.Files.{decl_locals}
-use Rattle.go_file_core.specs.Stands.{file_funcs}
-use Rattle.go_whole_core.specs.Known.{IsImportedPath, IsTargetIn}
-use Rattle.go_whole_core.specs.LocalLaws.{ImportsBindTheirs}
+use Rattle.govisd_core.specs.handle_core.Declarations.{Declaration, Universe, OfError, Package, InFile}
+use Rattle.go_summary_core.specs.face_core.Packages.{PackageFacesModel, face_by, face_in, face_in_some, package_in, shown_in_some, shown_name}
+use Rattle.govisd_core.specs.env_core.declared.meaning.Meaning.{Meaning as NameMeaning}
+use Rattle.govisd_core.specs.env_core.declared.meaning.Meaning.TheVariants as means
+use Rattle.govisd_core.specs.env_core.Found.{exported_shown, found_binding, found_exported, found_of, found_outside, found_target, found_universe, own_face}
+use Rattle.govisd_core.specs.env_core.Looks.{TheLooks}
+use Rattle.govisd_core.specs.body_core.Notes.{TheLocal, TheValue}
+use Rattle.govisd_core.specs.func_core.Functions.{AreFuncDeclarations, checked_func}
+use Rattle.govisd_core.specs.func_core.Locals.{LocalsAreDeclarations}
+use Rattle.govisd_core.specs.func_core.Stands.{FileStand, outer_meanings}
+use Rattle.govisd_core.specs.file_core.Files.{decl_locals}
+use Rattle.govisd_core.specs.file_core.Stands.{file_funcs}
+use Rattle.go_snap_core.specs.whole_core.Known.{IsImportedPath, IsTargetIn}
+use Rattle.go_snap_core.specs.whole_core.LocalLaws.{ImportsBindTheirs}
 use Rattle.go_summary_core.specs.Views.{faces_told, types_told}
 use Rattle.go_snap_core.specs.part_core.Inputs.{InputModel, IsInput, path_in}
 use Rattle.go_snap_core.specs.part_core.Parts.{ContentOf, FileOf, IsPart}

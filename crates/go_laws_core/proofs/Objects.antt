@@ -8,22 +8,22 @@ use Rattle.go_graph_core.specs.Plans.{PlanModel, IsPlan}
 use Rattle.go_graph_core.proofs.PlanLaws.{has_plan}
 use Rattle.go_graph_core.specs.Workspaces.{PackageModel, IsWorkspace}
 use Rattle.go_entry_core.proofs.Among.{Among, among_cases, among_from, among_left, among_map, among_right, among_to}
-use Rattle.go_whole_core.specs.Known.{KnownAlike}
-use Rattle.go_whole_core.specs.LocalLaws.{CheckIsLocal, ImportsBindTheirs}
-use Rattle.go_handle_core.specs.Declarations.{Declaration}
-use Rattle.go_body_core.specs.Notes.{TheUse}
-use Rattle.go_ready_core.specs.Packages.{trees_in}
+use Rattle.go_snap_core.specs.whole_core.Known.{KnownAlike}
+use Rattle.go_snap_core.specs.whole_core.LocalLaws.{CheckIsLocal, ImportsBindTheirs}
+use Rattle.govisd_core.specs.handle_core.Declarations.{Declaration}
+use Rattle.govisd_core.specs.body_core.Notes.{TheUse}
+use Rattle.govisd_core.specs.ready_core.Packages.{trees_in}
 use Rattle.go_summary_core.specs.Summaries.{SummaryModel, IsOfOne, path_of}
 use Rattle.go_summary_core.specs.Views.{PathsAreApart, faces_told, types_told}
 use Rattle.go_snap_core.specs.part_core.Inputs.{InputModel, path_in}
 use Rattle.go_snap_core.specs.part_core.Parts.{ContentOf, FileOf, IsPart, PartModel}
-use Rattle.go_whole_core.specs.Inputs.{AreParts, Tells}
-use Rattle.go_whole_core.specs.mirrors.Steps.{AreRight}
-use Rattle.go_whole_core.proofs.Lists.{all_from_among, among_all, pairs_head, pairs_tail}
-use Rattle.go_whole_core.proofs.Told.{AreWell, NoneIsOf, known_alike, known_by}
-use Rattle.go_whole_core.proofs.Parts.{all_inside, none_reached, of_one, path_told, reach_paths, told_by, well_reached}
-use Rattle.go_whole_core.proofs.PartsWhole.{all_right}
-use Rattle.go_whole_core.proofs.Checks.{trees_are_placed}
+use Rattle.go_snap_core.specs.whole_core.Inputs.{AreParts, Tells}
+use Rattle.go_snap_core.specs.whole_core.mirrors.Steps.{AreRight}
+use Rattle.go_snap_core.specs.whole_core.Lists.{all_from_among, among_all, pairs_head, pairs_tail}
+use Rattle.go_snap_core.specs.whole_core.Told.{AreWell, NoneIsOf, known_alike, known_by}
+use Rattle.go_snap_core.specs.whole_core.Parts.{all_inside, none_reached, of_one, path_told, reach_paths, told_by, well_reached}
+use Rattle.go_snap_core.specs.whole_core.PartsWhole.{all_right}
+use Rattle.go_snap_core.specs.whole_core.Checks.{trees_are_placed}
 use Rattle.go_object_core.specs.Objects.{FunctionOf, ObjectOf}
 use Rattle.go_snap_core.specs.meaning_core.Scenes.{methods_spotted, package_decl_refs}
 use Rattle.go_lookup_core.specs.Places.{spotted_meaning, decl_spot}
@@ -39,7 +39,7 @@ use Rattle.go_laws_core.proofs.Parts.{IsFileIn, IsPartIn, IsToldOf, all_in, face
 use Rattle.go_laws_core.specs.Reached.{HasDeclaredIn, reached_paths}
 use Rattle.go_laws_core.specs.ObjectLaws.{AreOfPartsAlone}
 use Rattle.go_tree_nodes.specs.Spelling.{IsPlaced}
-use Rattle.go_statement_core.specs.Locality.{Each}
+use Rattle.go_piece_core.specs.statement_core.Locality.{Each}
 use Rattle.go_snap_core.specs.part_core.Slots.{if_there, somes}
 
 -- one more behind others that are apart from it

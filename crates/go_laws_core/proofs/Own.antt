@@ -14,11 +14,11 @@ use Rattle.go_summary_core.proofs.Viewed.{text_apart}
 use Rattle.go_written_core.specs.Written.{InFile, Meaning as TypeMeaning}
 use Rattle.go_entry_core.specs.Entries.{Meanings, file_at}
 use Rattle.go_entry_core.specs.Outlines.{outline_of}
-use Rattle.go_face_core.specs.Faces.{TheFace}
-use Rattle.go_face_core.specs.Packages.{DeclaredOf, face_among}
-use Rattle.go_face_core.specs.Written.{WrittenOf, decls_of, file_written, position_of, same_decl_place, written_with}
-use Rattle.go_answer_core.specs.Shown.{is_decl_listed, shown_among, shown_if}
-use Rattle.go_env_core.specs.Found.{face_at}
+use Rattle.go_summary_core.specs.face_core.Faces.{TheFace}
+use Rattle.go_summary_core.specs.face_core.Packages.{DeclaredOf, face_among}
+use Rattle.go_summary_core.specs.face_core.Written.{WrittenOf, decls_of, file_written, position_of, same_decl_place, written_with}
+use Rattle.go_snap_core.specs.answer_core.Shown.{is_decl_listed, shown_among, shown_if}
+use Rattle.govisd_core.specs.env_core.Found.{face_at}
 use Rattle.go_fragment_core.specs.declared.names.Meaning.{Meaning}
 use Rattle.go_fragment_core.specs.declared.names.Meaning.TheVariants as meanings
 use Rattle.go_snap_core.specs.meaning_core.Meanings.{some_face_meaning}

@@ -20,32 +20,32 @@ use Rattle.go_written_core.specs.Written.{InFile, Meaning, signature_of, term_of
 use Rattle.go_entry_core.specs.Entries.{Meanings, file_at, package_meanings, type_key}
 use Rattle.go_entry_core.specs.Outlines.{FileOutline, outline_of}
 use Rattle.go_entry_core.proofs.Among.{Among, among_flat, among_from, among_map, among_to}
-use Rattle.go_face_core.specs.Faces.{TheFace, variable_face}
-use Rattle.go_face_core.specs.Laws.{FileDecl}
-use Rattle.go_face_core.specs.Packages.{PackageFacesModel, face_among, face_by, face_in}
-use Rattle.go_face_core.specs.Written as writing
-use Rattle.go_face_core.specs.Written.{WrittenOf, decls_of, face_found, file_written, same_decl_place, type_written, written_at, written_of, written_with}
-use Rattle.go_env_core.specs.Looks.{TheLooks}
-use Rattle.go_func_core.specs.Stands.{outer_looks}
+use Rattle.go_summary_core.specs.face_core.Faces.{TheFace, variable_face}
+use Rattle.go_summary_core.specs.face_core.Laws.{FileDecl}
+use Rattle.go_summary_core.specs.face_core.Packages.{PackageFacesModel, face_among, face_by, face_in}
+use Rattle.go_summary_core.specs.face_core.Written as writing
+use Rattle.go_summary_core.specs.face_core.Written.{WrittenOf, decls_of, face_found, file_written, same_decl_place, type_written, written_at, written_of, written_with}
+use Rattle.govisd_core.specs.env_core.Looks.{TheLooks}
+use Rattle.govisd_core.specs.func_core.Stands.{outer_looks}
 use Rattle.go_piece_core.specs.Specifications.{outer_values}
 use Rattle.go_needs_core.specs.Needs.{EndsWithin, known_in, needed}
-use Rattle.go_value_core.specs.Initial.{initial}
-use Rattle.go_value_core.specs.Package as values
-use Rattle.go_value_core.specs.Package.{first_values, form_face, written_face}
-use Rattle.go_value_core.proofs.Owning.{outer_alike}
-use Rattle.go_value_core.proofs.Deciding.{needs_decide}
-use Rattle.go_answer_core.specs.Shown.{exported_decls, is_decl_listed, shown_among, shown_if}
-use Rattle.go_ready_core.specs.Laws.{package_placed}
-use Rattle.go_face_core.proofs.Places.{among_at}
-use Rattle.go_ready_core.specs.Packages.{PackageIn, entries_in, outlines_in, scene_in, stand_in}
-use Rattle.go_ready_core.specs.Values.{declared_in, decls_in, needs_in, some_decl_face}
-use Rattle.go_ready_core.proofs.Values.{faces_same, needs_same}
+use Rattle.govisd_core.specs.value_core.Initial.{initial}
+use Rattle.govisd_core.specs.value_core.Package as values
+use Rattle.govisd_core.specs.value_core.Package.{first_values, form_face, written_face}
+use Rattle.govisd_core.specs.value_core.Owning.{outer_alike}
+use Rattle.govisd_core.specs.value_core.Deciding.{needs_decide}
+use Rattle.go_snap_core.specs.answer_core.Shown.{exported_decls, is_decl_listed, shown_among, shown_if}
+use Rattle.govisd_core.specs.ready_core.Laws.{package_placed}
+use Rattle.go_summary_core.specs.face_core.Places.{among_at}
+use Rattle.govisd_core.specs.ready_core.Packages.{PackageIn, entries_in, outlines_in, scene_in, stand_in}
+use Rattle.govisd_core.specs.ready_core.Values.{declared_in, decls_in, needs_in, some_decl_face}
+use Rattle.govisd_core.specs.ready_core.ValuesProofs.{faces_same, needs_same}
 use Rattle.go_snap_core.specs.package_core.Checked.{AnswersOf, CheckedOf, IsChecked, IsFileChecked, imports_at, stand_at}
-use Rattle.go_near_core.specs.Near.{IfAny, NearOperand}
-use Rattle.go_near_core.proofs.Closing.{either}
-use Rattle.go_near_core.proofs.Pieces.{outer_nearby}
-use Rattle.go_whole_core.specs.Known.{BindsInside}
-use Rattle.go_whole_core.proofs.Values.{each_at, is_or_not, mapped_at}
+use Rattle.go_snap_core.specs.near_core.Near.{IfAny, NearOperand}
+use Rattle.go_snap_core.specs.near_core.Closing.{either}
+use Rattle.go_snap_core.specs.near_core.PiecesProofs.{outer_nearby}
+use Rattle.go_snap_core.specs.whole_core.Known.{BindsInside}
+use Rattle.go_snap_core.specs.whole_core.Values.{each_at, is_or_not, mapped_at}
 use Rattle.go_laws_core.proofs.Terms.{IsTermIn, settled_in, settled_sign_in, signature_in, term_in}
 use Rattle.go_laws_core.proofs.Tables.{AreEntriesIn, IsEntryIn, both_in, own_in, written_in}
 use Rattle.go_laws_core.proofs.Answers.{alike_itself}
@@ -54,7 +54,7 @@ use Rattle.go_laws_core.proofs.Functions.{IsImportIn, IsLocalIn, IsStandIn, Near
 use Rattle.go_laws_core.proofs.Meanings.{IsAnyIn, IsFaceIn, behind_dot_in, meaning_in, outside_in}
 use Rattle.go_tree_nodes.specs.Spelling.{IsPlaced}
 use Rattle.go_table_core.specs.Entries.{kinds_in}
-use Rattle.go_statement_core.specs.Locality.{Each}
+use Rattle.go_piece_core.specs.statement_core.Locality.{Each}
 
 -- what a table has for the numbers of a list, and nothing for others
 abbrev kept : (ℕ → Option TheFace) → (ns : List ℕ) (m : ℕ) → Among ns m ⊎ (Among ns m → ⊥) → Option TheFace

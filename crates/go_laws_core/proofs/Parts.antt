@@ -15,28 +15,28 @@ use Rattle.go_block_core.specs.Blocks.{BlocksModel}
 use Rattle.go_block_core.specs.Exports.{ExportsModel}
 use Rattle.go_table_core.specs.Entries.{Entry, find_entry}
 use Rattle.go_entry_core.proofs.Among.{Among, among_from, among_map, among_to}
-use Rattle.go_whole_core.specs.LocalLaws.{CheckIsLocal, ImportsBindTheirs}
-use Rattle.go_face_core.specs.Faces.{TheFace}
-use Rattle.go_face_core.specs.Packages.{face_in}
-use Rattle.go_handle_core.specs.Declarations.{Declaration}
+use Rattle.go_snap_core.specs.whole_core.LocalLaws.{CheckIsLocal, ImportsBindTheirs}
+use Rattle.go_summary_core.specs.face_core.Faces.{TheFace}
+use Rattle.go_summary_core.specs.face_core.Packages.{face_in}
+use Rattle.govisd_core.specs.handle_core.Declarations.{Declaration}
 use Rattle.go_denote_core.specs.declared.things.Outcome.{Outcome}
 use Rattle.go_denote_core.specs.declared.things.Outcome.TheVariants as outcomes
-use Rattle.go_body_core.specs.Notes.{TheUse}
-use Rattle.go_near_core.proofs.Closing.{either}
-use Rattle.go_ready_core.specs.Packages.{trees_in}
+use Rattle.govisd_core.specs.body_core.Notes.{TheUse}
+use Rattle.go_snap_core.specs.near_core.Closing.{either}
+use Rattle.govisd_core.specs.ready_core.Packages.{trees_in}
 use Rattle.go_snap_core.specs.package_core.Checked.{AnswersOf}
 use Rattle.go_summary_core.specs.Summaries.{SummaryModel, path_of}
 use Rattle.go_summary_core.proofs.Telling.{nothing_else, views_tell}
 use Rattle.go_summary_core.specs.Views.{faces_told, types_told}
-use Rattle.go_used_core.specs.Used.{is_import, judged_import, refused_use, unused_outcome}
+use Rattle.govisd_core.specs.used_core.Used.{is_import, judged_import, refused_use, unused_outcome}
 use Rattle.go_snap_core.specs.part_core.Inputs.{InputModel, path_in}
 use Rattle.go_snap_core.specs.part_core.Parts.{FileOf, IsFileMadeIn, PartModel, package_seen, seen_by}
-use Rattle.go_whole_core.specs.Inputs.{ComesTo, ReachesPackage, Shown}
-use Rattle.go_whole_core.specs.mirrors.Steps.{AreRight}
-use Rattle.go_whole_core.proofs.Told.{AreWell, NoneIsOf}
-use Rattle.go_whole_core.proofs.Order.{along, reaches_next, reaches_on}
-use Rattle.go_whole_core.proofs.Theirs.{Leads, imports_lead, passes}
-use Rattle.go_whole_core.proofs.Parts.{all_inside, none_reached, path_told, reach_paths, stand_over, told_by, told_to, well_reached}
+use Rattle.go_snap_core.specs.whole_core.Inputs.{ComesTo, ReachesPackage, Shown}
+use Rattle.go_snap_core.specs.whole_core.mirrors.Steps.{AreRight}
+use Rattle.go_snap_core.specs.whole_core.Told.{AreWell, NoneIsOf}
+use Rattle.go_snap_core.specs.whole_core.Order.{along, reaches_next, reaches_on}
+use Rattle.go_snap_core.specs.whole_core.Theirs.{Leads, imports_lead, passes}
+use Rattle.go_snap_core.specs.whole_core.Parts.{all_inside, none_reached, path_told, reach_paths, stand_over, told_by, told_to, well_reached}
 use Rattle.go_laws_core.proofs.Tables.{IsEntryIn, find_in}
 use Rattle.go_laws_core.proofs.Answers.{IsOutcomeIn}
 use Rattle.go_laws_core.proofs.Uses.{IsUseIn}
@@ -44,7 +44,7 @@ use Rattle.go_laws_core.proofs.Functions.{IsImportIn, IsLocalIn}
 use Rattle.go_laws_core.proofs.Meanings.{IsFaceIn}
 use Rattle.go_laws_core.proofs.Packages.{AreAnswersIn, AreKnownIn, files_in, known_inside, shown_inside, types_in}
 use Rattle.go_laws_core.proofs.Wider.{IsToldIn, told_wider}
-use Rattle.go_statement_core.specs.Locality.{Each}
+use Rattle.go_piece_core.specs.statement_core.Locality.{Each}
 
 all_each : {X : Type 0} (Is : X → Type 0) (xs : List X) → ((x : X) → Among xs x → Is x) → Each Is xs
 all_each Is [] h = tt

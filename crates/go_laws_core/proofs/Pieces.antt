@@ -20,15 +20,15 @@ use Rattle.go_piece_core.specs.Headers.{returned_names, returned_types}
 use Rattle.go_piece_core.specs.Pieces.{piece_faults, piece_uses}
 use Rattle.go_piece_core.specs.Specifications.{values_faults, values_uses}
 use Rattle.go_piece_core.specs.Targets.{target_faults, target_uses, targets_faults, targets_uses}
-use Rattle.go_env_core.specs.declared.meaning.Meaning.{Meaning}
-use Rattle.go_env_core.specs.Looks.{TheLooks}
-use Rattle.go_body_core.specs.Body.{BodyOf}
-use Rattle.go_body_core.specs.Notes.{NoteOf, TheUse, noted_faults}
-use Rattle.go_func_core.specs.Functions.{AreFuncDeclarations, checked_func, func_by, func_rules}
-use Rattle.go_func_core.specs.Laws.{FunctionsHaveOneTable}
-use Rattle.go_func_core.specs.Stands.{FileStand, outer_looks, outer_meanings}
-use Rattle.go_file_core.specs.Stands.{decl_funcs, file_funcs}
-use Rattle.go_value_core.specs.Initial.{exprs}
+use Rattle.govisd_core.specs.env_core.declared.meaning.Meaning.{Meaning}
+use Rattle.govisd_core.specs.env_core.Looks.{TheLooks}
+use Rattle.govisd_core.specs.body_core.Body.{BodyOf}
+use Rattle.govisd_core.specs.body_core.Notes.{NoteOf, TheUse, noted_faults}
+use Rattle.govisd_core.specs.func_core.Functions.{AreFuncDeclarations, checked_func, func_by, func_rules}
+use Rattle.govisd_core.specs.func_core.Laws.{FunctionsHaveOneTable}
+use Rattle.govisd_core.specs.func_core.Stands.{FileStand, outer_looks, outer_meanings}
+use Rattle.govisd_core.specs.file_core.Stands.{decl_funcs, file_funcs}
+use Rattle.govisd_core.specs.value_core.Initial.{exprs}
 use Rattle.go_laws_core.specs.Standing.{looks_among, piece_exprs, pieces_in, pieces_of, target_listed, targets_listed, values_listed}
 use Rattle.go_fold_core.proofs.Inside.{none_left, none_right}
 use Rattle.go_laws_core.proofs.ConstantLists.{HasItem, InOne, from_flat, has_either, has_flat, has_left, has_right, none_in}

@@ -16,11 +16,11 @@ use Rattle.go_table_core.specs.Entries.{Entry, find_entry}
 use Rattle.go_denote_core.specs.declared.things.Outcome.{Outcome}
 use Rattle.go_denote_core.specs.declared.things.Outcome.TheVariants as outcomes
 use Rattle.go_decide_core.specs.Rules.{form_of, results_of, term_rules}
-use Rattle.go_handle_core.specs.Declarations.{Declaration}
-use Rattle.go_face_core.specs.declared.face.Face.TheVariants as faces
-use Rattle.go_face_core.specs.Faces.{TheFace}
-use Rattle.go_env_core.specs.Found.{exported_face, found_face}
-use Rattle.go_env_core.specs.Looks.{TheLooks}
+use Rattle.govisd_core.specs.handle_core.Declarations.{Declaration}
+use Rattle.go_summary_core.specs.face_core.declared.face.Face.TheVariants as faces
+use Rattle.go_summary_core.specs.face_core.Faces.{TheFace}
+use Rattle.govisd_core.specs.env_core.Found.{exported_face, found_face}
+use Rattle.govisd_core.specs.env_core.Looks.{TheLooks}
 use Rattle.go_fragment_core.specs.Fragment.{over}
 use Rattle.go_snap_core.specs.meaning_core.Words.{form_word, results_give, sign_gives, some_word, value_word}
 use Rattle.go_snap_core.specs.meaning_core.Meanings.{constant_meaning, constant_meaning_or, local_meaning, some_face_meaning, type_meaning, value_meaning, variable_meaning}

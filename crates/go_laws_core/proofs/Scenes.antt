@@ -18,13 +18,13 @@ use Rattle.go_operand_core.specs.declared.types.ValueType.{ValueType}
 use Rattle.go_operand_core.specs.declared.types.ValueType.TheVariants as value_types
 use Rattle.go_denote_core.specs.declared.things.Outcome.{Outcome}
 use Rattle.go_denote_core.specs.declared.things.Outcome.TheVariants as outcomes
-use Rattle.go_handle_core.specs.Declarations.{Declaration, Universe, OfError, Package, InFile}
-use Rattle.go_face_core.specs.declared.face.Face.TheVariants as faces
-use Rattle.go_face_core.specs.Faces.{TheFace}
-use Rattle.go_face_core.specs.Packages.{PackageFacesModel, face_in}
-use Rattle.go_body_core.specs.Notes.{TheLocal, TheUse}
-use Rattle.go_near_core.specs.Near.{IfAny, NearOperand, NearValue}
-use Rattle.go_near_core.proofs.Closing.{either}
+use Rattle.govisd_core.specs.handle_core.Declarations.{Declaration, Universe, OfError, Package, InFile}
+use Rattle.go_summary_core.specs.face_core.declared.face.Face.TheVariants as faces
+use Rattle.go_summary_core.specs.face_core.Faces.{TheFace}
+use Rattle.go_summary_core.specs.face_core.Packages.{PackageFacesModel, face_in}
+use Rattle.govisd_core.specs.body_core.Notes.{TheLocal, TheUse}
+use Rattle.go_snap_core.specs.near_core.Near.{IfAny, NearOperand, NearValue}
+use Rattle.go_snap_core.specs.near_core.Closing.{either}
 use Rattle.go_snap_core.specs.part_core.Parts.{FileOf}
 use Rattle.go_fragment_core.specs.declared.names.Meaning.{Meaning}
 use Rattle.go_fragment_core.specs.declared.names.Meaning.TheVariants as meanings
@@ -41,7 +41,7 @@ use Rattle.go_laws_core.proofs.Answers.{IsDeclIn, IsOutcomeIn}
 use Rattle.go_laws_core.proofs.Uses.{IsUseIn}
 use Rattle.go_laws_core.proofs.Functions.{IsLocalIn}
 use Rattle.go_laws_core.proofs.Meanings.{IsAnyIn, IsFaceIn}
-use Rattle.go_statement_core.specs.Locality.{Each}
+use Rattle.go_piece_core.specs.statement_core.Locality.{Each}
 
 module _ (Inside : List ℕ → Type 0) (es fs : List Entry) (same : (k : DeclKey) → Inside k.path → find_entry es k ≡ find_entry fs k) where
   -- types

@@ -3,17 +3,17 @@ use Rattle.std.proofs.Common.{◌≡◌, ℕ, suc, List, [], ◌∷◌, All, Opt
 use Rattle.std.specs.Prelude.{slice_get}
 use Rattle.std.proofs.lemmas.List.Elements.{All-nil, All-cons, All-append}
 use Rattle.go_graph_core.specs.Workspaces.{PackageModel, IsWorkspace}
-use Rattle.go_handle_core.specs.Declarations.{Declaration}
+use Rattle.govisd_core.specs.handle_core.Declarations.{Declaration}
 use Rattle.go_entry_core.proofs.Among.{Among, among_to}
 use Rattle.go_summary_core.specs.Summaries.{SummaryModel}
 use Rattle.go_snap_core.specs.part_core.Inputs.{IsInput}
 use Rattle.go_snap_core.specs.part_core.Parts.{PartModel}
 use Rattle.go_object_core.specs.Objects.{ObjectOf}
 use Rattle.go_snap_core.specs.emit_core.Emitted.{object_over, objects_over, told_by}
-use Rattle.go_whole_core.specs.Inputs.{AreParts}
-use Rattle.go_whole_core.specs.mirrors.Steps.{AreRight}
-use Rattle.go_whole_core.proofs.Checks.{trees_are_placed}
-use Rattle.go_whole_core.proofs.PartsWhole.{all_right}
+use Rattle.go_snap_core.specs.whole_core.Inputs.{AreParts}
+use Rattle.go_snap_core.specs.whole_core.mirrors.Steps.{AreRight}
+use Rattle.go_snap_core.specs.whole_core.Checks.{trees_are_placed}
+use Rattle.go_snap_core.specs.whole_core.PartsWhole.{all_right}
 use Rattle.go_snap_core.proofs.Faulty.{read_there}
 use Rattle.go_laws_core.proofs.Given.{is_input}
 use Rattle.go_laws_core.proofs.Grammar.{all_keep_rules}

@@ -21,7 +21,7 @@ use Rattle.go_written_core.specs.Written.{InFile, Meaning}
 use Rattle.go_entry_core.specs.Entries.{Meanings, Received, decl_methods, entries_with, entry_of, file_at, file_entries, file_methods, func_methods, is_type_of, methods_received, package_methods, spec_entry, type_key}
 use Rattle.go_entry_core.specs.Outlines.{FileOutline}
 use Rattle.go_entry_core.proofs.Among.{Among, among_filter, among_flat, among_map}
-use Rattle.go_near_core.proofs.Closing.{either}
+use Rattle.go_snap_core.specs.near_core.Closing.{either}
 use Rattle.go_laws_core.proofs.Terms.{IsSignIn, IsTermIn, settled_in, settled_sign_in, signature_in, term_in}
 
 module _ (Inside : List ℕ → Type 0) where

@@ -2,12 +2,12 @@
 use Rattle.std.proofs.Common.{◌≡◌, ◌++◌, ℕ, List, [], ◌∷◌, Option, Some, None, refl, ap, subst, ◌∙◌}
 use Rattle.std.specs.Prelude.{slice_get}
 use Rattle.std.specs.List.{AllZip}
-use Rattle.go_ready_core.specs.Packages.{trees_in}
+use Rattle.govisd_core.specs.ready_core.Packages.{trees_in}
 use Rattle.go_graph_core.specs.Workspaces.{PackageModel}
 use Rattle.go_graph_core.proofs.Zips.{zip_at}
 use Rattle.go_snap_core.specs.part_core.Parts.{PartModel}
-use Rattle.go_whole_core.specs.Entries.{IsPartAmong, IsPartEntry}
-use Rattle.go_whole_core.specs.Whole.{WholeOf}
+use Rattle.go_snap_core.specs.whole_core.Entries.{IsPartAmong, IsPartEntry}
+use Rattle.go_snap_core.specs.whole_core.Whole.{WholeOf}
 use Rattle.go_snap_core.specs.emit_core.Emitted.{object_in, object_over, told_by}
 use Rattle.go_snap_core.specs.meaning_core.Scenes.{package_decl_refs, scene_by}
 use Rattle.go_summary_core.specs.Summaries.{SummaryModel}

@@ -12,7 +12,7 @@ use Rattle.go_settle_core.specs.declared.kind.Kind.{Kind}
 use Rattle.go_settle_core.specs.declared.kind.Kind.TheVariants as kinds
 use Rattle.go_settle_core.specs.Settled.{is_among_names, repeats_earlier, pointer_to, defined_unless, settled, settled_fields, settled_methods, settled_sign, settled_terms}
 use Rattle.go_written_core.specs.Written.{InFile, Meaning, tag_of, term_starred, named_fields, for_each, for_names, term_of, fields_of_tree, methods_of_tree, signature_of, results_of_tree, params_of_tree}
-use Rattle.go_near_core.proofs.Closing.{either}
+use Rattle.go_snap_core.specs.near_core.Closing.{either}
 
 module _ (Inside : List ℕ → Type 0) where
   abbrev mutual

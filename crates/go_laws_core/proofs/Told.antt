@@ -7,11 +7,11 @@ use Rattle.go_decl_core.specs.declared.keys.DeclRef.{DeclRef}
 use Rattle.go_table_core.specs.Entries.{Entry}
 use Rattle.go_table_core.proofs.Finding.{bytes_same}
 use Rattle.go_entry_core.specs.Entries.{package_meanings}
-use Rattle.go_face_core.specs.Packages.{PackageFacesModel, face_among, face_in_some, package_in}
-use Rattle.go_face_core.specs.Written.{decls_of, position_of}
-use Rattle.go_answer_core.specs.Shown.{exported_decls, package_shown, shown_among}
-use Rattle.go_ready_core.specs.Packages.{PackageIn, scene_in, trees_in}
-use Rattle.go_env_core.specs.Found.{face_at}
+use Rattle.go_summary_core.specs.face_core.Packages.{PackageFacesModel, face_among, face_in_some, package_in}
+use Rattle.go_summary_core.specs.face_core.Written.{decls_of, position_of}
+use Rattle.go_snap_core.specs.answer_core.Shown.{exported_decls, package_shown, shown_among}
+use Rattle.govisd_core.specs.ready_core.Packages.{PackageIn, scene_in, trees_in}
+use Rattle.govisd_core.specs.env_core.Found.{face_at}
 use Rattle.go_summary_core.specs.Summaries.{SummaryModel, IsOfOne, path_of}
 use Rattle.go_summary_core.specs.Views.{faces_told, types_told}
 use Rattle.go_summary_core.proofs.Viewed.{text_apart}

@@ -30,16 +30,16 @@ use Rattle.go_piece_core.specs.Specifications.{spec_uses, values_uses}
 use Rattle.go_piece_core.specs.Statements.{returned_uses, simple_uses}
 use Rattle.go_piece_core.specs.Targets.{target_uses, targets_uses}
 use Rattle.go_piece_core.specs.Types.{some_type_uses}
-use Rattle.go_handle_core.specs.Declarations.{Declaration}
-use Rattle.go_env_core.specs.Looks.{TheLooks}
-use Rattle.go_body_core.specs.Notes.{TheUse}
-use Rattle.go_near_core.specs.Near.{NearRest, IfAny}
-use Rattle.go_near_core.specs.Looks.{AreClosed}
-use Rattle.go_near_core.proofs.Closing.{either}
-use Rattle.go_near_core.proofs.Expressions.{named_near, written_near}
-use Rattle.go_near_core.proofs.Pieces.{each_both}
+use Rattle.govisd_core.specs.handle_core.Declarations.{Declaration}
+use Rattle.govisd_core.specs.env_core.Looks.{TheLooks}
+use Rattle.govisd_core.specs.body_core.Notes.{TheUse}
+use Rattle.go_snap_core.specs.near_core.Near.{NearRest, IfAny}
+use Rattle.go_snap_core.specs.near_core.Looks.{AreClosed}
+use Rattle.go_snap_core.specs.near_core.Closing.{either}
+use Rattle.go_snap_core.specs.near_core.Expressions.{named_near, written_near}
+use Rattle.go_snap_core.specs.near_core.PiecesProofs.{each_both}
 use Rattle.go_laws_core.proofs.Answers.{AreKept, IsOutcomeIn, alike_itself, call_in, denoted_in, ident_in, key_in, select_in, type_name_in}
-use Rattle.go_statement_core.specs.Locality.{Each}
+use Rattle.go_piece_core.specs.statement_core.Locality.{Each}
 
 pub mapped_each : {A B : Type 0} (Is : B → Type 0) (f : A → B) (xs ys : List A) → Each Is (map f xs) → Each Is (map f ys) → Each Is (map f (xs ++ ys))
 mapped_each Is f [] ys h k = k

@@ -8,11 +8,11 @@ use Rattle.go_local_core.specs.Steps.{Piece, Steps, Done, Check, Declare, Inner}
 use Rattle.go_local_core.specs.Binding.{NameLook}
 use Rattle.go_local_core.specs.Law.{Rules}
 use Rattle.go_local_core.specs.mirrors.Walk.{Names, latest, look_in, is_new, with_name, with_names, news, names_of, walk_out}
-use Rattle.go_near_core.specs.Near.{IfAny}
-use Rattle.go_near_core.proofs.Closing.{either}
-use Rattle.go_near_core.proofs.Pieces.{each_both}
-use Rattle.go_near_core.proofs.Walking.{MeansNear}
-use Rattle.go_statement_core.specs.Locality.{Each}
+use Rattle.go_snap_core.specs.near_core.Near.{IfAny}
+use Rattle.go_snap_core.specs.near_core.Closing.{either}
+use Rattle.go_snap_core.specs.near_core.PiecesProofs.{each_both}
+use Rattle.go_snap_core.specs.near_core.Walking.{MeansNear}
+use Rattle.go_piece_core.specs.statement_core.Locality.{Each}
 
 or_in : {X : Type 0} (Is : X → Type 0) (a b : Option X) → IfAny Is a → IfAny Is b → IfAny Is (or_else a b)
 or_in Is None b h k = k

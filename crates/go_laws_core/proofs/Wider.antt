@@ -7,10 +7,10 @@ use Rattle.go_table_core.specs.Entries.{Entry, Member}
 use Rattle.go_operand_core.specs.declared.types.Operand.{Operand}
 use Rattle.go_operand_core.specs.declared.types.ValueType.{ValueType}
 use Rattle.go_operand_core.specs.declared.types.ValueType.TheVariants as value_types
-use Rattle.go_face_core.specs.declared.face.Face.TheVariants as faces
-use Rattle.go_face_core.specs.Faces.{TheFace}
-use Rattle.go_face_core.specs.Packages.{face_by}
-use Rattle.go_near_core.specs.Near.{IfAny, NearOperand, NearValue}
+use Rattle.go_summary_core.specs.face_core.declared.face.Face.TheVariants as faces
+use Rattle.go_summary_core.specs.face_core.Faces.{TheFace}
+use Rattle.go_summary_core.specs.face_core.Packages.{face_by}
+use Rattle.go_snap_core.specs.near_core.Near.{IfAny, NearOperand, NearValue}
 use Rattle.go_summary_core.specs.Summaries.{SummaryModel}
 use Rattle.go_laws_core.proofs.Terms.{AreFieldsIn, AreMethodsIn, AreTermsIn, IsSignIn, IsTermIn}
 use Rattle.go_laws_core.proofs.Tables.{AreEntriesIn, AreMembersIn}

@@ -18,16 +18,16 @@ use Rattle.go_term_core.specs.Terms.{Term}
 use Rattle.go_names_core.specs.Body.{each_means}
 use Rattle.go_piece_core.specs.Headers.{returned_names, returned_types}
 use Rattle.go_piece_core.specs.Pieces.{piece_values}
-use Rattle.go_env_core.specs.declared.meaning.Meaning.{Meaning}
-use Rattle.go_env_core.specs.declared.meaning.Meaning.TheVariants as meanings
-use Rattle.go_body_core.specs.Body.{BodyOf}
-use Rattle.go_body_core.specs.Notes.{NoteOf, TheLocal, TheValue, all_locals}
-use Rattle.go_body_core.specs.Rules.{declared_among, value_at}
-use Rattle.go_func_core.specs.Functions.{checked_func, own_rules, walked_func}
-use Rattle.go_func_core.specs.Laws.{FunctionsHaveOneTable}
-use Rattle.go_func_core.specs.Stands.{FileStand, looks_where, outer_looks, outer_meanings}
-use Rattle.go_func_core.proofs.Named.{AreNamed, steps_are_named}
-use Rattle.go_file_core.specs.Files.{decl_locals, file_locals, tops_locals}
+use Rattle.govisd_core.specs.env_core.declared.meaning.Meaning.{Meaning}
+use Rattle.govisd_core.specs.env_core.declared.meaning.Meaning.TheVariants as meanings
+use Rattle.govisd_core.specs.body_core.Body.{BodyOf}
+use Rattle.govisd_core.specs.body_core.Notes.{NoteOf, TheLocal, TheValue, all_locals}
+use Rattle.govisd_core.specs.body_core.Rules.{declared_among, value_at}
+use Rattle.govisd_core.specs.func_core.Functions.{checked_func, own_rules, walked_func}
+use Rattle.govisd_core.specs.func_core.Laws.{FunctionsHaveOneTable}
+use Rattle.govisd_core.specs.func_core.Stands.{FileStand, looks_where, outer_looks, outer_meanings}
+use Rattle.govisd_core.specs.func_core.Named.{AreNamed, steps_are_named}
+use Rattle.govisd_core.specs.file_core.Files.{decl_locals, file_locals, tops_locals}
 use Rattle.go_laws_core.proofs.ConstantLists.{HasItem, Rising}
 
 -- locals that stand one behind another between two places

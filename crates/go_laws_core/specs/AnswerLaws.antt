@@ -10,8 +10,8 @@ use Rattle.go_graph_core.specs.Imports.{IsNumbered}
 use Rattle.go_graph_core.specs.Packages.{IsAssembled}
 use Rattle.go_graph_core.specs.Sources.{SourceModel}
 use Rattle.go_graph_core.specs.Workspaces.{PackageModel, IsWorkspace}
-use Rattle.go_ready_core.specs.Packages.{trees_in}
-use Rattle.go_used_core.specs.Used.{FileUse}
+use Rattle.govisd_core.specs.ready_core.Packages.{trees_in}
+use Rattle.govisd_core.specs.used_core.Used.{FileUse}
 use Rattle.go_snap_core.specs.part_core.Parts.{FileOf, PartModel}
 use Rattle.go_snap_core.specs.declared.fault.PlacedFault.{PlacedFault}
 use Rattle.go_snap_core.specs.Snapshots.{IsAnswerAt, IsSnapshot}

@@ -14,16 +14,16 @@ use Rattle.go_local_core.specs.Binding.{Local}
 use Rattle.go_local_core.specs.Steps.{Piece}
 use Rattle.go_denote_core.specs.declared.things.Stand.{Stand}
 use Rattle.go_denote_core.specs.declared.things.Stand.TheVariants as stands
-use Rattle.go_handle_core.specs.Declarations.{Declaration}
-use Rattle.go_env_core.specs.declared.meaning.Meaning.{Meaning}
-use Rattle.go_env_core.specs.Looks.{TheLooks}
-use Rattle.go_func_core.specs.Functions.{AreFuncDeclarations}
-use Rattle.go_file_core.specs.Stands.{file_funcs}
+use Rattle.govisd_core.specs.handle_core.Declarations.{Declaration}
+use Rattle.govisd_core.specs.env_core.declared.meaning.Meaning.{Meaning}
+use Rattle.govisd_core.specs.env_core.Looks.{TheLooks}
+use Rattle.govisd_core.specs.func_core.Functions.{AreFuncDeclarations}
+use Rattle.govisd_core.specs.file_core.Stands.{file_funcs}
 use Rattle.go_graph_core.specs.Workspaces.{PackageModel, IsWorkspace}
-use Rattle.go_ready_core.specs.Packages.{trees_in}
+use Rattle.govisd_core.specs.ready_core.Packages.{trees_in}
 use Rattle.go_snap_core.specs.part_core.Inputs.{InputModel, IsInput, path_in}
 use Rattle.go_snap_core.specs.part_core.Parts.{ContentOf, FileOf, IsPart, PartModel}
-use Rattle.go_whole_core.specs.Inputs.{AreParts}
+use Rattle.go_snap_core.specs.whole_core.Inputs.{AreParts}
 use Rattle.go_snap_core.specs.emit_core.Emitted.{are_clean, body_first, code_scene_over, told_to}
 use Rattle.go_snap_core.specs.emit_core.Imports.{all_passing}
 use Rattle.go_snap_core.specs.meaning_core.Looking.{looks_of}

@@ -5,7 +5,7 @@ use Rattle.std.specs.Prelude.{◌≡◌, List, Option, Contains}
 use Rattle.std.specs.List.{flat_map}
 use Rattle.go_graph_core.specs.Workspaces.{PackageModel, IsWorkspace}
 use Rattle.go_snap_core.specs.part_core.Parts.{FileOf, PartModel}
-use Rattle.go_body_core.specs.Notes.{TheUse}
+use Rattle.govisd_core.specs.body_core.Notes.{TheUse}
 use Rattle.go_snap_core.specs.declared.fault.PlacedFault.{PlacedFault}
 use Rattle.go_snap_core.specs.Snapshots.{IsSnapshot}
 use Rattle.go_snap_core.specs.emit_core.Emitted.{object_of, object_over, objects_of, told_by}

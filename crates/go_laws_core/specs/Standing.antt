@@ -9,10 +9,10 @@ use Rattle.go_local_core.specs.Binding.{Local, bound}
 use Rattle.go_local_core.specs.Outline.{func_steps}
 use Rattle.go_local_core.specs.Steps.{Piece, Header, Spec, Act, Condition, Given, Steps, Done, Check, Declare, Inner}
 use Rattle.go_walk_core.specs.Ends.{is_blank_target}
-use Rattle.go_env_core.specs.declared.meaning.Meaning.{Meaning}
-use Rattle.go_env_core.specs.Looks.{TheLooks}
-use Rattle.go_func_core.specs.Stands.{FileStand, looks_where, outer_meanings}
-use Rattle.go_value_core.specs.Initial.{exprs}
+use Rattle.govisd_core.specs.env_core.declared.meaning.Meaning.{Meaning}
+use Rattle.govisd_core.specs.env_core.Looks.{TheLooks}
+use Rattle.govisd_core.specs.func_core.Stands.{FileStand, looks_where, outer_meanings}
+use Rattle.govisd_core.specs.value_core.Initial.{exprs}
 use Rattle.go_summary_core.specs.Views.{types_told}
 use Rattle.go_snap_core.specs.package_core.Checked.{stand_at}
 use Rattle.go_snap_core.specs.part_core.Inputs.{InputModel}

@@ -4,7 +4,7 @@
 use Rattle.std.specs.Prelude.{◌≡◌, ℕ, List, Option, Some, slice_get}
 use Rattle.go_graph_core.specs.Workspaces.{PackageModel, IsWorkspace}
 use Rattle.go_snap_core.specs.part_core.Parts.{PartModel}
-use Rattle.go_whole_core.specs.Whole.{AreWhole, WholeOf}
+use Rattle.go_snap_core.specs.whole_core.Whole.{AreWhole, WholeOf}
 use Rattle.go_snap_core.specs.emit_core.Emitted.{object_in, object_over, told_by}
 use Rattle.go_summary_core.specs.Views.{faces_told, types_told}
 use Rattle.go_snap_core.specs.declared.fault.PlacedFault.{PlacedFault}

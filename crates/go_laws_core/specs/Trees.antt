@@ -3,9 +3,9 @@
 -- docs/RULES.md, "Stack code", "Whole workspaces". The Go specification, "Packages", "Declarations and scope".
 use Rattle.std.specs.Prelude.{List, [], ◌∷◌, Option}
 use Rattle.std.specs.List.{flat_map}
-use Rattle.go_ready_core.specs.Packages.{trees_in}
-use Rattle.go_face_core.specs.Packages.{PackageFacesModel}
-use Rattle.go_whole_core.specs.Whole.{WholeOf, if_some}
+use Rattle.govisd_core.specs.ready_core.Packages.{trees_in}
+use Rattle.go_summary_core.specs.face_core.Packages.{PackageFacesModel}
+use Rattle.go_snap_core.specs.whole_core.Whole.{WholeOf, if_some}
 use Rattle.go_table_core.specs.Entries.{Entry}
 use Rattle.go_snap_core.specs.meaning_core.Scenes.{CodeScene, package_decl_refs, scene_by}
 

@@ -1,10 +1,10 @@
 //! Laws of what code takes the expressions of a package for, with nothing to run.
 ghost use Rattle.go_laws_core.specs.ConstantLaws.{ConstantsAreOfTheCheck, PartsAreFit};
 
-use go_file_core::functions_are_placed;
-use go_func_core::{functions_have_one_table, locals_are_declarations};
 use go_snap_core::emit_core::{bodies_are_between_braces, objects_are_of_faultless};
-use go_whole_core::imports_bind_theirs;
+use go_snap_core::whole_core::imports_bind_theirs;
+use govisd_core::file_core::functions_are_placed;
+use govisd_core::func_core::{functions_have_one_table, locals_are_declarations};
 
 /// Where nothing is reported of a package, each expression in the pieces of its functions is to code what it is to the check, which judges it where it
 /// stands, by what the function's declarations bind its names to: code, where it is made of the expression, takes it for a constant exactly where it is one

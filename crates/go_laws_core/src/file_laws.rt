@@ -2,7 +2,7 @@
 ghost use Rattle.go_laws_core.specs.FileLaws.{CleanIsFaultless, SnapshotsHaveWhatIsTold, TextsHaveSnapshots};
 
 use go_parse_core::{one_rule, one_tree};
-use go_whole_core::parts_are_whole;
+use go_snap_core::whole_core::parts_are_whole;
 use govisd_core::one_input;
 
 /// What `resolve` takes a text for is what each snapshot has of the workspace whose one file it is: of a file with a tree and a name of its package the

@@ -3,7 +3,7 @@ ghost use Rattle.go_laws_core.specs.ObjectLaws.{DeclarationsAreReached, ObjectsA
 ghost use Rattle.go_laws_core.specs.TreeLaws.{ObjectsAreOfTrees, TellingIsOfTrees};
 
 use go_snap_core::emit_core::one_object;
-use go_whole_core::{check_is_local, imports_bind_theirs, one_whole};
+use go_snap_core::whole_core::{check_is_local, imports_bind_theirs, one_whole};
 
 /// What an occurrence of a package has in a file is declared in the package itself or in one that it reaches by imports, or is such a package. So are the
 /// fields and the methods that it selects, whichever types lead to them.

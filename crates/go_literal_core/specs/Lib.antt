@@ -8,3 +8,6 @@ pub mod Rules
 pub mod Laws
 pub mod Samples
 pub mod mirrors
+pub mod constant_core
+pub mod denote_core
+pub mod operand_core

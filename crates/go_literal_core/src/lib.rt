@@ -26,3 +26,23 @@ pub use literals::{
 pub use looks::Literals;
 pub use marks::key_marks;
 pub use things::{KeyAnswer, KeyMark, Keys, LiteralField, Mode, NamedField};
+
+/// What the crates above name of `go_constant_core`.
+pub mod constant_core {
+    pub use go_denote_core::constant_core::{Constant, ConstantText, natural};
+}
+
+/// What the crates above name of `go_denote_core`.
+pub mod denote_core {
+    pub use go_denote_core::{
+        Answer, Builtin, Denoted, Dot, Exported, Found, Names, Outcome, Selection, Stand,
+        arguments_of, call_answer, dot_of, is_free, name_answer, selector_answer, single_rule,
+    };
+}
+
+/// What the crates above name of `go_operand_core`.
+pub mod operand_core {
+    pub use go_denote_core::operand_core::{
+        Operand, TypeForm, TypeLooks, ValueType, binary, refused_binary, refused_unary, unary,
+    };
+}

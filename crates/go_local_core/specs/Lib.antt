@@ -10,3 +10,4 @@ pub mod Steps
 pub mod Tables
 pub mod Worked
 pub mod mirrors
+pub mod open_core

@@ -14,3 +14,8 @@ pub struct Fault {
     pub offset: usize,
     pub rule: Rule,
 }
+
+/// What the crates above name of `go_open_core`.
+pub mod open_core {
+    pub use go_open_core::NameList;
+}

@@ -10,7 +10,7 @@ use Rattle.std.proofs.lemmas.Option.{slice_get_within, slice_get-get_or, get_or_
 use Rattle.go_graph_core.proofs.OutcomeLaws.{all_at_place}
 use Rattle.go_graph_core.specs.Workspaces.{PackageModel, AreAllRead, IsWorkspace}
 use Rattle.go_reach_core.specs.Numbers.{Numbers}
-use Rattle.go_summary_core.specs.Summaries.{SummaryModel, path_of}
+use Rattle.go_whole_core.specs.summary_core.Summaries.{SummaryModel, path_of}
 use Rattle.go_whole_core.specs.part_core.Inputs.{InputModel, input_with, path_in}
 use Rattle.go_whole_core.specs.part_core.Parts.{IsPart, PartModel}
 use Rattle.go_whole_core.specs.Inputs.{AreParts, Tells}

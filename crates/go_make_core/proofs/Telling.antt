@@ -7,9 +7,9 @@ use Rattle.std.proofs.lemmas.Bool.{cases_eq}
 use Rattle.std.proofs.lemmas.List.{length-append, length-map, length-replicate, get_or-replicate, map-set, take_more}
 use Rattle.std.proofs.lemmas.List.Elements.{All-cons, All-contains_itself, All-head, All-tail}
 use Rattle.std.proofs.lemmas.Option.{slice_get_within, get_or_from_slice_get}
-use Rattle.go_type_core.proofs.Keyed.{slice_get_here}
+use Rattle.go_whole_core.specs.type_core.Keyed.{slice_get_here}
 use Rattle.go_reach_core.specs.Numbers.{Numbers}
-use Rattle.go_summary_core.specs.Summaries.{SummaryModel}
+use Rattle.go_whole_core.specs.summary_core.Summaries.{SummaryModel}
 use Rattle.go_whole_core.specs.part_core.Parts.{PartModel}
 use Rattle.go_whole_core.specs.Inputs.{Tells}
 use Rattle.go_whole_core.specs.mirrors.Steps.{AreReachedAt, AreToldBySet}

@@ -2,7 +2,7 @@
 use Rattle.std.specs.Prelude.{◌≡◌, ◌↔◌, ℕ, Bool, List, Option, Some, IsTrue, length, slice_get}
 use Rattle.std.specs.List.{AllZip}
 use Rattle.go_reach_core.specs.Numbers.{Numbers}
-use Rattle.go_summary_core.specs.Summaries.{SummaryModel}
+use Rattle.go_whole_core.specs.summary_core.Summaries.{SummaryModel}
 use Rattle.go_whole_core.specs.part_core.Parts.{PartModel}
 use Rattle.go_whole_core.specs.Inputs.{Tells}
 

@@ -1,7 +1,7 @@
 -- What the packages of a workspace tell, by their numbers.
 use Rattle.std.specs.Prelude.{List, Option, map}
 use Rattle.std.specs.Option.{option_map}
-use Rattle.go_summary_core.specs.Summaries.{SummaryModel}
+use Rattle.go_whole_core.specs.summary_core.Summaries.{SummaryModel}
 use Rattle.go_whole_core.specs.part_core.Parts.{PartModel}
 
 -- of each package that has a part what the part tells, and nothing of another

@@ -3,21 +3,21 @@ ghost use Rattle.std.specs.Prelude.{◌≡◌, IfOk, Some, length, map, slice_ge
 ghost use Rattle.go_tree_nodes.specs.Shapes.{file_of};
 ghost use Rattle.go_graph_core.specs.Packages.{trees_of};
 ghost use Rattle.go_graph_core.specs.Plans.{AreReached, IsAssembledAt, IsPlan};
-ghost use Rattle.go_block_core.specs.Naming.{AreInFile, AreInPackage, IsGiven, imported_in};
-ghost use Rattle.go_block_core.specs.mirrors.Steps.{AreReady, AreReadyIn, HasExports, IsPlanned, IsReady, IsShownIn};
+ghost use Rattle.go_whole_core.specs.block_core.Naming.{AreInFile, AreInPackage, IsGiven, imported_in};
+ghost use Rattle.go_whole_core.specs.block_core.mirrors.Steps.{AreReady, AreReadyIn, HasExports, IsPlanned, IsReady, IsShownIn};
 ghost use Rattle.go_whole_core.specs.Inputs.{HasReached, IsInputAt};
 ghost use Rattle.go_whole_core.specs.mirrors.Steps.{AreToldBySet, exports_in};
 ghost use Rattle.go_make_core.specs.Telling.{told_of};
 ghost use Rattle.go_make_core.specs.mirrors.Telling.{AreToldFor, AreToldOf};
 
 use crate::told::Told;
-use go_block_core::{Imported, import_specs};
 use go_graph_core::{ImportAt, ImportOutcome, Package, PackageSource, Plan, Workspace, assemble};
 use go_reach_core::Reached;
-use go_summary_core::{ReachedSummaries, import_view};
 use go_text_core::add;
 use go_tree_nodes::File;
+use go_whole_core::block_core::{Imported, import_specs};
 use go_whole_core::part_core::{Part, PartInput};
+use go_whole_core::summary_core::{ReachedSummaries, import_view};
 use std::alloc::{AllocError, Global};
 
 /// What an import of this outcome comes to, where these are the parts of packages by their numbers.

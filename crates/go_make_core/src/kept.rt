@@ -2,8 +2,8 @@
 ghost use Rattle.std.specs.Prelude.{◌≡◌, ◌<◌, ◌↔◌, ◌++◌, ℕ, All, IfOk, IsTrue, MatchOption, OnOk, length, map, slice_get};
 ghost use Rattle.std.specs.Option.{option_map};
 ghost use Rattle.go_graph_core.specs.Workspaces.{AreAllRead};
-ghost use Rattle.go_table_core.specs.Tables.{AreOthers};
-ghost use Rattle.go_summary_core.specs.Summaries.{path_of};
+ghost use Rattle.go_whole_core.specs.table_core.Tables.{AreOthers};
+ghost use Rattle.go_whole_core.specs.summary_core.Summaries.{path_of};
 ghost use Rattle.go_whole_core.specs.part_core.Parts.{PartModel};
 ghost use Rattle.go_whole_core.specs.Inputs.{AreParts};
 ghost use Rattle.go_make_core.specs.Keeping.{AreMarkedFor, WasThere, WasTold};
@@ -12,8 +12,8 @@ ghost use Rattle.go_make_core.specs.mirrors.Marking.{AllMarked, LookAlike};
 use crate::search::part_of;
 use go_graph_core::Workspace;
 use go_reach_core::Reached;
-use go_summary_core::{ReachedSummaries, Summary, View};
 use go_whole_core::part_core::{Part, PartInput, same_imports};
+use go_whole_core::summary_core::{ReachedSummaries, Summary, View};
 use std::alloc::{AllocError, Global};
 
 /// Whether all these numbers are marked.

@@ -17,17 +17,27 @@ pub use making::{parts_again, parts_of};
 pub use search::{package_of, part_of};
 pub use told::Told;
 
+/// What the crates above name of `go_face_core`.
+pub mod face_core {
+    pub use go_whole_core::face_core::Face;
+}
+
+/// What the crates above name of `go_graph_core`.
+pub mod graph_core {
+    pub use go_graph_core::{PackageSource, SourceFile, Workspace, assemble};
+}
+
 /// What the crates above name of `go_part_core`.
 pub mod part_core {
     pub use go_whole_core::part_core::{
-        Part, PartFile, PartInput, Parts, compile_part, one_part, part_has_its_path,
-        part_has_occurrences, types_of,
+        Part, PartFile, PartInput, Parts, compile_part, one_part, part_has_occurrences,
     };
 }
 
 /// What the crates above name of `go_whole_core`.
 pub mod whole_core {
     pub use go_whole_core::{
-        check_is_local, imports_bind_theirs, inputs_stay, parts_are_whole, parts_come_in_order,
+        check_is_local, imports_bind_theirs, inputs_stay, one_whole, parts_are_whole,
+        parts_come_in_order,
     };
 }

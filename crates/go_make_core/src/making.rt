@@ -2,8 +2,8 @@
 ghost use Rattle.std.specs.Prelude.{◌≡◌, ◌↔◌, ◌<◌, ◌++◌, [], false, IfOk, IsTrue, None, OnOk, Some, length, replicate, slice_set};
 ghost use Rattle.go_graph_core.specs.Plans.{AreReached, IsPlan};
 ghost use Rattle.go_graph_core.specs.Workspaces.{IsWorkspace};
-ghost use Rattle.go_table_core.specs.Tables.{AreOthers};
-ghost use Rattle.go_entry_core.specs.Showing.{shown_in, with_shown};
+ghost use Rattle.go_whole_core.specs.table_core.Tables.{AreOthers};
+ghost use Rattle.go_whole_core.specs.entry_core.Showing.{shown_in, with_shown};
 ghost use Rattle.go_whole_core.specs.face_core.Packages.{with_faces};
 ghost use Rattle.go_whole_core.specs.part_core.Inputs.{path_in};
 ghost use Rattle.go_whole_core.specs.part_core.Parts.{ContentOf, IsMade, IsPart, seen_with};
@@ -18,8 +18,8 @@ use crate::marks::Marks;
 use crate::told::Told;
 use go_graph_core::{Plan, Workspace, plan_imports};
 use go_reach_core::Reached;
-use go_summary_core::{View, view_of};
 use go_whole_core::part_core::{Part, PartInput, Parts, compile_over};
+use go_whole_core::summary_core::{View, view_of};
 use go_whole_core::{check_is_local, imports_bind_theirs};
 use std::alloc::{AllocError, Global};
 

@@ -5,8 +5,8 @@ ghost use Rattle.std.specs.List.Sorted.{IsStrictlyIncreasing};
 ghost use Rattle.go_make_core.specs.mirrors.Telling.{AreTold, IsToldAt, at_number};
 
 use go_reach_core::NumberSet;
-use go_summary_core::{ReachedSummaries, Summary, SummaryList};
 use go_text_core::add;
+use go_whole_core::summary_core::{ReachedSummaries, Summary, SummaryList};
 use std::alloc::{AllocError, Global};
 use std::marker::Model;
 
@@ -30,8 +30,8 @@ impl Drop for Told {
 impl Model for Told {
     ghost use Rattle.std.specs.Prelude.{List, Option};
     ghost use Rattle.std.specs.Coded.{coded_list, coded_option};
-    ghost use Rattle.go_summary_core.specs.Summaries.{SummaryModel};
-    ghost use Rattle.go_summary_core.specs.codes.SummaryCodes.{coded_summary};
+    ghost use Rattle.go_whole_core.specs.summary_core.Summaries.{SummaryModel};
+    ghost use Rattle.go_whole_core.specs.summary_core.codes.SummaryCodes.{coded_summary};
     ghost use Rattle.go_make_core.specs.mirrors.Telling.{ArePlaces, by_places};
 
     ghost Value = { List (Option SummaryModel) };

@@ -1,9 +1,9 @@
 -- What names are looked up in by the outlines of a package's files is what its trees give.
 use Rattle.std.proofs.Common.{◌≡◌, ℕ, suc, List, [], ◌∷◌, ◌++◌, map, Option, refl, ap, ◌∙◌}
-use Rattle.go_graph_core.specs.Packages.{Trees, tree_shown, trees_of}
+use Rattle.go_part_core.specs.graph_core.Packages.{Trees, tree_shown, trees_of}
 use Rattle.go_decl_core.specs.TopDecls.{top_decls}
-use Rattle.go_entry_core.specs.Outlines.{FileOutline, outline_of}
-use Rattle.go_face_core.specs.Faces.{TheFace}
+use Rattle.go_part_core.specs.entry_core.Outlines.{FileOutline, outline_of}
+use Rattle.go_part_core.specs.face_core.Faces.{TheFace}
 use Rattle.go_part_core.specs.ready_core.Packages.{trees_in}
 use Rattle.go_part_core.specs.Inputs.{InputModel, path_in}
 use Rattle.go_part_core.specs.Parts.{ContentOf}

@@ -16,7 +16,32 @@ pub use tables::{Tables, methods_of};
 
 /// What the crates above name of `go_answer_core`.
 pub mod answer_core {
-    pub use go_answer_core::{Answer, HeldLocal, Site};
+    pub use go_part_core::answer_core::{Answer, HeldLocal, Site};
+}
+
+/// What the crates above name of `go_block_core`.
+pub mod block_core {
+    pub use go_part_core::block_core::Imported;
+}
+
+/// What the crates above name of `go_denote_core`.
+pub mod denote_core {
+    pub use go_part_core::denote_core::Outcome;
+}
+
+/// What the crates above name of `go_entry_core`.
+pub mod entry_core {
+    pub use go_part_core::entry_core::outlines;
+}
+
+/// What the crates above name of `go_handle_core`.
+pub mod handle_core {
+    pub use go_part_core::handle_core::{Decl, DeclSite};
+}
+
+/// What the crates above name of `go_lookup_core`.
+pub mod lookup_core {
+    pub use go_lookup_core::{FileCodeNames, FuncCodeNames};
 }
 
 /// What the crates above name of `go_package_core`.
@@ -27,4 +52,14 @@ pub mod package_core {
 /// What the crates above name of `go_part_core`.
 pub mod part_core {
     pub use go_part_core::{Part, PartFile, one_part, part_has_occurrences};
+}
+
+/// What the crates above name of `go_select_core`.
+pub mod select_core {
+    pub use go_part_core::select_core::EmbedPath;
+}
+
+/// What the crates above name of `go_summary_core`.
+pub mod summary_core {
+    pub use go_part_core::summary_core::{Summary, View, view_of};
 }

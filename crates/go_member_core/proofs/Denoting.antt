@@ -23,9 +23,9 @@ use Rattle.go_denote_core.specs.declared.things.Outcome.TheVariants as outcomes
 use Rattle.go_denote_core.specs.declared.things.Selection.{Selection}
 use Rattle.go_denote_core.specs.Answers.{refused}
 use Rattle.go_denote_core.specs.Selectors.{member_answer, method_answer}
-use Rattle.go_decide_core.specs.Rules.{selection_of}
-use Rattle.go_decide_core.specs.Selecting.{Choice, choice, selected_of}
-use Rattle.go_decide_core.proofs.Choosing.{denoted_decided}
+use Rattle.go_handle_core.specs.decide_core.Rules.{selection_of}
+use Rattle.go_handle_core.specs.decide_core.Selecting.{Choice, choice, selected_of}
+use Rattle.go_handle_core.specs.decide_core.Choosing.{denoted_decided}
 use Rattle.go_handle_core.specs.Declarations.{Declaration, InFile, declaration_found}
 use Rattle.go_member_core.specs.declared.listing.MemberKind.{MemberKind}
 use Rattle.go_member_core.specs.declared.listing.MemberKind.TheVariants as kinds

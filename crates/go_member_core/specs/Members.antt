@@ -25,7 +25,7 @@ use Rattle.go_denote_core.specs.declared.things.Outcome.{Outcome}
 use Rattle.go_denote_core.specs.declared.things.Outcome.TheVariants as outcomes
 use Rattle.go_denote_core.specs.Look.{Look}
 use Rattle.go_denote_core.specs.Selectors.{selector_answer}
-use Rattle.go_decide_core.specs.Rules.{term_rules}
+use Rattle.go_handle_core.specs.decide_core.Rules.{term_rules}
 use Rattle.go_handle_core.specs.Declarations.{Declaration, declaration_found}
 use Rattle.go_handle_core.specs.Names.{selection_in}
 use Rattle.go_member_core.specs.declared.listing.MemberKind.{MemberKind}

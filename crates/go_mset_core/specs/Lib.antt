@@ -6,3 +6,5 @@ pub mod mirrors
 pub mod embed_core
 pub mod level_core
 pub mod select_core
+pub mod settle_core
+pub mod table_core

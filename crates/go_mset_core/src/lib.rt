@@ -23,5 +23,13 @@ pub mod select_core {
 
 /// What the crates above name of `go_settle_core`.
 pub mod settle_core {
-    pub use go_select_core::settle_core::{Kind, kind_of};
+    pub use go_select_core::settle_core::{Kind, kind_of, settle, settle_signature};
+}
+
+/// What the crates above name of `go_table_core`.
+pub mod table_core {
+    pub use go_select_core::table_core::{
+        DeclaredMethod, DefinedType, PackageTypes, TypeTable, identical_under,
+        identical_under_but_for_tags, is_named_type,
+    };
 }

@@ -6,7 +6,7 @@ use Rattle.go_tree_nodes.specs.declared.names.Ident.{Ident}
 use Rattle.go_names_core.specs.declared.names.Denoted.{Denoted}
 use Rattle.go_names_core.specs.declared.names.Denoted.TheVariants as denoted
 use Rattle.go_names_core.specs.Body.{each_means}
-use Rattle.go_local_core.specs.Pieces.{ident_place}
+use Rattle.go_walk_core.specs.local_core.Pieces.{ident_place}
 
 shifted : (f : ℕ → Denoted) (xs : List Ident) (n : ℕ) → each_means f (suc n) xs ≡ each_means (λ k. f (suc k)) n xs
 shifted f [] n = refl

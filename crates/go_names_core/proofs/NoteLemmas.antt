@@ -22,7 +22,7 @@ use Rattle.go_tree_nodes.specs.Trees.{FieldTrees}
 use Rattle.go_tree_nodes.specs.TypeShapes.{shape_type, shape_signature, fields_before, fields_of, methods_of, params_of}
 use Rattle.go_tree_nodes.specs.Shapes.{shape, items_of, exprs_from}
 use Rattle.go_tree_nodes.proofs.ShapeLemmas.{call_parts, literal_parts, struct_literal_parts}
-use Rattle.go_local_core.specs.Binding.{NameLook}
+use Rattle.go_walk_core.specs.local_core.Binding.{NameLook}
 use Rattle.go_names_core.specs.declared.names.Denoted.{Denoted}
 use Rattle.go_names_core.specs.Uses.{name_use}
 use Rattle.go_names_core.specs.mirrors.Noting.{Notes, Adds}

@@ -14,14 +14,14 @@ use Rattle.go_open_core.specs.Blocks as open_blocks
 use Rattle.go_open_core.specs.declared.short.ShortName.TheVariants.{New, Old, Blank, Repeated}
 use Rattle.go_scope_core.specs.block_core.Blocks.{BlocksModel}
 use Rattle.go_scope_core.specs.Models.{scopes_model}
-use Rattle.go_local_core.specs.Steps.{Steps, Done, Check, Declare, Inner, spell_piece}
-use Rattle.go_local_core.specs.Binding.{NameLook}
-use Rattle.go_local_core.specs.Law.{Rules, Out}
-use Rattle.go_local_core.specs.Faults.{name_faults, spellings}
-use Rattle.go_local_core.specs.Short.{meant}
-use Rattle.go_local_core.specs.mirrors.Walk.{Names, latest, look_in, news, names_of, walk_out}
-use Rattle.go_local_core.specs.Alike.{AlikeAt, Alike, LookAtNames}
-use Rattle.go_local_core.proofs.Short.{news_are_short, with_names_after}
+use Rattle.go_walk_core.specs.local_core.Steps.{Steps, Done, Check, Declare, Inner, spell_piece}
+use Rattle.go_walk_core.specs.local_core.Binding.{NameLook}
+use Rattle.go_walk_core.specs.local_core.Law.{Rules, Out}
+use Rattle.go_walk_core.specs.local_core.Faults.{name_faults, spellings}
+use Rattle.go_walk_core.specs.local_core.Short.{meant}
+use Rattle.go_walk_core.specs.local_core.mirrors.Walk.{Names, latest, look_in, news, names_of, walk_out}
+use Rattle.go_walk_core.specs.local_core.Alike.{AlikeAt, Alike, LookAtNames}
+use Rattle.go_walk_core.specs.local_core.ShortProofs.{news_are_short, with_names_after}
 use Rattle.go_names_core.specs.declared.meaning.Outside.{Outside}
 use Rattle.go_names_core.specs.Body.{each_means}
 use Rattle.go_names_core.specs.Scope.{beyond_in}

@@ -7,7 +7,7 @@ use Rattle.go_open_core.specs.Blocks.{in_block, list_name, list_names, short_nam
 use Rattle.go_open_core.specs.declared.short.ShortName.{ShortName}
 use Rattle.go_open_core.specs.declared.short.ShortName.TheVariants.{New, Old, Blank, Repeated}
 use Rattle.go_open_core.proofs.Names.{listed-names, list_names-append}
-use Rattle.go_local_core.specs.Faults.{spellings}
+use Rattle.go_walk_core.specs.local_core.Faults.{spellings}
 
 -- how the first of some identifiers are spelled
 abbrev pub spelled : List (Bor Ident) → ℕ → List (List ℕ)

@@ -6,10 +6,10 @@ use Rattle.go_tree_nodes.specs.declared.names.Ident.{Ident}
 use Rattle.go_open_core.specs.declared.DeclId.{DeclId}
 use Rattle.go_open_core.specs.Blocks.{innermost, with_innermost, block_after, short_names}
 use Rattle.go_scope_core.specs.Models.{ScopesModel}
-use Rattle.go_local_core.specs.declared.Fault.{Fault}
-use Rattle.go_local_core.specs.Steps.{Piece, Newness, Check, Declare}
-use Rattle.go_local_core.specs.Faults.{name_faults, spellings}
-use Rattle.go_local_core.specs.Law.{Rules}
+use Rattle.go_walk_core.specs.local_core.declared.Fault.{Fault}
+use Rattle.go_walk_core.specs.local_core.Steps.{Piece, Newness, Check, Declare}
+use Rattle.go_walk_core.specs.local_core.Faults.{name_faults, spellings}
+use Rattle.go_walk_core.specs.local_core.Law.{Rules}
 use Rattle.go_names_core.specs.declared.meaning.Outside.{Outside}
 use Rattle.go_names_core.specs.declared.look.OpenNames.{OpenNames}
 use Rattle.go_names_core.specs.declared.declaring.NewNames.{NewNames}

@@ -6,4 +6,7 @@ pub mod Uses
 pub mod Worked
 pub mod mirrors
 pub mod block_core
+pub mod local_core
+pub mod open_core
 pub mod scope_core
+pub mod scope_core_lemmas

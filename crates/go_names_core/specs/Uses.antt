@@ -2,10 +2,10 @@
 use Rattle.std.specs.Prelude.{List, ◌++◌, map}
 use Rattle.go_tree_nodes.specs.declared.names.Ident.{Ident}
 use Rattle.go_tree_nodes.specs.Trees.{SimpleTree, Alone, Step, Assign, Update, Define}
-use Rattle.go_local_core.specs.Steps.{Piece, Header, Spec, Act, Condition, Given}
-use Rattle.go_local_core.specs.Pieces.{piece_declares, ident_place}
-use Rattle.go_local_core.specs.Binding.{NameLook}
-use Rattle.go_local_core.specs.Law.{Rules}
+use Rattle.go_walk_core.specs.local_core.Steps.{Piece, Header, Spec, Act, Condition, Given}
+use Rattle.go_walk_core.specs.local_core.Pieces.{piece_declares, ident_place}
+use Rattle.go_walk_core.specs.local_core.Binding.{NameLook}
+use Rattle.go_walk_core.specs.local_core.Law.{Rules}
 use Rattle.go_names_core.specs.declared.meaning.Outside.{Outside}
 use Rattle.go_names_core.specs.declared.names.Denoted.{Denoted}
 use Rattle.go_names_core.specs.declared.names.Denoted.TheVariants as denoted

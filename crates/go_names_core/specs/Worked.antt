@@ -13,8 +13,8 @@ use Rattle.go_scope_core.specs.decl_core.declared.places.DeclKind.TheVariants as
 use Rattle.go_scope_core.specs.decl_core.declared.keys.DeclRef.{DeclRef}
 use Rattle.go_scope_core.specs.block_core.declared.binding.Target.TheVariants as target
 use Rattle.go_scope_core.specs.block_core.Blocks.{BlocksModel, blocks_model}
-use Rattle.go_local_core.specs.declared.Fault.{Fault}
-use Rattle.go_local_core.specs.Tables.{walked, out_by_intervals}
+use Rattle.go_walk_core.specs.local_core.declared.Fault.{Fault}
+use Rattle.go_walk_core.specs.local_core.Tables.{walked, out_by_intervals}
 use Rattle.go_names_core.specs.declared.meaning.Outside.TheVariants as outside
 use Rattle.go_names_core.specs.declared.names.Denoted.{Denoted}
 use Rattle.go_names_core.specs.declared.names.Denoted.TheVariants as denoted

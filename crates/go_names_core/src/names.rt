@@ -2,7 +2,7 @@
 
 ghost use Rattle.std.specs.Prelude.{◌≡◌, IfOk};
 ghost use Rattle.go_tree_nodes.specs.Shapes.{func_of};
-ghost use Rattle.go_local_core.specs.Tables.{IsFuncPlaced};
+ghost use Rattle.go_walk_core.specs.local_core.Tables.{IsFuncPlaced};
 ghost use Rattle.go_names_core.specs.Scope.{beyond_in};
 ghost use Rattle.go_names_core.specs.Body.{AreWalked, AreGiven};
 ghost use Rattle.go_names_core.specs.Uses.{denoted_outside, name_use_rules};
@@ -10,9 +10,9 @@ ghost use Rattle.go_names_core.specs.Uses.{denoted_outside, name_use_rules};
 use crate::alone::NamesAlone;
 use crate::function::check_function;
 use crate::meaning::{Meant, Outside};
-use go_local_core::Fault;
 use go_scope_core::block_core::Blocks;
 use go_tree_nodes::FuncDecl;
+use go_walk_core::local_core::Fault;
 use std::alloc::{AllocError, Global};
 
 /// What a name denotes in a function.

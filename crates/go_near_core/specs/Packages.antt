@@ -1,19 +1,19 @@
 -- A package over tables of types that agree on what is near.
 use Rattle.std.specs.Prelude.{◌≡◌, ℕ, List, Option}
-use Rattle.go_decl_core.specs.TopDecls.{TopDeclTree, TypeForm}
+use Rattle.go_term_core.specs.decl_core.TopDecls.{TopDeclTree, TypeForm}
 use Rattle.go_tree_nodes.specs.declared.types.TypeName.{TypeName}
 use Rattle.go_tree_nodes.specs.Trees.{TypeSpecTree}
-use Rattle.go_block_core.specs.Blocks.{BlocksModel}
-use Rattle.go_table_core.specs.Entries.{Entry}
-use Rattle.go_entry_core.specs.Entries.{file_at, type_key}
-use Rattle.go_entry_core.specs.Laws.{IsDeclaredInFile}
-use Rattle.go_entry_core.specs.Meanings.{Shows, file_meaning}
-use Rattle.go_entry_core.specs.Outlines.{FileOutline}
-use Rattle.go_names_core.specs.declared.meaning.Outside.{Outside}
-use Rattle.go_handle_core.specs.Declarations.{Declaration}
-use Rattle.go_face_core.specs.Faces.{TheFace}
-use Rattle.go_face_core.specs.Packages.{PackageFacesModel}
-use Rattle.go_face_core.specs.Written.{package_written}
+use Rattle.go_file_core.specs.block_core.Blocks.{BlocksModel}
+use Rattle.go_file_core.specs.table_core.Entries.{Entry}
+use Rattle.go_file_core.specs.entry_core.Entries.{file_at, type_key}
+use Rattle.go_file_core.specs.entry_core.Laws.{IsDeclaredInFile}
+use Rattle.go_file_core.specs.entry_core.Meanings.{Shows, file_meaning}
+use Rattle.go_file_core.specs.entry_core.Outlines.{FileOutline}
+use Rattle.go_file_core.specs.names_core.declared.meaning.Outside.{Outside}
+use Rattle.go_file_core.specs.handle_core.Declarations.{Declaration}
+use Rattle.go_file_core.specs.face_core.Faces.{TheFace}
+use Rattle.go_file_core.specs.face_core.Packages.{PackageFacesModel}
+use Rattle.go_file_core.specs.face_core.Written.{package_written}
 use Rattle.go_file_core.specs.env_core.Scenes.{SceneModel}
 use Rattle.go_file_core.specs.env_core.Found.{found_outside, found_exported}
 use Rattle.go_file_core.specs.func_core.Stands.{FileStand}

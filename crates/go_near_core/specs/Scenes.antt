@@ -4,9 +4,9 @@ use Rattle.go_tree_nodes.specs.declared.types.TypeName.{TypeName}
 use Rattle.go_tree_nodes.specs.Trees.{TypeTree}
 use Rattle.go_term_core.specs.Terms.{Term}
 use Rattle.go_local_core.specs.Binding.{NameLook}
-use Rattle.go_expr_core.specs.Looks.{WrittenRules}
-use Rattle.go_handle_core.specs.Declarations.{Declaration}
-use Rattle.go_face_core.specs.Faces.{TheFace}
+use Rattle.go_file_core.specs.expr_core.Looks.{WrittenRules}
+use Rattle.go_file_core.specs.handle_core.Declarations.{Declaration}
+use Rattle.go_file_core.specs.face_core.Faces.{TheFace}
 use Rattle.go_file_core.specs.env_core.declared.meaning.Meaning.{Meaning}
 use Rattle.go_file_core.specs.env_core.Scenes.{SceneModel}
 use Rattle.go_file_core.specs.env_core.Found.{found_of, found_exported}

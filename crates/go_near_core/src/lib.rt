@@ -9,3 +9,8 @@ pub use laws::{
     expressions_look_nearby, files_look_nearby, functions_look_nearby, other_types_do_not_count,
     packages_look_nearby, pieces_look_nearby, scenes_look_nearby, tables_look_nearby,
 };
+
+/// What the crates above name of `go_face_core`.
+pub mod face_core {
+    pub use go_file_core::face_core::Face;
+}

@@ -11,3 +11,4 @@ pub mod Known
 pub mod Refusals
 pub mod Variables
 pub mod Converting
+pub mod constant_core

@@ -27,3 +27,8 @@ pub use prefixes::{refused_unary, unary};
 pub use types::{Operand, TypeForm, TypeLooks, ValueType};
 pub use updates::{increment, update};
 pub use values::{basic_under, default_type, form_basic};
+
+/// What the crates above name of `go_constant_core`.
+pub mod constant_core {
+    pub use go_constant_core::{Constant, ConstantText, natural};
+}

@@ -9,27 +9,27 @@ use Rattle.std.proofs.lemmas.List.{get_or_default, length-map, length-append, ta
 use Rattle.std.proofs.lemmas.List.FromFn.{length-enumerate_from}
 use Rattle.std.proofs.lemmas.Option.{slice_get-map, slice_get_read}
 use Rattle.go_tree_nodes.specs.Trees.{FuncTree, FileTree}
-use Rattle.go_parse_core.specs.declared.error.SynFault.{SynFault}
-use Rattle.go_graph_core.specs.Packages.{trees_of, tree_shown}
-use Rattle.go_graph_core.specs.Sources.{SourceModel, source}
-use Rattle.go_decl_core.specs.declared.places.Place.{Place}
-use Rattle.go_decl_core.specs.declared.tops.Outline.{Outline}
-use Rattle.go_decl_core.specs.TopDecls.{TopDeclTree, top_decls}
-use Rattle.go_block_core.specs.declared.imports.Imported.{Imported}
-use Rattle.go_table_core.specs.Entries.{Entry}
-use Rattle.go_entry_core.specs.Meanings.{file_meaning}
-use Rattle.go_entry_core.specs.Outlines.{FileOutline, outline_of, outline_shown}
-use Rattle.go_entry_core.proofs.Numbered.{flat_more}
+use Rattle.go_ready_core.specs.parse_core.declared.error.SynFault.{SynFault}
+use Rattle.go_ready_core.specs.graph_core.Packages.{trees_of, tree_shown}
+use Rattle.go_ready_core.specs.graph_core.Sources.{SourceModel, source}
+use Rattle.go_term_core.specs.decl_core.declared.places.Place.{Place}
+use Rattle.go_term_core.specs.decl_core.declared.tops.Outline.{Outline}
+use Rattle.go_term_core.specs.decl_core.TopDecls.{TopDeclTree, top_decls}
+use Rattle.go_answer_core.specs.block_core.declared.imports.Imported.{Imported}
+use Rattle.go_known_core.specs.table_core.Entries.{Entry}
+use Rattle.go_known_core.specs.entry_core.Meanings.{file_meaning}
+use Rattle.go_known_core.specs.entry_core.Outlines.{FileOutline, outline_of, outline_shown}
+use Rattle.go_known_core.specs.entry_core.Numbered.{flat_more}
 use Rattle.go_answer_core.specs.fault_core.declared.places.PackageFault.{PackageFault}
-use Rattle.go_handle_core.specs.Declarations.{Declaration}
-use Rattle.go_local_core.specs.declared.Fault.{Fault}
-use Rattle.go_report_core.specs.Faults.{IsSettled}
+use Rattle.go_answer_core.specs.handle_core.Declarations.{Declaration}
+use Rattle.go_answer_core.specs.local_core.declared.Fault.{Fault}
+use Rattle.go_answer_core.specs.report_core.Faults.{IsSettled}
 use Rattle.go_known_core.specs.inline_core.Types.{InlineOf}
 use Rattle.go_known_core.specs.inline_core.Inline.{inlines}
 use Rattle.go_known_core.specs.inline_core.Trees.{outline_types}
 use Rattle.go_known_core.specs.inline_core.Outlines.{outline_all}
-use Rattle.go_face_core.specs.Faces.{TheFace}
-use Rattle.go_face_core.specs.Laws.{FileDecl, file_decl, package_decls}
+use Rattle.go_answer_core.specs.face_core.Faces.{TheFace}
+use Rattle.go_answer_core.specs.face_core.Laws.{FileDecl, file_decl, package_decls}
 use Rattle.go_known_core.specs.env_core.Scenes.{SceneModel}
 use Rattle.go_file_core.specs.func_core.Stands.{FileStand, kinds_in_scene}
 use Rattle.go_file_core.specs.func_core.Laws.{AreFuncTypes}

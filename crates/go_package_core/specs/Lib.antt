@@ -3,6 +3,13 @@ pub mod Laws
 pub mod mirrors
 pub mod body_core
 pub mod entry_core
+pub mod env_core
+pub mod face_core
+pub mod fault_core
 pub mod file_core
+pub mod func_core
+pub mod handle_core
+pub mod inline_core
+pub mod names_core
 pub mod ready_core
 pub mod value_core

@@ -14,3 +14,18 @@ pub use checked::{CheckedPackage, FileAnswers};
 pub use go_ready_core::PackageAt;
 pub use laws::{one_check, package_has_occurrences};
 pub use package::check_package;
+
+/// What the crates above name of `go_entry_core`.
+pub mod entry_core {
+    pub use go_known_core::entry_core::outlines;
+}
+
+/// What the crates above name of `go_file_core`.
+pub mod file_core {
+    pub use go_file_core::functions_are_placed;
+}
+
+/// What the crates above name of `go_func_core`.
+pub mod func_core {
+    pub use go_file_core::func_core::{functions_have_one_table, locals_are_declarations};
+}

@@ -4,3 +4,4 @@ pub mod Names
 pub mod Parsing
 pub mod Refusing
 pub mod mirrors
+pub mod tree_core

@@ -25,3 +25,8 @@ pub use laws::{
     whole_is_marked,
 };
 pub use parsed::{Parsed, parse, tree_of};
+
+/// What the crates above name of `go_parse_types`.
+pub mod parse_types {
+    pub use go_parse_types::add;
+}

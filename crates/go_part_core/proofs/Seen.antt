@@ -1,10 +1,10 @@
 -- What is seen by an input alone.
 use Rattle.std.proofs.Common.{◌≡◌, ℕ, suc, List, [], ◌∷◌, All, sym, subst, arith}
-use Rattle.go_block_core.specs.Exports.{ExportsModel}
-use Rattle.go_table_core.specs.Entries.{Entry}
+use Rattle.go_summary_core.specs.block_core.Exports.{ExportsModel}
+use Rattle.go_summary_core.specs.table_core.Entries.{Entry}
 use Rattle.go_package_core.specs.entry_core.Showing.{shown_in}
 use Rattle.go_used_core.specs.face_core.Packages.{PackageFacesModel}
-use Rattle.go_table_core.specs.Tables.{AreOthers}
+use Rattle.go_summary_core.specs.table_core.Tables.{AreOthers}
 use Rattle.go_summary_core.specs.Summaries.{SummaryModel, path_of}
 use Rattle.go_summary_core.specs.Views.{exports_told, faces_told, types_told}
 use Rattle.go_summary_core.proofs.Telling.{of_one}

@@ -4,17 +4,17 @@
 use Rattle.std.specs.Prelude.{◌≡◌, ℕ, List, Option, Some, map, slice_get}
 use Rattle.std.specs.Option.{option_map}
 use Rattle.go_tree_nodes.specs.Trees.{FileTree}
-use Rattle.go_graph_core.specs.Lists.{AllNumbered}
-use Rattle.go_graph_core.specs.Packages.{trees_of}
-use Rattle.go_block_core.specs.Blocks.{BlocksModel, AreBlocks}
-use Rattle.go_block_core.specs.Naming.{package_named}
-use Rattle.go_table_core.specs.Entries.{Entry}
-use Rattle.go_table_core.specs.Tables.{package_types}
+use Rattle.go_summary_core.specs.graph_core.Lists.{AllNumbered}
+use Rattle.go_summary_core.specs.graph_core.Packages.{trees_of}
+use Rattle.go_summary_core.specs.block_core.Blocks.{BlocksModel, AreBlocks}
+use Rattle.go_summary_core.specs.block_core.Naming.{package_named}
+use Rattle.go_summary_core.specs.table_core.Entries.{Entry}
+use Rattle.go_summary_core.specs.table_core.Tables.{package_types}
 use Rattle.go_package_core.specs.entry_core.Meanings.{Shows}
 use Rattle.go_package_core.specs.entry_core.Showing.{shown_in}
 use Rattle.go_used_core.specs.handle_core.Declarations.{Declaration}
-use Rattle.go_local_core.specs.declared.Fault.{Fault}
-use Rattle.go_report_core.specs.Faults.{IsSettled}
+use Rattle.go_used_core.specs.local_core.declared.Fault.{Fault}
+use Rattle.go_used_core.specs.report_core.Faults.{IsSettled}
 use Rattle.go_used_core.specs.face_core.Faces.{TheFace, face_shown}
 use Rattle.go_used_core.specs.face_core.Packages.{PackageFacesModel}
 use Rattle.go_used_core.specs.Used.{without_unused}

@@ -21,14 +21,64 @@ pub use part::{Part, compile_part, types_of};
 pub use parts::Parts;
 pub use same::same_imports;
 
+/// What the crates above name of `go_answer_core`.
+pub mod answer_core {
+    pub use go_used_core::answer_core::{Answer, HeldLocal, Site};
+}
+
+/// What the crates above name of `go_block_core`.
+pub mod block_core {
+    pub use go_summary_core::block_core::Imported;
+}
+
+/// What the crates above name of `go_denote_core`.
+pub mod denote_core {
+    pub use go_used_core::denote_core::Outcome;
+}
+
+/// What the crates above name of `go_entry_core`.
+pub mod entry_core {
+    pub use go_package_core::entry_core::outlines;
+}
+
+/// What the crates above name of `go_face_core`.
+pub mod face_core {
+    pub use go_used_core::face_core::{Face, FaceTable, lend};
+}
+
+/// What the crates above name of `go_file_core`.
+pub mod file_core {
+    pub use go_package_core::file_core::functions_are_placed;
+}
+
+/// What the crates above name of `go_func_core`.
+pub mod func_core {
+    pub use go_package_core::func_core::{functions_have_one_table, locals_are_declarations};
+}
+
+/// What the crates above name of `go_handle_core`.
+pub mod handle_core {
+    pub use go_used_core::handle_core::{Decl, DeclSite, SignatureRef, TypeRef};
+}
+
 /// What the crates above name of `go_package_core`.
 pub mod package_core {
     pub use go_package_core::{FileAnswers, one_check};
 }
 
+/// What the crates above name of `go_select_core`.
+pub mod select_core {
+    pub use go_summary_core::select_core::EmbedPath;
+}
+
 /// What the crates above name of `go_summary_core`.
 pub mod summary_core {
-    pub use go_summary_core::{ReachedSummaries, Summary};
+    pub use go_summary_core::{ReachedSummaries, Summary, SummaryList, View, import_view, view_of};
+}
+
+/// What the crates above name of `go_table_core`.
+pub mod table_core {
+    pub use go_summary_core::table_core::{DeclaredMethod, DefinedType, TypeTable};
 }
 
 /// What the crates above name of `go_used_core`.

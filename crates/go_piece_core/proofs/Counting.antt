@@ -9,12 +9,12 @@ use Rattle.go_tree_nodes.specs.declared.decls.ValueKind.{ValueKind}
 use Rattle.go_tree_nodes.specs.declared.decls.ValueKind.TheVariants as kinds
 use Rattle.go_tree_nodes.specs.declared.files.Receiver.{Receiver}
 use Rattle.go_tree_nodes.specs.Trees.{Separated, ExprTree, SignatureTree, ResultTree, ParamTrees, Signed, NoResult, OneResult, Results, NoParams, Param, Alone, Step, Assign, Update, Define}
-use Rattle.go_open_core.specs.Blocks.{list_name}
-use Rattle.go_local_core.specs.Steps.{Header, Spec, Act, Condition, Given}
-use Rattle.go_local_core.specs.Outline.{idents, some_idents, param_idents, result_idents, signature_idents, receiver_idents, header_idents, some_ident}
-use Rattle.go_operand_core.specs.TypeRules.{TypeRules}
-use Rattle.go_denote_core.specs.declared.things.Argument.{Argument}
-use Rattle.go_denote_core.specs.declared.things.Argument.TheVariants as arguments
+use Rattle.go_walk_core.specs.open_core.Blocks.{list_name}
+use Rattle.go_walk_core.specs.local_core.Steps.{Header, Spec, Act, Condition, Given}
+use Rattle.go_walk_core.specs.local_core.Outline.{idents, some_idents, param_idents, result_idents, signature_idents, receiver_idents, header_idents, some_ident}
+use Rattle.go_statement_core.specs.operand_core.TypeRules.{TypeRules}
+use Rattle.go_statement_core.specs.denote_core.declared.things.Argument.{Argument}
+use Rattle.go_statement_core.specs.denote_core.declared.things.Argument.TheVariants as arguments
 use Rattle.go_statement_core.specs.declared.targets.Target.{Target}
 use Rattle.go_statement_core.specs.Declarations.{declared_types, type_after, paired_types, short_types}
 use Rattle.go_statement_core.proofs.Typing.{declared_count, paired_count}

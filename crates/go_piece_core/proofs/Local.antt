@@ -11,17 +11,17 @@ use Rattle.go_tree_nodes.specs.declared.decls.ValueKind.TheVariants as kinds
 use Rattle.go_tree_nodes.specs.declared.files.Receiver.{Receiver}
 use Rattle.go_tree_nodes.specs.Trees.{Separated, One, Then, TypeTree, ExprTree, ValueSpecTree, Integer, Text, Named, Paren, Unary, Binary, Select, Call, Literal, StructLiteral, NoItems, SignatureTree, ResultTree, ParamTrees, Signed, NoResult, OneResult, Results, NoParams, Param, SimpleTree, Alone, Step, Assign, Update, Define}
 use Rattle.go_tree_nodes.specs.WrittenTypes.{params_types, result_types, signature_types, some_type, values_types, simple_types, exprs_types, expr_types, items_types}
-use Rattle.go_open_core.specs.Blocks.{is_listed, list_name}
+use Rattle.go_walk_core.specs.open_core.Blocks.{is_listed, list_name}
 use Rattle.go_walk_core.specs.Ends.{is_blank_target}
-use Rattle.go_local_core.specs.Steps.{Piece, Header, Spec, Act, Condition, Given}
-use Rattle.go_local_core.specs.Outline as outline
-use Rattle.go_local_core.specs.Pieces.{piece_types}
-use Rattle.go_denote_core.specs.declared.things.Stand.TheVariants as stands
-use Rattle.go_denote_core.specs.declared.things.Denoted.{Denoted}
-use Rattle.go_denote_core.specs.declared.things.Denoted.TheVariants as denotes
-use Rattle.go_denote_core.specs.declared.things.Argument.{Argument}
-use Rattle.go_denote_core.specs.declared.things.Found.{Found}
-use Rattle.go_denote_core.specs.Arguments.{argument_of, arguments_of, is_free, single_rule}
+use Rattle.go_walk_core.specs.local_core.Steps.{Piece, Header, Spec, Act, Condition, Given}
+use Rattle.go_walk_core.specs.local_core.Outline as outline
+use Rattle.go_walk_core.specs.local_core.Pieces.{piece_types}
+use Rattle.go_statement_core.specs.denote_core.declared.things.Stand.TheVariants as stands
+use Rattle.go_statement_core.specs.denote_core.declared.things.Denoted.{Denoted}
+use Rattle.go_statement_core.specs.denote_core.declared.things.Denoted.TheVariants as denotes
+use Rattle.go_statement_core.specs.denote_core.declared.things.Argument.{Argument}
+use Rattle.go_statement_core.specs.denote_core.declared.things.Found.{Found}
+use Rattle.go_statement_core.specs.denote_core.Arguments.{argument_of, arguments_of, is_free, single_rule}
 use Rattle.go_expr_core.specs.literal_core.Literals.{literal_type}
 use Rattle.go_statement_core.specs.declared.targets.Target.TheVariants as targets_are
 use Rattle.go_statement_core.specs.Targets.{target_of}

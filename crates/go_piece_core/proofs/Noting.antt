@@ -2,11 +2,11 @@
 use Rattle.std.proofs.Common.{◌≡◌, ℕ, Bool, List, ◌++◌, ap, ◌∙◌}
 use Rattle.std.specs.Prelude.{Option}
 use Rattle.go_text_core.specs.declared.rule.Rule.{Rule}
-use Rattle.go_operand_core.specs.TypeRules.{TypeRules}
-use Rattle.go_denote_core.specs.declared.things.Argument.{Argument}
+use Rattle.go_statement_core.specs.operand_core.TypeRules.{TypeRules}
+use Rattle.go_statement_core.specs.denote_core.declared.things.Argument.{Argument}
 use Rattle.go_statement_core.specs.declared.targets.Target.{Target}
 use Rattle.go_statement_core.specs.Assignments.{assignment_rule}
-use Rattle.go_local_core.specs.declared.Fault.{Fault}
+use Rattle.go_walk_core.specs.local_core.declared.Fault.{Fault}
 use Rattle.go_expr_core.specs.Faults.{fault_at}
 use Rattle.go_expr_core.proofs.Steps.{both}
 

@@ -10,17 +10,17 @@ use Rattle.go_tree_nodes.specs.declared.files.Receiver.{Receiver}
 use Rattle.go_tree_nodes.specs.Terminals.{Terminal}
 use Rattle.go_tree_nodes.specs.Trees.{Separated, One, Then, TypeTree, FieldTrees, MethodTrees, SignatureTree, ResultTree, ParamTrees, NamedType, Pointer, ParenType, Struct, Interface, NoFields, NamedFields, EmbeddedField, NoMethods, Method, Signed, NoResult, OneResult, Results, NoParams, Param, ExprTree, ItemTrees, Integer, Text, Named, Paren, Unary, Binary, Select, Call, Literal, StructLiteral, NoItems, Item, SimpleTree, Alone, Step, Assign, Update, Define}
 use Rattle.go_tree_nodes.specs.Spelling.{spell_ident, spell_idents, spell_some, spell_type_name, spell_tag, spell_names, spell_type, spell_fields, spell_methods, spell_signature, spell_result, spell_params, spell_key, spell, spell_items, spell_exprs, spell_some_type, spell_values, spell_simple, spell_receiver_name, spell_receiver}
-use Rattle.go_local_core.specs.Steps.{Piece, Header, Spec, Act, Condition, Given, spell_piece}
-use Rattle.go_local_core.specs.Outline as outline
-use Rattle.go_local_core.specs.Binding.{NameLook}
-use Rattle.go_local_core.specs.Alike.{Alike}
+use Rattle.go_walk_core.specs.local_core.Steps.{Piece, Header, Spec, Act, Condition, Given, spell_piece}
+use Rattle.go_walk_core.specs.local_core.Outline as outline
+use Rattle.go_walk_core.specs.local_core.Binding.{NameLook}
+use Rattle.go_walk_core.specs.local_core.Alike.{Alike}
 use Rattle.go_walk_core.specs.Ends.{is_blank_target}
 use Rattle.go_expr_core.specs.Looks.{Looks}
 use Rattle.go_expr_core.specs.Laws.{AgreeOnIdents}
 use Rattle.go_expr_core.specs.Locality.{SameWritten, seeing}
 use Rattle.go_piece_core.specs.Pieces.{piece_uses, piece_faults}
 use Rattle.go_piece_core.specs.Laws.{simple_idents, piece_idents, SamePiece, FindByNames, PiecesLookAtNames}
-use Rattle.go_local_core.specs.Pieces.{piece_types}
+use Rattle.go_walk_core.specs.local_core.Pieces.{piece_types}
 use Rattle.go_piece_core.proofs.Local.{pieces_local}
 use Rattle.go_tree_nodes.specs.Idents.{type_name_idents, type_idents, fields_idents, methods_idents, signature_type_idents, result_type_idents, params_idents, expr_idents, items_idents, receiver_type_idents, some_type_idents, list_idents}
 use Rattle.go_walk_core.specs.PieceIdents.{values_idents, target_idents, targets_idents}

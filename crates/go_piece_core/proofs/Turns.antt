@@ -4,12 +4,12 @@ use Rattle.std.specs.Prelude.{Option}
 use Rattle.std.proofs.lemmas.List.{drop_more, drop_all}
 use Rattle.go_tree_nodes.specs.declared.names.NextIdent.{NextIdent}
 use Rattle.go_tree_nodes.specs.Trees.{Separated, ExprTree}
-use Rattle.go_open_core.specs.Blocks.{list_name}
-use Rattle.go_operand_core.specs.TypeRules.{TypeRules}
-use Rattle.go_denote_core.specs.declared.things.Argument.{Argument}
+use Rattle.go_walk_core.specs.open_core.Blocks.{list_name}
+use Rattle.go_statement_core.specs.operand_core.TypeRules.{TypeRules}
+use Rattle.go_statement_core.specs.denote_core.declared.things.Argument.{Argument}
 use Rattle.go_statement_core.specs.declared.targets.Target.{Target}
 use Rattle.go_statement_core.specs.Constants.{constant_answer}
-use Rattle.go_local_core.specs.declared.Fault.{Fault}
+use Rattle.go_walk_core.specs.local_core.declared.Fault.{Fault}
 use Rattle.go_expr_core.specs.Looks.{Looks}
 use Rattle.go_piece_core.specs.Values.{list_start, behind}
 use Rattle.go_piece_core.specs.Targets.{short_target, flag_of, flags_behind, short_targets}

@@ -8,10 +8,10 @@ use Rattle.go_tree_nodes.specs.declared.names.Ident.{Ident}
 use Rattle.go_tree_nodes.specs.declared.files.Receiver.{Receiver}
 use Rattle.go_tree_nodes.specs.Trees.{Separated, SignatureTree, ResultTree, ParamTrees, Signed, NoResult, OneResult, Results, NoParams, Param}
 use Rattle.go_tree_nodes.specs.Rules.{is_grouped}
-use Rattle.go_local_core.specs.Outline.{idents}
-use Rattle.go_operand_core.specs.TypeRules.{TypeRules}
+use Rattle.go_walk_core.specs.local_core.Outline.{idents}
+use Rattle.go_statement_core.specs.operand_core.TypeRules.{TypeRules}
 use Rattle.go_expr_core.specs.declared.things.Use.{Use}
-use Rattle.go_local_core.specs.declared.Fault.{Fault}
+use Rattle.go_walk_core.specs.local_core.declared.Fault.{Fault}
 use Rattle.go_expr_core.specs.Looks.{Looks}
 use Rattle.go_expr_core.specs.Denoting.{named_type, written_type}
 use Rattle.go_expr_core.specs.Uses.{type_name_uses}

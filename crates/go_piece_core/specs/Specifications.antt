@@ -9,15 +9,15 @@ use Rattle.go_tree_nodes.specs.declared.names.Ident.{Ident}
 use Rattle.go_tree_nodes.specs.declared.decls.ValueKind.{ValueKind}
 use Rattle.go_tree_nodes.specs.declared.decls.ValueKind.TheVariants as kinds
 use Rattle.go_tree_nodes.specs.Trees.{Separated, One, Then, ExprTree, ValueSpecTree}
-use Rattle.go_local_core.specs.Outline.{idents}
-use Rattle.go_operand_core.specs.declared.types.Operand.{Operand}
-use Rattle.go_operand_core.specs.TypeRules.{TypeRules}
-use Rattle.go_denote_core.specs.declared.things.Argument.{Argument}
-use Rattle.go_denote_core.specs.declared.things.Argument.TheVariants as arguments
+use Rattle.go_walk_core.specs.local_core.Outline.{idents}
+use Rattle.go_statement_core.specs.operand_core.declared.types.Operand.{Operand}
+use Rattle.go_statement_core.specs.operand_core.TypeRules.{TypeRules}
+use Rattle.go_statement_core.specs.denote_core.declared.things.Argument.{Argument}
+use Rattle.go_statement_core.specs.denote_core.declared.things.Argument.TheVariants as arguments
 use Rattle.go_statement_core.specs.Declarations.{declared_types, variables_rule, initials_rule, initial_types}
 use Rattle.go_statement_core.specs.Constants.{constants_rule, constant_answer}
 use Rattle.go_expr_core.specs.declared.things.Use.{Use}
-use Rattle.go_local_core.specs.declared.Fault.{Fault}
+use Rattle.go_walk_core.specs.local_core.declared.Fault.{Fault}
 use Rattle.go_expr_core.specs.Looks.{Looks}
 use Rattle.go_expr_core.specs.Faults.{fault_at}
 use Rattle.go_piece_core.specs.Values.{variable, is_call_alone, list_start, behind, given, is_unknown, list_uses, list_faults}

@@ -7,18 +7,18 @@ use Rattle.go_text_core.specs.declared.span.Span.{Span}
 use Rattle.go_token_core.specs.declared.kind.Operator.{Operator}
 use Rattle.go_tree_nodes.specs.declared.names.Ident.{Ident}
 use Rattle.go_tree_nodes.specs.Trees.{Separated, ExprTree, Paren, Call, SimpleTree, Alone, Step, Assign, Update, Define}
-use Rattle.go_local_core.specs.Outline.{idents}
-use Rattle.go_denote_core.specs.declared.things.Stand.TheVariants as stands
-use Rattle.go_denote_core.specs.declared.things.Denoted.{Denoted}
-use Rattle.go_denote_core.specs.declared.things.Argument.{Argument}
-use Rattle.go_denote_core.specs.Arguments.{argument_of}
+use Rattle.go_walk_core.specs.local_core.Outline.{idents}
+use Rattle.go_statement_core.specs.denote_core.declared.things.Stand.TheVariants as stands
+use Rattle.go_statement_core.specs.denote_core.declared.things.Denoted.{Denoted}
+use Rattle.go_statement_core.specs.denote_core.declared.things.Argument.{Argument}
+use Rattle.go_statement_core.specs.denote_core.Arguments.{argument_of}
 use Rattle.go_statement_core.specs.Assignments.{assignment_rule}
 use Rattle.go_statement_core.specs.Declarations.{short_types}
 use Rattle.go_statement_core.specs.Returns.{return_rule}
 use Rattle.go_statement_core.specs.Statements.{statement_rule, condition_rule}
 use Rattle.go_statement_core.specs.Updates.{update_rule, increment_rule}
 use Rattle.go_expr_core.specs.declared.things.Use.{Use}
-use Rattle.go_local_core.specs.declared.Fault.{Fault}
+use Rattle.go_walk_core.specs.local_core.declared.Fault.{Fault}
 use Rattle.go_expr_core.specs.Looks.{Looks}
 use Rattle.go_expr_core.specs.Places.{start}
 use Rattle.go_expr_core.specs.Lists.{is_list}

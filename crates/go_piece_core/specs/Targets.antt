@@ -6,14 +6,14 @@ use Rattle.std.specs.Prelude.{ℕ, Bool, true, false, not, List, [], ◌∷◌, 
 use Rattle.go_text_core.specs.Text.{is_blank}
 use Rattle.go_tree_nodes.specs.declared.names.Ident.{Ident}
 use Rattle.go_tree_nodes.specs.Trees.{Separated, One, Then, ExprTree}
-use Rattle.go_open_core.specs.Blocks.{is_listed, list_name}
+use Rattle.go_walk_core.specs.open_core.Blocks.{is_listed, list_name}
 use Rattle.go_walk_core.specs.Ends.{is_blank_target}
-use Rattle.go_denote_core.specs.declared.things.Stand.TheVariants as stands
+use Rattle.go_statement_core.specs.denote_core.declared.things.Stand.TheVariants as stands
 use Rattle.go_statement_core.specs.declared.targets.Target.{Target}
 use Rattle.go_statement_core.specs.declared.targets.Target.TheVariants as kinds
 use Rattle.go_statement_core.specs.Targets.{target_of}
 use Rattle.go_expr_core.specs.declared.things.Use.{Use}
-use Rattle.go_local_core.specs.declared.Fault.{Fault}
+use Rattle.go_walk_core.specs.local_core.declared.Fault.{Fault}
 use Rattle.go_expr_core.specs.Looks.{Looks}
 use Rattle.go_expr_core.specs.Denoting.{ident_answer, denoted}
 use Rattle.go_expr_core.specs.Uses.{uses}

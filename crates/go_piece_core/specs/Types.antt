@@ -4,7 +4,7 @@
 use Rattle.std.specs.Prelude.{List, [], Option, Some, None}
 use Rattle.go_tree_nodes.specs.Trees.{TypeTree}
 use Rattle.go_expr_core.specs.declared.things.Use.{Use}
-use Rattle.go_local_core.specs.declared.Fault.{Fault}
+use Rattle.go_walk_core.specs.local_core.declared.Fault.{Fault}
 use Rattle.go_expr_core.specs.Looks.{Looks}
 use Rattle.go_expr_core.specs.Denoting.{named_type, written_type}
 use Rattle.go_expr_core.specs.TypeUses.{type_uses}

@@ -4,12 +4,12 @@
 -- "Return statements".
 use Rattle.std.specs.Prelude.{ℕ, Bool, true, false, List, Option, Some, None}
 use Rattle.go_tree_nodes.specs.Trees.{Separated, One, Then, ExprTree}
-use Rattle.go_operand_core.specs.declared.types.ValueType.TheVariants as value_types
-use Rattle.go_operand_core.specs.declared.types.Operand.{Operand}
-use Rattle.go_denote_core.specs.declared.things.Argument.{Argument}
-use Rattle.go_denote_core.specs.Arguments.{arguments_of, is_free}
+use Rattle.go_statement_core.specs.operand_core.declared.types.ValueType.TheVariants as value_types
+use Rattle.go_statement_core.specs.operand_core.declared.types.Operand.{Operand}
+use Rattle.go_statement_core.specs.denote_core.declared.things.Argument.{Argument}
+use Rattle.go_statement_core.specs.denote_core.Arguments.{arguments_of, is_free}
 use Rattle.go_expr_core.specs.declared.things.Use.{Use}
-use Rattle.go_local_core.specs.declared.Fault.{Fault}
+use Rattle.go_walk_core.specs.local_core.declared.Fault.{Fault}
 use Rattle.go_expr_core.specs.Looks.{Looks, look_of_place}
 use Rattle.go_expr_core.specs.Places.{is_call, start}
 use Rattle.go_expr_core.specs.Lists.{is_list, denoted_exprs, exprs_uses, exprs_faults}

@@ -3,7 +3,7 @@ ghost use Rattle.std.specs.Prelude.{◌≡◌, ◌++◌, IfOk, OnOk, map, replic
 ghost use Rattle.go_tree_nodes.specs.declared.decls.ValueKind.TheVariants as kinds;
 ghost use Rattle.go_tree_nodes.specs.Shapes.{exprs_from, shape_exprs, shape_value_spec, shape_values};
 ghost use Rattle.go_tree_nodes.specs.TypeShapes.{shape_idents};
-ghost use Rattle.go_denote_core.specs.declared.things.Argument.TheVariants as arguments;
+ghost use Rattle.go_statement_core.specs.denote_core.declared.things.Argument.TheVariants as arguments;
 ghost use Rattle.go_statement_core.specs.Constants.{constant_answer as answer_of};
 ghost use Rattle.go_expr_core.specs.Looks.{everywhere};
 ghost use Rattle.go_piece_core.specs.Values as lists;
@@ -13,13 +13,13 @@ use crate::given::check_list;
 use crate::starts::{is_lone_call, names_start};
 use crate::types::check_some_type;
 use crate::variables::count_names;
-use go_denote_core::Argument;
 use go_expr_core::{Exprs, Notes, note_fault, start};
-use go_local_core::Fault;
-use go_operand_core::{Operand, TypeLooks};
+use go_statement_core::denote_core::Argument;
+use go_statement_core::operand_core::{Operand, TypeLooks};
 use go_statement_core::{constant_answer, constants_rule};
 use go_text_core::Rule;
 use go_tree_nodes::{Expr, Idents, NextExpr, ValueSpec, Values};
+use go_walk_core::local_core::Fault;
 use std::alloc::{AllocError, Global};
 
 // Where the rule of a constant lies.

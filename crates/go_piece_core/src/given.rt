@@ -5,8 +5,8 @@ ghost use Rattle.go_expr_core.specs.Looks.{everywhere};
 ghost use Rattle.go_piece_core.specs.Values as values;
 
 use crate::starts::is_lone_call;
-use go_denote_core::{Argument, arguments_of, is_free};
 use go_expr_core::{Exprs, Notes, check_exprs};
+use go_statement_core::denote_core::{Argument, arguments_of, is_free};
 use std::alloc::{AllocError, Global};
 
 /// What a list of expressions gives.

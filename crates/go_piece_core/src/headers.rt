@@ -9,11 +9,11 @@ ghost use Rattle.go_piece_core.specs.Headers as headers;
 use crate::types::{make_type, variables};
 use crate::variables::count_names;
 use go_expr_core::{Exprs, Notes, check_signature, check_type_name};
-use go_local_core::Fault;
-use go_operand_core::{Operand, TypeLooks};
+use go_statement_core::operand_core::{Operand, TypeLooks};
 use go_statement_core::some_type_again;
 use go_text_core::Span;
 use go_tree_nodes::{Idents, Param, Receiver, Results, Signature};
+use go_walk_core::local_core::Fault;
 use std::alloc::{AllocError, Global};
 
 // A type behind a star, if one stands there.

@@ -27,3 +27,40 @@ pub use returns::check_returned;
 pub use shorts::check_short;
 pub use statements::check_condition;
 pub use types::variable;
+
+/// What the crates above name of `go_denote_core`.
+pub mod denote_core {
+    pub use go_statement_core::denote_core::{
+        Argument, Denoted, Outcome, Stand, argument_of, arguments_of,
+    };
+}
+
+/// What the crates above name of `go_expr_core`.
+pub mod expr_core {
+    pub use go_expr_core::{Exprs, Notes, Use, check_expr, check_type, start};
+}
+
+/// What the crates above name of `go_local_core`.
+pub mod local_core {
+    pub use go_walk_core::local_core::Fault;
+}
+
+/// What the crates above name of `go_operand_core`.
+pub mod operand_core {
+    pub use go_statement_core::operand_core::Operand;
+}
+
+/// What the crates above name of `go_statement_core`.
+pub mod statement_core {
+    pub use go_statement_core::{constant_answer, declared_types, initial_argument};
+}
+
+/// What the crates above name of `go_tree_core`.
+pub mod tree_core {
+    pub use go_expr_core::tree_core::Role;
+}
+
+/// What the crates above name of `go_walk_core`.
+pub mod walk_core {
+    pub use go_walk_core::{Panics, are_terminating, lines_loop_faults};
+}

@@ -10,7 +10,7 @@ use crate::shorts::check_short;
 use crate::statements::{check_alone, check_assign, check_step, check_update};
 use crate::variables::{check_initials, check_variables};
 use go_expr_core::{Exprs, Notes};
-use go_operand_core::Operand;
+use go_statement_core::operand_core::Operand;
 use go_tree_nodes::{Simple, ValueKind, ValueSpec};
 use std::alloc::{AllocError, Global};
 

@@ -2,8 +2,8 @@
 ghost use Rattle.std.specs.Prelude.{◌≡◌, ◌++◌, [], IfOk, OnOk, map};
 ghost use Rattle.go_tree_nodes.specs.Shapes.{shape_exprs};
 ghost use Rattle.go_tree_nodes.specs.TypeShapes.{shape_idents};
-ghost use Rattle.go_open_core.specs.Blocks.{list_name};
-ghost use Rattle.go_local_core.specs.Outline.{idents};
+ghost use Rattle.go_walk_core.specs.open_core.Blocks.{list_name};
+ghost use Rattle.go_walk_core.specs.local_core.Outline.{idents};
 ghost use Rattle.go_expr_core.specs.Looks.{everywhere};
 ghost use Rattle.go_piece_core.specs.Values as values;
 ghost use Rattle.go_piece_core.specs.Targets as targets;
@@ -12,12 +12,12 @@ ghost use Rattle.go_piece_core.specs.Statements as statements;
 use crate::given::check_list;
 use crate::starts::names_start;
 use crate::types::variables;
-use go_denote_core::{Stand, name_answer};
 use go_expr_core::{Exprs, Notes, note_fault};
-use go_open_core::NameList;
-use go_operand_core::Operand;
+use go_statement_core::denote_core::{Stand, name_answer};
+use go_statement_core::operand_core::Operand;
 use go_statement_core::{Target, assignment_rule, short_types, target_of};
 use go_tree_nodes::{Ident, Idents};
+use go_walk_core::open_core::NameList;
 use std::alloc::{AllocError, Global};
 
 // Whether the first of some names is the first of its block.

@@ -5,8 +5,8 @@ ghost use Rattle.go_expr_core.specs.Looks.{everywhere};
 ghost use Rattle.go_expr_core.specs.Lists.{is_list};
 ghost use Rattle.go_piece_core.specs.Targets as targets;
 
-use go_denote_core::Stand;
 use go_expr_core::{Exprs, Notes, check_expr, is_list, note_member, start};
+use go_statement_core::denote_core::Stand;
 use go_statement_core::{Target, target_of};
 use go_tree_nodes::Expr;
 use go_walk_core::is_blank_target;

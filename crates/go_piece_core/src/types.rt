@@ -8,9 +8,9 @@ ghost use Rattle.go_piece_core.specs.Values as values;
 ghost use Rattle.go_piece_core.specs.Types as types;
 
 use go_expr_core::{Exprs, Notes, check_type};
-use go_local_core::Fault;
-use go_operand_core::{Operand, ValueType};
+use go_statement_core::operand_core::{Operand, ValueType};
 use go_tree_nodes::TypeExpr;
+use go_walk_core::local_core::Fault;
 use std::alloc::{AllocError, Global};
 
 /// Notes the faults of a type that is written, and answers it.

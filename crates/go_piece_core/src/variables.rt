@@ -3,7 +3,7 @@ ghost use Rattle.std.specs.Prelude.{◌≡◌, ◌++◌, IfOk, OnOk, length};
 ghost use Rattle.go_tree_nodes.specs.declared.decls.ValueKind.TheVariants as kinds;
 ghost use Rattle.go_tree_nodes.specs.Shapes.{shape_value_spec, shape_values};
 ghost use Rattle.go_tree_nodes.specs.TypeShapes.{shape_idents};
-ghost use Rattle.go_local_core.specs.Outline.{idents};
+ghost use Rattle.go_walk_core.specs.local_core.Outline.{idents};
 ghost use Rattle.go_expr_core.specs.Looks.{everywhere};
 ghost use Rattle.go_piece_core.specs.Specifications as specifications;
 
@@ -11,7 +11,7 @@ use crate::given::check_list;
 use crate::starts::{is_lone_call, names_start};
 use crate::types::{check_some_type, variables};
 use go_expr_core::{Exprs, Notes, note_fault};
-use go_operand_core::Operand;
+use go_statement_core::operand_core::Operand;
 use go_statement_core::{declared_types, initials_rule, variables_rule};
 use go_tree_nodes::{Idents, ValueSpec, Values};
 use std::alloc::{AllocError, Global};

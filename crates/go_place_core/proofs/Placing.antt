@@ -10,13 +10,13 @@ use Rattle.go_tree_nodes.specs.Trees.{Separated, One, Then, TypeTree, Signed, On
 use Rattle.go_local_core.specs.Steps.{Piece, Header, Spec, Act, Condition, Given, Steps, Done, Check, Declare, Inner}
 use Rattle.go_local_core.specs.Outline.{func_steps}
 use Rattle.go_local_core.specs.mirrors.Walk.{Names, look_in, with_name, with_names, news, names_of, is_new}
-use Rattle.go_denote_core.specs.declared.things.Stand.TheVariants as stands
-use Rattle.go_expr_core.specs.Looks.{Looks}
-use Rattle.go_expr_core.specs.Uses.{Context, Spot, Identifier, CallAt, spots, type_spots}
-use Rattle.go_piece_core.specs.Pieces.{piece_values}
-use Rattle.go_env_core.specs.declared.meaning.Meaning.{Meaning}
-use Rattle.go_body_core.specs.Rules.{local_at}
-use Rattle.go_func_core.specs.Stands.{FileStand, looks_where, outer_meanings, outer_look, outer_looks}
+use Rattle.go_spot_core.specs.denote_core.declared.things.Stand.TheVariants as stands
+use Rattle.go_spot_core.specs.expr_core.Looks.{Looks}
+use Rattle.go_spot_core.specs.expr_core.Uses.{Context, Spot, Identifier, CallAt, spots, type_spots}
+use Rattle.go_spelling_core.specs.piece_core.Pieces.{piece_values}
+use Rattle.go_spelling_core.specs.env_core.declared.meaning.Meaning.{Meaning}
+use Rattle.go_spelling_core.specs.body_core.Rules.{local_at}
+use Rattle.go_spelling_core.specs.func_core.Stands.{FileStand, looks_where, outer_meanings, outer_look, outer_looks}
 use Rattle.go_spot_core.specs.Used.{Used, type_used, spec_used, piece_used}
 use Rattle.go_spot_core.specs.Contexts.{context_of_spot, in_its_context, identifier_of, identifiers_among}
 use Rattle.go_spot_core.specs.Opened.{FileUsed, OpenUsed, piece_opened, func_opened, with_idents, file_name, in_func, outside, open_used, decl_names, tops_names, file_names}

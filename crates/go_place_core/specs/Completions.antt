@@ -10,12 +10,12 @@ use Rattle.go_graph_core.specs.Workspaces.{by_bytes}
 use Rattle.go_tree_nodes.specs.declared.names.Ident.{Ident}
 use Rattle.go_tree_nodes.specs.Trees.{TopTree, FileTree}
 use Rattle.go_term_core.specs.Terms.{Term}
-use Rattle.go_handle_core.specs.Declarations.{Declaration}
+use Rattle.go_spelling_core.specs.handle_core.Declarations.{Declaration}
 use Rattle.go_local_core.specs.Binding.{NameLook}
-use Rattle.go_denote_core.specs.declared.things.Dot.TheVariants as dots
-use Rattle.go_expr_core.specs.Uses.{Context, NameAt, SelectorBehind, KeyAmong, Identifier, rule}
-use Rattle.go_env_core.specs.declared.meaning.Meaning.{Meaning}
-use Rattle.go_func_core.specs.Stands.{FileStand, looks_where}
+use Rattle.go_spot_core.specs.denote_core.declared.things.Dot.TheVariants as dots
+use Rattle.go_spot_core.specs.expr_core.Uses.{Context, NameAt, SelectorBehind, KeyAmong, Identifier, rule}
+use Rattle.go_spelling_core.specs.env_core.declared.meaning.Meaning.{Meaning}
+use Rattle.go_spelling_core.specs.func_core.Stands.{FileStand, looks_where}
 use Rattle.go_part_core.specs.Parts.{IsPart, PartModel, package_seen, seen_by}
 use Rattle.go_context_core.specs.Laws.{is_declared}
 use Rattle.go_spot_core.specs.Used.{Used}

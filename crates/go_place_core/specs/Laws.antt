@@ -5,9 +5,9 @@ use Rattle.std.specs.Prelude.{◌≡◌, Bool, true, false, List, [], map, Optio
 use Rattle.go_tree_nodes.specs.declared.names.Ident.{Ident}
 use Rattle.go_tree_nodes.specs.Trees.{Func, FuncTree, TopTree, FileTree}
 use Rattle.go_local_core.specs.mirrors.Walk.{Names, look_in, names_of}
-use Rattle.go_env_core.specs.declared.meaning.Meaning.{Meaning}
-use Rattle.go_env_core.specs.declared.meaning.Meaning.TheVariants as meanings
-use Rattle.go_func_core.specs.Stands.{FileStand, outer_meanings}
+use Rattle.go_spelling_core.specs.env_core.declared.meaning.Meaning.{Meaning}
+use Rattle.go_spelling_core.specs.env_core.declared.meaning.Meaning.TheVariants as meanings
+use Rattle.go_spelling_core.specs.func_core.Stands.{FileStand, outer_meanings}
 use Rattle.go_spot_core.specs.Opened.{FileUsed, file_names}
 use Rattle.go_spot_core.specs.Walks.{PieceAt, func_pieces}
 use Rattle.go_spelling_core.specs.Places.{place_rules}

@@ -6,3 +6,8 @@
 mod laws;
 
 pub use laws::spots_are_places;
+
+/// What the crates above name of `go_part_core`.
+pub mod part_core {
+    pub use go_part_core::Part;
+}

@@ -13,17 +13,17 @@ use Rattle.std.proofs.lemmas.Option.{get_or_from_slice_get, slice_get-get_or, sl
 use Rattle.go_tree_nodes.specs.Trees.{FileTree}
 use Rattle.go_tree_core.specs.Occurrences.{CoversAt, NoneCovers, file_occs}
 use Rattle.go_denote_core.specs.declared.things.Outcome.TheVariants as outcomes
-use Rattle.go_handle_core.specs.Declarations.{Declaration}
+use Rattle.go_shown_core.specs.handle_core.Declarations.{Declaration}
 use Rattle.go_expr_core.specs.Laws.{occurrence_place, use_place}
-use Rattle.go_parse_core.specs.Parsing.{IsParse}
+use Rattle.go_graph_core.specs.parse_core.Parsing.{IsParse}
 use Rattle.go_graph_core.specs.Packages.{tree_shown, trees_of}
 use Rattle.go_graph_core.specs.Sources.{IsContent, IsRead, SourceModel}
 use Rattle.go_graph_core.specs.Workspaces.{IsWorkspace}
 use Rattle.go_graph_core.proofs.Assemblies.{tree_at}
-use Rattle.go_emit_core.specs.ready_core.Packages.{trees_in}
-use Rattle.go_emit_core.specs.used_core.Used.{FileUse}
-use Rattle.go_make_core.specs.part_core.Inputs.{IsInput}
-use Rattle.go_whole_core.proofs.PartsWhole.{all_right}
+use Rattle.go_snap_core.specs.ready_core.Packages.{trees_in}
+use Rattle.go_snap_core.specs.used_core.Used.{FileUse}
+use Rattle.go_snap_core.specs.part_core.Inputs.{IsInput}
+use Rattle.go_snap_core.specs.whole_core.PartsWhole.{all_right}
 use Rattle.go_snap_core.specs.part_core.Laws.{PartHasOccurrences}
 use Rattle.go_snap_core.specs.Snapshots.{FoundFile, HasNoFile, IsFileAt, IsSnapshot, SnapshotModel}
 use Rattle.go_snap_core.proofs.Faulty.{read_there}
@@ -57,7 +57,7 @@ no_identifier text offset fault scanned = (λ on. absurd (true≢false (sym on))
 
 -- of files
 
-parsed : (s : SourceModel) (f : FileTree) → IsRead s → s.content ≡ Ok f → IsParse s.text f
+pub parsed : (s : SourceModel) (f : FileTree) → IsRead s → s.content ≡ Ok f → IsParse s.text f
 parsed s f read is = subst (IsContent s.text) is read
 
 module _ (s : SnapshotModel) (well : IsWorkspace s.sources) (whole : IsSnapshot s.sources s.parts s.faults) (path name : List ℕ) (f : FoundFile) (at : IsFileAt s.sources s.parts path name f) where

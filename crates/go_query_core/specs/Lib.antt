@@ -1,6 +1,12 @@
+pub mod Completing
 pub mod Defining
 pub mod Documenting
 pub mod Entries
 pub mod Listing
 pub mod Parts
 pub mod mirrors
+pub mod part_core
+pub mod place_core
+pub mod shown_core
+pub mod snap_core
+pub mod symbol_core

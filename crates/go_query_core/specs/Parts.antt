@@ -2,7 +2,7 @@
 use Rattle.std.specs.Prelude.{◌≡◌, ℕ, List, Some, slice_get}
 use Rattle.go_graph_core.specs.Imports.{IsNumbered}
 use Rattle.go_graph_core.specs.Sources.{SourceModel}
-use Rattle.go_make_core.specs.part_core.Parts.{PartModel}
+use Rattle.go_snap_core.specs.part_core.Parts.{PartModel}
 use Rattle.go_snap_core.specs.Snapshots.{SnapshotModel}
 
 -- the package of a path has this number and this part

@@ -8,9 +8,9 @@ ghost use Rattle.go_query_core.specs.Defining.{Declares, IsDefinition, IsDefinit
 ghost use Rattle.go_query_core.specs.mirrors.Uses.{HasOccurrences};
 
 use go_denote_core::Outcome;
-use go_emit_core::answer_core::{Answer, Site};
 use go_path_core::ImportPath;
 use go_scan_core::scan;
+use go_snap_core::answer_core::{Answer, Site};
 use go_snap_core::part_core::part_has_occurrences;
 use go_snap_core::{FileIn, Snapshot};
 use go_text_core::Rule;
@@ -57,8 +57,8 @@ fn is_identifier_at(alloc: Global, text: &str, offset: usize) -> Result<bool, Al
     }
 }
 
-// The rule of an offset of a text at which nothing is used.
-fn unused(alloc: Global, text: &str, offset: usize) -> Rule
+/// The rule of an offset of a text at which nothing is used.
+pub(crate) fn unused(alloc: Global, text: &str, offset: usize) -> Rule
     ensures { (result ≡ Rule.M0) ⊎ IsUnused text.now offset result }
 {
     match is_identifier_at(alloc, text, offset) {
@@ -103,8 +103,8 @@ fn define_in(alloc: Global, file: FileIn<'_>, offset: usize) -> Result<&Site, Ru
     }
 }
 
-// The rule of a file that the package of a path has not.
-fn lacking(snapshot: &Snapshot, path: &ImportPath) -> Rule
+/// The rule of a file that the package of a path has not.
+pub(crate) fn lacking(snapshot: &Snapshot, path: &ImportPath) -> Rule
     ensures { IsLacking snapshot.now path.now result }
 {
     match snapshot.part(path) {

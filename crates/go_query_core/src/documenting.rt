@@ -2,7 +2,7 @@
 ghost use Rattle.std.specs.Prelude.{◌≡◌, ◌↔◌, ◌⊎◌, ◌<◌, IfErr, IfOk, IsTrue, length};
 ghost use Rattle.go_graph_core.specs.declared.imports.ImportOutcome.TheVariants.{Refused};
 ghost use Rattle.go_list_core.specs.Importing.{IsJudgedAt};
-ghost use Rattle.go_make_core.specs.part_core.Inputs.{path_in};
+ghost use Rattle.go_snap_core.specs.part_core.Inputs.{path_in};
 ghost use Rattle.go_query_core.specs.Documenting.{IsDoc, IsDocRefusal, IsExportedDoc, IsImportRefused, IsImportedDoc, IsImportedPart, IsOwnDoc, doc_shown};
 ghost use Rattle.go_query_core.specs.Parts.{IsPartOf};
 

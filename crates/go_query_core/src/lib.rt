@@ -1,16 +1,33 @@
-//! What may be asked of a snapshot: where an identifier that is used is declared, which packages a package could import, and what a package
-//! declares, with its doc comments.
+//! What may be asked of a snapshot: where an identifier that is used is declared, which names could stand in its place, which packages a package could
+//! import, and what a package declares, with its doc comments.
 //!
 //! Nothing is checked again for it, and a snapshot keeps nothing more for it.
 #![tactic(auto)]
 
+mod completing;
 mod defining;
 mod documenting;
 mod entry;
 mod listing;
 mod parts;
 
+pub use completing::complete;
 pub use defining::define;
 pub use documenting::{PackageDoc, doc};
 pub use entry::PackageEntry;
 pub use listing::{Listing, list};
+
+/// What the crates above name of `go_part_core`.
+pub mod part_core {
+    pub use go_snap_core::part_core::Part;
+}
+
+/// What the crates above name of `go_snap_core`.
+pub mod snap_core {
+    pub use go_snap_core::{PlacedFault, Snapshot};
+}
+
+/// What the crates above name of `go_symbol_core`.
+pub mod symbol_core {
+    pub use go_symbol_core::Symbol;
+}

@@ -1,7 +1,7 @@
 //! The packages that a package could import.
 ghost use Rattle.std.specs.Prelude.{◌≡◌, ◌⊎◌, ◌<◌, All, IfErr, IfOk, length};
 ghost use Rattle.std.specs.List.{AllZip};
-ghost use Rattle.go_make_core.specs.part_core.Inputs.{path_in};
+ghost use Rattle.go_snap_core.specs.part_core.Inputs.{path_in};
 ghost use Rattle.go_query_core.specs.Defining.{HasNoPart};
 ghost use Rattle.go_query_core.specs.Listing.{AreEntries, IsEntryOf, IsListing};
 ghost use Rattle.go_query_core.specs.Parts.{HasPart, IsPartOf};

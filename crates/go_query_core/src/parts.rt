@@ -1,6 +1,6 @@
 //! Parts of snapshots by numbers.
 ghost use Rattle.std.specs.Prelude.{◌≡◌, MatchOption, Some, slice_get};
-ghost use Rattle.go_make_core.specs.part_core.Parts.{PartModel};
+ghost use Rattle.go_snap_core.specs.part_core.Parts.{PartModel};
 ghost use Rattle.go_snap_core.specs.Snapshots.{IsPartAt};
 ghost use Rattle.go_query_core.specs.Parts.{HasPart, IsPartOf};
 

@@ -1,3 +1,4 @@
 pub mod Numbers
 pub mod Reach
 pub mod mirrors
+pub mod cycle_core

@@ -9,3 +9,8 @@ mod numbers;
 
 pub use graph::{Reached, find_reached, starts_of};
 pub use numbers::NumberSet;
+
+/// What the crates above name of `go_cycle_core`.
+pub mod cycle_core {
+    pub use go_cycle_core::{Edge, Ranked, rank_and_order};
+}

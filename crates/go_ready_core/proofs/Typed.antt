@@ -7,18 +7,18 @@ use Rattle.go_tree_nodes.specs.declared.decls.ValueKind.TheVariants as kinds
 use Rattle.go_tree_nodes.specs.Starts.{type_start}
 use Rattle.go_tree_nodes.specs.Trees.{TypeTree, ValueSpecTree, Specs, Single, Group, DeclTree, Value, Types, Func, TopTree, FileTree}
 use Rattle.go_text_core.specs.declared.span.Span.{Span}
-use Rattle.go_decl_core.specs.TopDecls.{TopDeclTree, FormTree, ValueForm, TypeForm, FuncForm, top_decls}
+use Rattle.go_term_core.specs.decl_core.TopDecls.{TopDeclTree, FormTree, ValueForm, TypeForm, FuncForm, top_decls}
 use Rattle.go_term_core.specs.Terms.{Term, Sign}
 use Rattle.go_func_core.specs.handle_core.Declarations.{Declaration}
-use Rattle.go_expr_core.specs.Looks.{WrittenRules}
-use Rattle.go_expr_core.specs.Locality.{SameType, SameWritten}
-use Rattle.go_entry_core.proofs.Among.{Among, among_to}
-use Rattle.go_inline_core.specs.Types.{InlineOf, inline_at}
-use Rattle.go_inline_core.specs.Trees.{decl_types, file_types}
-use Rattle.go_inline_core.specs.Inline.{inline_of, inlines}
-use Rattle.go_inline_core.proofs.Found.{types_are_found}
-use Rattle.go_face_core.specs.Faces.{TheFace}
-use Rattle.go_face_core.specs.declared.face.Face.TheVariants as faces
+use Rattle.go_func_core.specs.expr_core.Looks.{WrittenRules}
+use Rattle.go_func_core.specs.expr_core.Locality.{SameType, SameWritten}
+use Rattle.go_fault_core.specs.entry_core.Among.{Among, among_to}
+use Rattle.go_func_core.specs.inline_core.Types.{InlineOf, inline_at}
+use Rattle.go_func_core.specs.inline_core.Trees.{decl_types, file_types}
+use Rattle.go_func_core.specs.inline_core.Inline.{inline_of, inlines}
+use Rattle.go_func_core.specs.inline_core.Found.{types_are_found}
+use Rattle.go_func_core.specs.face_core.Faces.{TheFace}
+use Rattle.go_func_core.specs.face_core.declared.face.Face.TheVariants as faces
 use Rattle.go_func_core.specs.env_core.Looks.{TheLooks, looks_in, inline_rules, inline_type, inline_faults}
 use Rattle.go_value_core.specs.Package.{value_face, form_face}
 use Rattle.go_func_core.specs.Types.{named_where}

@@ -8,19 +8,19 @@ use Rattle.std.proofs.lemmas.List.FromFn.{length-enumerate_from, get_or-enumerat
 use Rattle.std.proofs.lemmas.List.Elements.{recursion_from_All}
 use Rattle.std.proofs.lemmas.Option.{slice_get-map, get_or_from_slice_get, slice_get_within}
 use Rattle.go_tree_nodes.specs.Trees.{FileTree}
-use Rattle.go_decl_core.specs.TopDecls.{TopDeclTree, top_decls}
-use Rattle.go_table_core.specs.Entries.{Entry}
-use Rattle.go_entry_core.specs.Outlines.{FileOutline, outline_of}
-use Rattle.go_entry_core.proofs.Among.{Among, among_flat, among_map, among_numbered}
-use Rattle.go_entry_core.proofs.Numbered.{map-flat_map}
-use Rattle.go_inline_core.specs.Types.{InlineOf}
-use Rattle.go_inline_core.specs.Inline.{inlines}
-use Rattle.go_inline_core.specs.Trees.{file_types, outline_types}
-use Rattle.go_inline_core.proofs.Outlines.{outline_all}
-use Rattle.go_face_core.specs.Faces.{TheFace}
-use Rattle.go_face_core.specs.Laws.{FileDecl, file_decl, package_decls}
-use Rattle.go_face_core.specs.Written.{written_at}
-use Rattle.go_face_core.proofs.Places.{among_at}
+use Rattle.go_term_core.specs.decl_core.TopDecls.{TopDeclTree, top_decls}
+use Rattle.go_fault_core.specs.table_core.Entries.{Entry}
+use Rattle.go_fault_core.specs.entry_core.Outlines.{FileOutline, outline_of}
+use Rattle.go_fault_core.specs.entry_core.Among.{Among, among_flat, among_map, among_numbered}
+use Rattle.go_fault_core.specs.entry_core.Numbered.{map-flat_map}
+use Rattle.go_func_core.specs.inline_core.Types.{InlineOf}
+use Rattle.go_func_core.specs.inline_core.Inline.{inlines}
+use Rattle.go_func_core.specs.inline_core.Trees.{file_types, outline_types}
+use Rattle.go_func_core.specs.inline_core.Outlines.{outline_all}
+use Rattle.go_func_core.specs.face_core.Faces.{TheFace}
+use Rattle.go_func_core.specs.face_core.Laws.{FileDecl, file_decl, package_decls}
+use Rattle.go_func_core.specs.face_core.Written.{written_at}
+use Rattle.go_func_core.specs.face_core.Places.{among_at}
 use Rattle.go_value_core.specs.Package as values
 use Rattle.go_value_core.specs.Package.{PlacedOf, placed, placed_decls, package_needs, top_looks, first_values, form_face}
 use Rattle.go_func_core.specs.Stands.{kinds_in_scene}

@@ -4,3 +4,5 @@ pub mod Packages
 pub mod Types
 pub mod Values
 pub mod mirrors
+pub mod graph_core
+pub mod parse_core

@@ -3,11 +3,11 @@
 -- docs/RULES.md, "Constants and variables of a package". The Go specification, "Constant declarations", "Variable declarations", "Package
 -- initialization".
 use Rattle.std.specs.Prelude.{◌≡◌, ◌↔◌, ℕ, Bool, true, false, List, Option, Some, None, length, map, slice_get, slice_index_or}
-use Rattle.go_table_core.specs.Entries.{Entry}
+use Rattle.go_fault_core.specs.table_core.Entries.{Entry}
 use Rattle.go_needs_core.specs.Needs.{AreValues}
-use Rattle.go_face_core.specs.Faces.{TheFace}
-use Rattle.go_face_core.specs.Written.{written_at}
-use Rattle.go_face_core.specs.Laws.{FileDecl, package_decls}
+use Rattle.go_func_core.specs.face_core.Faces.{TheFace}
+use Rattle.go_func_core.specs.face_core.Written.{written_at}
+use Rattle.go_func_core.specs.face_core.Laws.{FileDecl, package_decls}
 use Rattle.go_func_core.specs.env_core.Scenes.{SceneModel}
 use Rattle.go_value_core.specs.Around.{LeadsBack}
 use Rattle.go_value_core.specs.Package.{first_values, form_face, form_idents, idents_need, declares_constant, written_face}

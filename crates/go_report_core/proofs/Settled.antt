@@ -15,7 +15,7 @@ use Rattle.go_term_core.proofs.Members.{In, contained_in, filter_in, in_at, in_c
 use Rattle.go_expr_core.specs.denote_core.declared.things.Outcome.{Outcome}
 use Rattle.go_expr_core.specs.denote_core.declared.things.Outcome.TheVariants as outcomes
 use Rattle.go_expr_core.specs.declared.things.Use.{Use}
-use Rattle.go_local_core.specs.declared.Fault.{Fault}
+use Rattle.go_expr_core.specs.local_core.declared.Fault.{Fault}
 use Rattle.go_expr_core.proofs.Independence.{either}
 use Rattle.go_report_core.specs.Faults.{fault_order, ComesBefore, IsSaid, IsSettled}
 use Rattle.go_report_core.specs.Laws.{SettledFaultsAreOne}

@@ -11,7 +11,7 @@ use Rattle.go_text_core.specs.declared.rule.Rule.{Rule}
 use Rattle.go_text_core.specs.Rules.{rule_number}
 use Rattle.go_expr_core.specs.denote_core.declared.things.Outcome.TheVariants as outcomes
 use Rattle.go_expr_core.specs.declared.things.Use.{Use}
-use Rattle.go_local_core.specs.declared.Fault.{Fault}
+use Rattle.go_expr_core.specs.local_core.declared.Fault.{Fault}
 
 -- the numbers of two rules, by their bytes
 abbrev pub number_order : Rule → Rule → Ordering

@@ -1,7 +1,7 @@
 -- What holds of reported faults.
 use Rattle.std.specs.Prelude.{◌≡◌, ◌↔◌, List, Contains}
 use Rattle.go_expr_core.specs.declared.things.Use.{Use}
-use Rattle.go_local_core.specs.declared.Fault.{Fault}
+use Rattle.go_expr_core.specs.local_core.declared.Fault.{Fault}
 use Rattle.go_report_core.specs.Faults.{IsSaid, IsSettled}
 
 -- the same outcomes say each fault, and the same faults are found, in whatever order and however often: they settle to one list

@@ -6,7 +6,7 @@ ghost use Rattle.go_report_core.specs.mirrors.Settling.{said_of, is_among, is_ne
 
 use go_expr_core::Use;
 use go_expr_core::denote_core::Outcome;
-use go_local_core::Fault;
+use go_expr_core::local_core::Fault;
 use std::alloc::{AllocError, Global};
 use std::cmp::Ordering;
 

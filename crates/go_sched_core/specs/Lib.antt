@@ -4,3 +4,6 @@ pub mod Prepared
 pub mod Service
 pub mod Steps
 pub mod mirrors
+pub mod batch_core
+pub mod part_core
+pub mod submit_core

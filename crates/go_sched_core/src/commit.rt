@@ -6,17 +6,17 @@ ghost use Rattle.go_sched_core.specs.declared.running.Running.{Running};
 ghost use Rattle.go_sched_core.specs.Service.{counted, counts};
 ghost use Rattle.go_sched_core.specs.Steps.{Step, accepts, held_with, session_with, ticket_with, with_batch, without_session};
 ghost use Rattle.go_sched_core.specs.mirrors.Fitting.{Fits, FitsBegin, FitsHandOut, batches_after};
-ghost use Rattle.go_whole_core.specs.Inputs.{IsInputAt};
+ghost use Rattle.go_batch_core.specs.whole_core.Inputs.{IsInputAt};
 
 use crate::change::{Change, Hand};
 use crate::event::{Action, Event, Held, Reply, SessionId};
 use crate::machine::Core;
 use crate::rules::MAX_EVENTS;
 use crate::running::Running;
+use go_batch_core::part_core::PartInput;
+use go_batch_core::submit_core::{Batches, Submission, Ticket};
 use go_batch_core::{Ending, Next};
-use go_part_core::PartInput;
 use go_path_core::Module;
-use go_submit_core::{Batches, Submission, Ticket};
 use std::collections::LinkedList;
 
 // The count after one more accepted event.

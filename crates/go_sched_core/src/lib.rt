@@ -21,3 +21,13 @@ pub use ready::{Committed, Ready};
 pub use rules::{MAX_EVENTS, MAX_SESSIONS};
 pub use run::{Ran, run_events};
 pub use running::Running;
+
+/// What the crates above name of `go_batch_core`.
+pub mod batch_core {
+    pub use go_batch_core::{ReadPart, rebuild};
+}
+
+/// What the crates above name of `go_submit_core`.
+pub mod submit_core {
+    pub use go_batch_core::submit_core::{Batches, ModuleTree, PublishedBatch, Ticket};
+}

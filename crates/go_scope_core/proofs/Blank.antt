@@ -5,9 +5,9 @@ use Rattle.std.proofs.lemmas.Bool.{true≢false}
 use Rattle.std.proofs.lemmas.List.Elements.{All-nil, All-cons, All-head, All-tail, All-push, All-pop}
 use Rattle.std.proofs.lemmas.Slice.Eq.{bytes_eq-Decides}
 use Rattle.go_text_core.specs.Text.{is_blank}
-use Rattle.go_open_core.specs.declared.DeclId.{DeclId}
-use Rattle.go_open_core.specs.Blocks.{in_block, innermost, with_innermost, block_with, block_after, is_new, NoneHas}
-use Rattle.go_graph_core.specs.Packages.{blank}
+use Rattle.go_block_core.specs.open_core.declared.DeclId.{DeclId}
+use Rattle.go_block_core.specs.open_core.Blocks.{in_block, innermost, with_innermost, block_with, block_after, is_new, NoneHas}
+use Rattle.go_block_core.specs.graph_core.Packages.{blank}
 use Rattle.go_scope_core.specs.Laws.{BlankStaysOut}
 
 abbrev Lacks : List (List ℕ × DeclId) → Type 0

@@ -4,9 +4,9 @@ use Rattle.go_universe_core.specs.declared.TheConstants.{PREDECLARED}
 use Rattle.go_universe_core.specs.declared.Predeclared.{Predeclared}
 use Rattle.go_universe_core.specs.Universe.{spelling_of}
 use Rattle.go_block_core.specs.declared.binding.Binding.{Binding}
-use Rattle.go_decl_core.specs.declared.keys.DeclRef.{DeclRef}
+use Rattle.go_block_core.specs.decl_core.declared.keys.DeclRef.{DeclRef}
 use Rattle.go_block_core.specs.Blocks.{held_in}
-use Rattle.go_open_core.specs.declared.DeclId.{DeclId}
+use Rattle.go_block_core.specs.open_core.declared.DeclId.{DeclId}
 use Rattle.go_scope_core.specs.declared.scope.InScope.{InScope}
 use Rattle.go_scope_core.specs.declared.scope.InScope.TheVariants as answer
 use Rattle.go_scope_core.specs.Models.{ScopesModel, scopes_model}

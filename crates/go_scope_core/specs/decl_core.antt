@@ -1,2 +1,2 @@
 -- What the crates above name of go_decl_core.
-pub use Rattle.go_decl_core.specs.declared as declared
+pub use Rattle.go_block_core.specs.decl_core.declared as declared

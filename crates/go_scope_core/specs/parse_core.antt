@@ -1,2 +1,2 @@
 -- What the crates above name of go_parse_core.
-pub use Rattle.go_graph_core.specs.parse_core.declared as declared
+pub use Rattle.go_block_core.specs.parse_core.declared as declared

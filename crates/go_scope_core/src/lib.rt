@@ -9,7 +9,7 @@ mod laws;
 mod names;
 mod scope;
 
-pub use go_open_core::{DeclId, ShortDecl, ShortName};
+pub use go_block_core::open_core::{DeclId, ShortDecl, ShortName};
 pub use go_universe_core::Predeclared;
 pub use laws::{
     blank_stays_out, denotes_one, file_is_inside, local_hides, package_is_never_hidden,
@@ -20,11 +20,12 @@ pub use scope::{InScope, Scopes};
 /// What the crates above name of `go_block_core`.
 pub mod block_core {
     pub use go_block_core::{
-        Binding, Blocks, DeclKey, DeclKind, DeclRef, Exports, NamedDecl, Target,
+        Binding, BlockFault, Blocks, DeclKey, DeclKind, DeclRef, Exports, Imported, NamedDecl,
+        Target, blocks, import_names, import_specs,
     };
 }
 
 /// What the crates above name of `go_graph_core`.
 pub mod graph_core {
-    pub use go_graph_core::SourceFile;
+    pub use go_block_core::graph_core::{Package, SourceFile};
 }

@@ -17,9 +17,22 @@ pub use laws::{
 };
 pub use listing::{selectable, selections};
 
+/// What the crates above name of `go_embed_core`.
+pub mod embed_core {
+    pub use go_level_core::embed_core::Hits;
+}
+
 /// What the crates above name of `go_settle_core`.
 pub mod settle_core {
-    pub use go_level_core::settle_core::{Kind, kind_of};
+    pub use go_level_core::settle_core::{Kind, kind_of, settle, settle_signature};
+}
+
+/// What the crates above name of `go_table_core`.
+pub mod table_core {
+    pub use go_level_core::table_core::{
+        DeclaredMethod, DefinedType, PackageTypes, TypeTable, identical_under,
+        identical_under_but_for_tags, is_named_type,
+    };
 }
 
 /// What the crates above name of `go_type_core`.

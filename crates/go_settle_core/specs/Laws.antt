@@ -1,6 +1,6 @@
 -- Laws of settling.
 use Rattle.std.specs.Prelude.{◌≡◌, Contains}
-use Rattle.go_decl_core.specs.declared.keys.DeclKey.{DeclKey}
+use Rattle.go_term_core.specs.decl_core.declared.keys.DeclKey.{DeclKey}
 use Rattle.go_term_core.specs.Terms.{Term, term_keys}
 use Rattle.go_term_core.specs.Laws.{IsApart}
 use Rattle.go_settle_core.specs.declared.kind.Kind.{Kind}

@@ -1,7 +1,7 @@
 //! What is known of a defined type before its terms are settled.
 ghost use Rattle.std.specs.Prelude.{◌≡◌};
 
-use go_decl_core::DeclKey;
+use go_term_core::decl_core::DeclKey;
 
 /// What a defined type is, by its underlying type.
 #[derive(Clone, Copy, Debug, PartialEq, Eq)]
@@ -15,7 +15,7 @@ pub enum Kind {
 
 /// A look-up of the kinds of defined types.
 pub trait Kinds {
-    ghost use Rattle.go_decl_core.specs.declared.keys.DeclKey.{DeclKey as TheKey};
+    ghost use Rattle.go_term_core.specs.decl_core.declared.keys.DeclKey.{DeclKey as TheKey};
     ghost use Rattle.go_settle_core.specs.declared.kind.Kind.{Kind as TheKind};
 
     ghost kinds: { Self → TheKey → TheKind };

@@ -8,7 +8,7 @@ ghost use Rattle.go_settle_core.specs.mirrors.Kept.{make_method, put_method, set
 use crate::embed::can_embed;
 use crate::kept::{kept_methods, settle_fields};
 use crate::kind::{Kind, Kinds};
-use go_decl_core::DeclKey;
+use go_term_core::decl_core::DeclKey;
 use go_term_core::{
     FieldLine, Method, Params, Signature, TypeTerm, both, copy_numbers, is_no_type,
 };

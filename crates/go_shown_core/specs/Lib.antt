@@ -1,2 +1,4 @@
 pub mod Shown
 pub mod mirrors
+pub mod handle_core
+pub mod summary_core

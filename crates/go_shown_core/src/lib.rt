@@ -6,3 +6,8 @@
 mod paths;
 
 pub use paths::{deps_shown, imports_shown};
+
+/// What the crates above name of `go_summary_core`.
+pub mod summary_core {
+    pub use go_summary_core::{ReachedSummaries, Summary};
+}

@@ -2,7 +2,7 @@
 ghost use Rattle.std.specs.Prelude.{◌↔◌, ◌∷◌, ℕ, List, [], Contains, IfOk, OnOk, map};
 ghost use Rattle.std.specs.List.{flat_map};
 ghost use Rattle.std.specs.List.Sorted.{IsStrictlySortedBy};
-ghost use Rattle.go_graph_core.specs.Workspaces.{by_bytes};
+ghost use Rattle.go_block_core.specs.graph_core.Workspaces.{by_bytes};
 ghost use Rattle.go_block_core.specs.Naming.{imported_in};
 ghost use Rattle.go_summary_core.specs.Summaries.{path_of};
 ghost use Rattle.go_shown_core.specs.Shown.{MayBeShown, Picks, import_paths, path_in, texts};

@@ -8,3 +8,8 @@ mod spelling;
 
 pub use single::{site_place, site_text_of};
 pub use spelling::SiteSpelling;
+
+/// What the crates above name of `go_answer_core`.
+pub mod answer_core {
+    pub use go_answer_core::{Answer, HeldLocal, Site};
+}

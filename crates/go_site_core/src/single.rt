@@ -7,8 +7,8 @@ use crate::offsets::file_offsets;
 use crate::search::number_of;
 use crate::spelling::{add_text, at_offset, file_number, offset_among};
 use go_answer_core::Site;
+use go_answer_core::handle_core::DeclSite;
 use go_graph_core::{SourceFile, Workspace};
-use go_handle_core::DeclSite;
 use go_term_core::MemberPlace;
 use std::alloc::{AllocError, Global};
 

@@ -2,8 +2,8 @@
 use Rattle.std.proofs.Common.{◌≡◌, ℕ, zero, suc, ◌+◌, inl, inr, List, [], ◌∷◌, Option, Some, None, refl, sym, ap, subst, ◌∙◌, arith}
 use Rattle.std.specs.Prelude.{slice_get}
 use Rattle.std.proofs.lemmas.List.Kept.{AllPairs-cons}
-use Rattle.go_entry_core.proofs.Among.{Among}
-use Rattle.go_graph_core.specs.Workspaces.{PackageModel, IsWorkspace}
+use Rattle.go_make_core.specs.entry_core.Among.{Among}
+use Rattle.go_make_core.specs.graph_core.Workspaces.{PackageModel, IsWorkspace}
 use Rattle.go_make_core.specs.summary_core.Summaries.{SummaryModel, path_of}
 use Rattle.go_make_core.specs.part_core.Parts.{PartModel}
 use Rattle.go_make_core.specs.whole_core.Inputs.{AreParts, Tells}

@@ -4,12 +4,12 @@ use Rattle.std.specs.Prelude.{slice_get, AllPairs}
 use Rattle.std.specs.Option.{option_map}
 use Rattle.std.proofs.lemmas.List.{length-map}
 use Rattle.std.proofs.lemmas.Option.{slice_get-get_or, slice_get-map, slice_get_within, get_or_from_slice_get}
-use Rattle.go_graph_core.specs.Packages.{IsAssembled}
-use Rattle.go_graph_core.specs.Sources.{IsRead}
-use Rattle.go_graph_core.specs.Workspaces.{PackageModel, AreAllRead, IsWorkspace}
-use Rattle.go_graph_core.proofs.Zips.{numbered_at, numbered_back, numbered_length}
+use Rattle.go_make_core.specs.graph_core.Packages.{IsAssembled}
+use Rattle.go_make_core.specs.graph_core.Sources.{IsRead}
+use Rattle.go_make_core.specs.graph_core.Workspaces.{PackageModel, AreAllRead, IsWorkspace}
+use Rattle.go_make_core.specs.graph_core.Zips.{numbered_at, numbered_back, numbered_length}
 use Rattle.go_emit_core.specs.ready_core.Packages.{trees_in}
-use Rattle.go_report_core.specs.Faults as report
+use Rattle.go_emit_core.specs.report_core.Faults as report
 use Rattle.go_make_core.specs.part_core.Inputs.{InputModel}
 use Rattle.go_make_core.specs.part_core.Parts.{ContentOf, FileOf, IsFileMadeIn, IsPart, PartModel}
 use Rattle.go_snap_core.specs.declared.fault.PlacedFault.{PlacedFault}

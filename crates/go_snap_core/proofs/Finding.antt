@@ -7,8 +7,8 @@ use Rattle.std.specs.List.Sorted.{IsStrictlySortedBy, IsBinarySearchResult, IsSe
 use Rattle.std.specs.Option.{option_map}
 use Rattle.std.specs.Result.{result_ok}
 use Rattle.std.proofs.lemmas.Option.{none-some, slice_get-map, slice_get_within, slice_get_past, slice_get_read, slice_get-get_or, get_or_from_slice_get}
-use Rattle.go_graph_core.specs.Sources.{SourceModel}
-use Rattle.go_graph_core.specs.Workspaces.{PackageModel, IsWorkspace, by_bytes, names_of_files}
+use Rattle.go_make_core.specs.graph_core.Sources.{SourceModel}
+use Rattle.go_make_core.specs.graph_core.Workspaces.{PackageModel, IsWorkspace, by_bytes, names_of_files}
 use Rattle.go_emit_core.specs.used_core.Used.{FileUse}
 use Rattle.go_make_core.specs.part_core.Parts.{FileOf, PartModel}
 use Rattle.go_make_core.specs.whole_core.Lists.{one_at}

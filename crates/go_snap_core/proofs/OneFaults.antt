@@ -1,8 +1,8 @@
 -- The faults of packages are one list.
 use Rattle.std.proofs.Common.{◌≡◌, List, Option, arith}
 use Rattle.go_text_core.specs.Rules.{rule_number}
-use Rattle.go_entry_core.proofs.Among.{among_from, among_to}
-use Rattle.go_graph_core.specs.Workspaces.{PackageModel}
+use Rattle.go_make_core.specs.entry_core.Among.{among_from, among_to}
+use Rattle.go_make_core.specs.graph_core.Workspaces.{PackageModel}
 use Rattle.go_make_core.specs.part_core.Parts.{ContentOf}
 use Rattle.go_snap_core.specs.declared.fault.PlacedFault.{PlacedFault}
 use Rattle.go_snap_core.specs.Faults.{AreFaults, IsPlacedBefore, InPackage, InFile, ByOffset, ByRule}

@@ -3,18 +3,18 @@ use Rattle.std.proofs.Common.{◌≡◌, ◌+◌, ℕ, List, Option, Some, None,
 use Rattle.std.specs.Prelude.{slice_get}
 use Rattle.std.specs.List.{AllZip}
 use Rattle.go_make_core.specs.whole_core.LocalLaws.{CheckIsLocal, ImportsBindTheirs}
-use Rattle.go_graph_core.proofs.PlanLaws.{has_plan}
-use Rattle.go_block_core.specs.Exports.{ExportsModel}
-use Rattle.go_block_core.proofs.Growing.{given_weaker, package_weaker}
+use Rattle.go_make_core.specs.graph_core.PlanLaws.{has_plan}
+use Rattle.go_make_core.specs.block_core.Exports.{ExportsModel}
+use Rattle.go_make_core.specs.block_core.Growing.{given_weaker, package_weaker}
 use Rattle.go_make_core.specs.part_core.Laws.{OnePart}
 use Rattle.go_make_core.specs.summary_core.Summaries.{SummaryModel}
 use Rattle.go_make_core.specs.part_core.Inputs.{InputModel}
 use Rattle.go_make_core.specs.part_core.Parts.{IsPart, PartModel}
-use Rattle.go_graph_core.specs.declared.imports.ImportAt.{ImportAt}
-use Rattle.go_graph_core.specs.Packages.{trees_of}
-use Rattle.go_graph_core.specs.Workspaces.{PackageModel, IsWorkspace}
-use Rattle.go_graph_core.proofs.Zips.{numbered_back, numbered_length, zip_at, zip_back}
-use Rattle.go_block_core.specs.declared.imports.Imported.{Imported}
+use Rattle.go_make_core.specs.graph_core.declared.imports.ImportAt.{ImportAt}
+use Rattle.go_make_core.specs.graph_core.Packages.{trees_of}
+use Rattle.go_make_core.specs.graph_core.Workspaces.{PackageModel, IsWorkspace}
+use Rattle.go_make_core.specs.graph_core.Zips.{numbered_back, numbered_length, zip_at, zip_back}
+use Rattle.go_make_core.specs.block_core.declared.imports.Imported.{Imported}
 use Rattle.go_make_core.specs.whole_core.Inputs.{AreParts, ComesTo, IsInputOf, IsPartOf, Shown, Tells}
 use Rattle.go_make_core.specs.whole_core.Whole.{WholeOf}
 use Rattle.go_make_core.specs.whole_core.mirrors.Steps.{AreRight}

@@ -6,11 +6,11 @@ use Rattle.std.proofs.lemmas.Bool.{cases_eq}
 use Rattle.std.proofs.lemmas.List.{length-set, length-replicate}
 use Rattle.std.proofs.lemmas.List.Sorted.{Contains-permutation, IsPermutation-sym}
 use Rattle.std.proofs.lemmas.Option.{slice_get_within}
-use Rattle.go_graph_core.specs.Imports.{IsNumbered}
-use Rattle.go_graph_core.specs.Sources.{SourceModel}
-use Rattle.go_graph_core.specs.Workspaces.{PackageModel, IsWorkspace}
-use Rattle.go_graph_core.proofs.Zips.{numbered_back, numbered_length}
-use Rattle.go_entry_core.proofs.Among.{Among, among_cases, among_from, among_left, among_right, among_to}
+use Rattle.go_make_core.specs.graph_core.Imports.{IsNumbered}
+use Rattle.go_make_core.specs.graph_core.Sources.{SourceModel}
+use Rattle.go_make_core.specs.graph_core.Workspaces.{PackageModel, IsWorkspace}
+use Rattle.go_make_core.specs.graph_core.Zips.{numbered_back, numbered_length}
+use Rattle.go_make_core.specs.entry_core.Among.{Among, among_cases, among_from, among_left, among_right, among_to}
 use Rattle.go_make_core.specs.part_core.Parts.{PartModel}
 use Rattle.go_make_core.specs.whole_core.Inputs.{AreParts, IsPartOf}
 use Rattle.go_make_core.specs.whole_core.Lists.{none_is_some, one_at, same_list}

@@ -4,7 +4,7 @@ use Rattle.std.specs.Prelude.{◌↔◌, AllPairs, Contains}
 use Rattle.std.specs.List.{AllZip}
 use Rattle.std.specs.List.Sorted.{IsStrictlyIncreasing}
 use Rattle.std.proofs.lemmas.List.Kept.{AllPairs-from_increasing}
-use Rattle.go_entry_core.proofs.Among.{Among, among_from, among_to}
+use Rattle.go_make_core.specs.entry_core.Among.{Among, among_from, among_to}
 use Rattle.go_make_core.specs.whole_core.Lists.{pairs_head, pairs_tail}
 
 module _ {A : Type 0} (R : A → A → Type 0) (never_both : (x y : A) → R x y → R y x → ⊥) where

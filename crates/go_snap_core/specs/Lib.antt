@@ -4,9 +4,15 @@ pub mod mirrors
 pub mod SnapshotCodes
 pub mod Snapshots
 pub mod locality_core
+pub mod answer_core
 pub mod emit_core
+pub mod face_core
+pub mod make_core
 pub mod meaning_core
+pub mod near_core
 pub mod package_core
 pub mod part_core
 pub mod ready_core
+pub mod summary_core
+pub mod used_core
 pub mod whole_core

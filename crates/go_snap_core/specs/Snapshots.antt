@@ -7,8 +7,8 @@ use Rattle.std.specs.List.Sorted.{IsPermutation}
 use Rattle.std.specs.Option.{option_map}
 use Rattle.go_tree_nodes.specs.Shapes.{file_of}
 use Rattle.go_tree_nodes.specs.Trees.{FileTree}
-use Rattle.go_graph_core.specs.Sources.{SourceModel}
-use Rattle.go_graph_core.specs.Workspaces.{PackageModel}
+use Rattle.go_make_core.specs.graph_core.Sources.{SourceModel}
+use Rattle.go_make_core.specs.graph_core.Workspaces.{PackageModel}
 use Rattle.go_emit_core.specs.used_core.Used.{FileUse}
 use Rattle.go_make_core.specs.part_core.Parts.{ContentOf, FileOf, PartModel, file_shown}
 use Rattle.go_snap_core.specs.declared.fault.PlacedFault.{PlacedFault}

@@ -1,6 +1,6 @@
 //! Files of snapshots.
 
-use go_graph_core::SourceFile;
+use go_make_core::graph_core::SourceFile;
 use go_make_core::part_core::{Part, PartFile};
 use go_tree_nodes::File;
 

@@ -17,11 +17,26 @@ pub use making::{Recompiled, compile, recompile};
 pub use shared::SharedSnapshot;
 pub use snapshot::{Snapshot, join, join_parts};
 
+/// What the crates above name of `go_answer_core`.
+pub mod answer_core {
+    pub use go_emit_core::answer_core::{Answer, Site};
+}
+
 /// What the crates above name of `go_emit_core`.
 pub mod emit_core {
     pub use go_emit_core::{
         bodies_are_between_braces, calls_name_their_own, emit, objects_are_of_faultless, one_object,
     };
+}
+
+/// What the crates above name of `go_face_core`.
+pub mod face_core {
+    pub use go_make_core::face_core::Face;
+}
+
+/// What the crates above name of `go_make_core`.
+pub mod make_core {
+    pub use go_make_core::{Told, input_of, package_of};
 }
 
 /// What the crates above name of `go_package_core`.
@@ -32,7 +47,14 @@ pub mod package_core {
 /// What the crates above name of `go_part_core`.
 pub mod part_core {
     pub use go_make_core::part_core::{
-        Part, PartFile, PartInput, Parts, compile_part, one_part, part_has_its_path,
-        part_has_occurrences, types_of,
+        Part, PartInput, Parts, compile_part, one_part, part_has_occurrences,
+    };
+}
+
+/// What the crates above name of `go_whole_core`.
+pub mod whole_core {
+    pub use go_make_core::whole_core::{
+        check_is_local, imports_bind_theirs, inputs_stay, one_whole, parts_are_whole,
+        parts_come_in_order,
     };
 }

@@ -6,13 +6,13 @@ use Rattle.go_tree_nodes.specs.declared.names.Ident.{Ident}
 use Rattle.go_tree_nodes.specs.Trees.{ValueSpecTree, FuncTree, Lines, TopTree, FileTree}
 use Rattle.go_term_core.specs.Terms.{Term, Sign}
 use Rattle.go_package_core.proofs.Numbered.{numbered_at}
-use Rattle.go_entry_core.specs.Outlines.{outline_of}
-use Rattle.go_table_core.specs.Entries.{Entry}
-use Rattle.go_handle_core.specs.Declarations.{Declaration}
+use Rattle.go_package_core.specs.entry_core.Outlines.{outline_of}
+use Rattle.go_type_core.specs.table_core.Entries.{Entry}
+use Rattle.go_package_core.specs.handle_core.Declarations.{Declaration}
 use Rattle.go_local_core.specs.Binding.{NameLook}
 use Rattle.go_expr_core.specs.Uses.{Context, Identifier, rule, role_of, made_use}
-use Rattle.go_env_core.specs.declared.meaning.Meaning.{Meaning}
-use Rattle.go_func_core.specs.Stands.{FileStand, looks_where, outer_look, outer_looks}
+use Rattle.go_package_core.specs.env_core.declared.meaning.Meaning.{Meaning}
+use Rattle.go_package_core.specs.func_core.Stands.{FileStand, looks_where, outer_look, outer_looks}
 use Rattle.go_package_core.specs.file_core.Files.{tops_uses}
 use Rattle.go_spelling_core.specs.Contexts.{ContextStays}
 use Rattle.go_package_core.specs.ready_core.Packages.{PackageIn, stand_in}

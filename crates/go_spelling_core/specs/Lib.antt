@@ -13,3 +13,10 @@ pub mod Spellings
 pub mod Spots
 pub mod Trees
 pub mod Values
+pub mod body_core
+pub mod env_core
+pub mod func_core
+pub mod handle_core
+pub mod piece_core
+pub mod ready_core
+pub mod value_core

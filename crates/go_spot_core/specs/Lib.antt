@@ -8,3 +8,5 @@ pub mod Spots
 pub mod Used
 pub mod Walks
 pub mod mirrors
+pub mod denote_core
+pub mod expr_core

@@ -5,13 +5,13 @@ use Rattle.std.specs.List.{list_all}
 use Rattle.go_text_core.specs.declared.rule.Rule.TheVariants.{Y3, Y4, Y7}
 use Rattle.go_term_core.specs.declared.term.Basic.{Basic}
 use Rattle.go_term_core.specs.declared.term.Basic.TheVariants as basics
-use Rattle.go_operand_core.specs.declared.types.ValueType.{ValueType}
-use Rattle.go_operand_core.specs.declared.types.ValueType.TheVariants as value_types
-use Rattle.go_operand_core.specs.declared.types.Operand.{Operand}
-use Rattle.go_operand_core.specs.TypeRules.{TypeRules}
-use Rattle.go_operand_core.specs.Values.{is_over, form_basic}
-use Rattle.go_operand_core.specs.Assign.{takes_nil, assignable, assignable_to}
-use Rattle.go_operand_core.specs.Conversions.{kept}
+use Rattle.go_denote_core.specs.operand_core.declared.types.ValueType.{ValueType}
+use Rattle.go_denote_core.specs.operand_core.declared.types.ValueType.TheVariants as value_types
+use Rattle.go_denote_core.specs.operand_core.declared.types.Operand.{Operand}
+use Rattle.go_denote_core.specs.operand_core.TypeRules.{TypeRules}
+use Rattle.go_denote_core.specs.operand_core.Values.{is_over, form_basic}
+use Rattle.go_denote_core.specs.operand_core.Assign.{takes_nil, assignable, assignable_to}
+use Rattle.go_denote_core.specs.operand_core.Conversions.{kept}
 use Rattle.go_denote_core.specs.declared.things.Argument.{Argument}
 use Rattle.go_denote_core.specs.declared.things.Argument.TheVariants as arguments
 use Rattle.go_denote_core.specs.declared.things.Denoted.{Denoted}

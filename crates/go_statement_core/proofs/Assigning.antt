@@ -4,10 +4,10 @@ use Rattle.std.specs.Prelude.{◌≢◌, Option, Some, None, IfSome, if◌then�
 use Rattle.std.specs.List.{list_all}
 use Rattle.go_text_core.specs.declared.rule.Rule.{Rule}
 use Rattle.go_text_core.specs.declared.rule.Rule.TheVariants.{Y3, Y4}
-use Rattle.go_operand_core.specs.declared.types.ValueType.{ValueType}
-use Rattle.go_operand_core.specs.declared.types.ValueType.TheVariants as value_types
-use Rattle.go_operand_core.specs.TypeRules.{TypeRules}
-use Rattle.go_operand_core.proofs.Relating.{assigned, assigns}
+use Rattle.go_denote_core.specs.operand_core.declared.types.ValueType.{ValueType}
+use Rattle.go_denote_core.specs.operand_core.declared.types.ValueType.TheVariants as value_types
+use Rattle.go_denote_core.specs.operand_core.TypeRules.{TypeRules}
+use Rattle.go_denote_core.specs.operand_core.Relating.{assigned, assigns}
 use Rattle.go_denote_core.specs.declared.things.Denoted.{Denoted}
 use Rattle.go_denote_core.specs.declared.things.Denoted.TheVariants as denotes
 use Rattle.go_denote_core.specs.declared.things.Argument.{Argument}

@@ -5,9 +5,9 @@ use Rattle.std.specs.Prelude.{Bool, true, false, ◌&&◌, ◌==◌, List, [], �
 use Rattle.std.specs.List.{list_all}
 use Rattle.go_text_core.specs.declared.rule.Rule.{Rule}
 use Rattle.go_text_core.specs.declared.rule.Rule.TheVariants.{Y4}
-use Rattle.go_operand_core.specs.declared.types.ValueType.{ValueType}
-use Rattle.go_operand_core.specs.declared.types.ValueType.TheVariants as value_types
-use Rattle.go_operand_core.specs.TypeRules.{TypeRules}
+use Rattle.go_denote_core.specs.operand_core.declared.types.ValueType.{ValueType}
+use Rattle.go_denote_core.specs.operand_core.declared.types.ValueType.TheVariants as value_types
+use Rattle.go_denote_core.specs.operand_core.TypeRules.{TypeRules}
 use Rattle.go_denote_core.specs.declared.things.Argument.{Argument}
 use Rattle.go_denote_core.specs.declared.things.Argument.TheVariants as arguments
 use Rattle.go_denote_core.specs.Arguments.{fits_type}

@@ -5,17 +5,17 @@ use Rattle.std.specs.Prelude.{ℕ, Bool, true, false, ◌&&◌, not, ◌==◌, L
 use Rattle.std.specs.List.{list_all}
 use Rattle.go_text_core.specs.declared.rule.Rule.{Rule}
 use Rattle.go_text_core.specs.declared.rule.Rule.TheVariants.{Y4, Y7}
-use Rattle.go_constant_core.specs.declared.values.Constant.{Constant}
-use Rattle.go_constant_core.specs.declared.values.Constant.TheVariants as constant
+use Rattle.go_denote_core.specs.constant_core.declared.values.Constant.{Constant}
+use Rattle.go_denote_core.specs.constant_core.declared.values.Constant.TheVariants as constant
 use Rattle.go_term_core.specs.declared.term.Basic.{Basic}
-use Rattle.go_operand_core.specs.declared.types.ValueType.{ValueType}
-use Rattle.go_operand_core.specs.declared.types.ValueType.TheVariants as value_types
-use Rattle.go_operand_core.specs.declared.types.Operand.{Operand}
-use Rattle.go_operand_core.specs.TypeRules.{TypeRules}
-use Rattle.go_operand_core.specs.Values.{form_basic, basic_under}
-use Rattle.go_operand_core.specs.Assign.{assignable_to}
-use Rattle.go_operand_core.specs.Operators.{value}
-use Rattle.go_operand_core.specs.Conversions.{kept}
+use Rattle.go_denote_core.specs.operand_core.declared.types.ValueType.{ValueType}
+use Rattle.go_denote_core.specs.operand_core.declared.types.ValueType.TheVariants as value_types
+use Rattle.go_denote_core.specs.operand_core.declared.types.Operand.{Operand}
+use Rattle.go_denote_core.specs.operand_core.TypeRules.{TypeRules}
+use Rattle.go_denote_core.specs.operand_core.Values.{form_basic, basic_under}
+use Rattle.go_denote_core.specs.operand_core.Assign.{assignable_to}
+use Rattle.go_denote_core.specs.operand_core.Operators.{value}
+use Rattle.go_denote_core.specs.operand_core.Conversions.{kept}
 use Rattle.go_denote_core.specs.declared.things.Argument.{Argument}
 use Rattle.go_denote_core.specs.declared.things.Argument.TheVariants as arguments
 use Rattle.go_statement_core.specs.declared.constants.ConstantAnswer.{ConstantAnswer}

@@ -9,3 +9,6 @@ pub mod Relations
 pub mod Laws
 pub mod Locality
 pub mod Worked
+pub mod constant_core
+pub mod denote_core
+pub mod operand_core

@@ -4,7 +4,7 @@
 use Rattle.std.specs.Prelude.{Bool, true, ◌&&◌, ◌==◌, List, length, Option, Some, None, if◌then◌else◌}
 use Rattle.go_text_core.specs.declared.rule.Rule.{Rule}
 use Rattle.go_text_core.specs.declared.rule.Rule.TheVariants.{Y4}
-use Rattle.go_operand_core.specs.TypeRules.{TypeRules}
+use Rattle.go_denote_core.specs.operand_core.TypeRules.{TypeRules}
 use Rattle.go_denote_core.specs.declared.things.Argument.{Argument}
 use Rattle.go_denote_core.specs.Arguments.{fits_type}
 use Rattle.go_statement_core.specs.Assignments.{all_pairs, unless}

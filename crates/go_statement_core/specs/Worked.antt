@@ -2,11 +2,11 @@
 use Rattle.std.specs.Prelude.{◌≡◌, true, false, List, [], ◌∷◌, Some, None, pos}
 use Rattle.go_text_core.specs.declared.rule.Rule.TheVariants.{Y3, Y4, Y7, Y8, X1}
 use Rattle.go_token_core.specs.declared.kind.Operator.TheVariants as operators
-use Rattle.go_constant_core.specs.declared.values.Constant.{Constant}
-use Rattle.go_constant_core.specs.declared.values.Constant.TheVariants as constant
-use Rattle.go_operand_core.specs.declared.types.ValueType.{ValueType}
-use Rattle.go_operand_core.specs.declared.types.ValueType.TheVariants as value_types
-use Rattle.go_operand_core.specs.declared.types.Operand.{Operand}
+use Rattle.go_denote_core.specs.constant_core.declared.values.Constant.{Constant}
+use Rattle.go_denote_core.specs.constant_core.declared.values.Constant.TheVariants as constant
+use Rattle.go_denote_core.specs.operand_core.declared.types.ValueType.{ValueType}
+use Rattle.go_denote_core.specs.operand_core.declared.types.ValueType.TheVariants as value_types
+use Rattle.go_denote_core.specs.operand_core.declared.types.Operand.{Operand}
 use Rattle.go_denote_core.specs.declared.things.Builtin.TheVariants as builtins
 use Rattle.go_denote_core.specs.declared.things.Argument.{Argument}
 use Rattle.go_denote_core.specs.declared.things.Argument.TheVariants as arguments
@@ -22,7 +22,7 @@ use Rattle.go_statement_core.specs.Constants.{answer, constants_rule, constant_a
 use Rattle.go_statement_core.specs.Returns.{return_rule}
 use Rattle.go_statement_core.specs.Statements.{statement_rule, condition_rule}
 use Rattle.go_statement_core.specs.Updates.{update_rule}
-use Rattle.go_operand_core.specs.Variables.{operand}
+use Rattle.go_denote_core.specs.operand_core.Variables.{operand}
 
 -- `1`
 abbrev pub sample_one : {T : Type 0} → Operand T

@@ -4,8 +4,8 @@ ghost use Rattle.std.specs.List.{list_all};
 ghost use Rattle.go_statement_core.specs.Assignments as assignments;
 
 use crate::targets::Target;
+use go_denote_core::operand_core::{TypeLooks, ValueType};
 use go_denote_core::{Argument, fits_type};
-use go_operand_core::{TypeLooks, ValueType};
 use go_text_core::Rule;
 use std::alloc::{AllocError, Global};
 

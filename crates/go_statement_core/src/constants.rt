@@ -3,9 +3,11 @@ ghost use Rattle.std.specs.Prelude.{◌≡◌, IfOk};
 ghost use Rattle.std.specs.List.{list_all};
 ghost use Rattle.go_statement_core.specs.Constants as constants;
 
-use go_constant_core::Constant;
 use go_denote_core::Argument;
-use go_operand_core::{Operand, TypeLooks, ValueType, assignable_to, basic_under, form_basic};
+use go_denote_core::constant_core::Constant;
+use go_denote_core::operand_core::{
+    Operand, TypeLooks, ValueType, assignable_to, basic_under, form_basic,
+};
 use go_text_core::Rule;
 use std::alloc::{AllocError, Global};
 

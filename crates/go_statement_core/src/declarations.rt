@@ -8,7 +8,7 @@ ghost use Rattle.go_statement_core.specs.Declarations as declarations;
 use crate::assignments::{takes, unless};
 use crate::targets::Target;
 use go_denote_core::Argument;
-use go_operand_core::{TypeLooks, default_type};
+use go_denote_core::operand_core::{TypeLooks, default_type};
 use go_text_core::Rule;
 use std::alloc::{AllocError, Global};
 

@@ -31,3 +31,15 @@ pub use returns::return_rule;
 pub use statements::{condition_rule, statement_rule};
 pub use targets::{Target, target_of};
 pub use updates::{increment_rule, update_rule};
+
+/// What the crates above name of `go_denote_core`.
+pub mod denote_core {
+    pub use go_denote_core::{
+        Argument, Denoted, Outcome, Stand, argument_of, arguments_of, is_free, name_answer,
+    };
+}
+
+/// What the crates above name of `go_operand_core`.
+pub mod operand_core {
+    pub use go_denote_core::operand_core::{Operand, TypeLooks, ValueType};
+}

@@ -4,8 +4,8 @@ ghost use Rattle.go_statement_core.specs.Assignments as assignments;
 ghost use Rattle.go_statement_core.specs.Returns as returns;
 
 use crate::assignments::unless;
+use go_denote_core::operand_core::TypeLooks;
 use go_denote_core::{Argument, fits_type};
-use go_operand_core::TypeLooks;
 use go_text_core::Rule;
 use std::alloc::{AllocError, Global};
 

@@ -2,8 +2,8 @@
 ghost use Rattle.std.specs.Prelude.{◌≡◌};
 ghost use Rattle.go_statement_core.specs.Statements as statements;
 
+use go_denote_core::operand_core::{Operand, TypeLooks, is_condition};
 use go_denote_core::{Builtin, Denoted, is_refused};
-use go_operand_core::{Operand, TypeLooks, is_condition};
 use go_text_core::Rule;
 
 fn is_statement<T: Drop, S: Drop, D: Drop>(callee: &Denoted<T, S, D>) -> bool

@@ -3,7 +3,7 @@ ghost use Rattle.std.specs.Prelude.{◌≡◌};
 ghost use Rattle.go_statement_core.specs.Targets as targets;
 
 use go_denote_core::Denoted;
-use go_operand_core::ValueType;
+use go_denote_core::operand_core::ValueType;
 
 /// What a value is given to.
 #[derive(Drop)]

@@ -5,3 +5,8 @@ pub mod Published
 pub mod Submitted
 pub mod Trees
 pub mod mirrors
+pub mod make_core
+pub mod part_core
+pub mod snap_core
+pub mod summary_core
+pub mod whole_core

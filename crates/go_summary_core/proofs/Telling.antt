@@ -5,14 +5,14 @@ use Rattle.std.specs.Str.{chars}
 use Rattle.std.proofs.lemmas.Bool.{true≢false}
 use Rattle.std.proofs.lemmas.List.Elements.{All-head, All-tail}
 use Rattle.go_text_core.specs.Text.{exported}
-use Rattle.go_decl_core.specs.declared.keys.DeclKey.{DeclKey}
-use Rattle.go_decl_core.specs.declared.keys.DeclRef.{DeclRef}
-use Rattle.go_block_core.specs.Tables.{in_block, has}
-use Rattle.go_block_core.specs.Exports.{exports_model}
-use Rattle.go_entry_core.specs.Showing.{names_shown}
-use Rattle.go_table_core.specs.Entries.{Entry, find_entry, same_key, same_decl}
-use Rattle.go_table_core.specs.Tables.{AreOf}
-use Rattle.go_table_core.proofs.Finding.{bytes_same, find-append, or_else, or_none}
+use Rattle.go_alike_core.specs.decl_core.declared.keys.DeclKey.{DeclKey}
+use Rattle.go_alike_core.specs.decl_core.declared.keys.DeclRef.{DeclRef}
+use Rattle.go_alike_core.specs.block_core.Tables.{in_block, has}
+use Rattle.go_alike_core.specs.block_core.Exports.{exports_model}
+use Rattle.go_alike_core.specs.entry_core.Showing.{names_shown}
+use Rattle.go_alike_core.specs.table_core.Entries.{Entry, find_entry, same_key, same_decl}
+use Rattle.go_alike_core.specs.table_core.Tables.{AreOf}
+use Rattle.go_alike_core.specs.table_core.Finding.{bytes_same, find-append, or_else, or_none}
 use Rattle.go_alike_core.specs.face_core.declared.shown.ShownFace.{ShownFace}
 use Rattle.go_alike_core.specs.face_core.declared.shown.ShownFace.TheVariants as shows
 use Rattle.go_alike_core.specs.face_core.Packages.{DeclaredOf, package_in, package_faces, names_seen, shown_by, shown_in_some, face_in_some}

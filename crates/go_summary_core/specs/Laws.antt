@@ -2,16 +2,16 @@
 use Rattle.std.specs.Prelude.{◌≡◌, ◌↔◌, ℕ, true, false, List, [], ◌∷◌, None, All, Contains}
 use Rattle.std.specs.Str.{chars}
 use Rattle.go_text_core.specs.Text.{exported}
-use Rattle.go_graph_core.specs.Packages.{trees_of}
-use Rattle.go_graph_core.specs.Workspaces.{PackageModel, names_of_files}
-use Rattle.go_decl_core.specs.declared.keys.DeclKey.{DeclKey}
-use Rattle.go_decl_core.specs.declared.keys.DeclRef.{DeclRef}
-use Rattle.go_block_core.specs.Blocks.{BlocksModel}
-use Rattle.go_block_core.specs.Exports.{clause_name, exported_names}
-use Rattle.go_block_core.specs.Tables.{has}
-use Rattle.go_entry_core.specs.Showing.{shown_in}
-use Rattle.go_table_core.specs.Entries.{find_entry}
-use Rattle.go_table_core.specs.Tables.{PackageTypesModel}
+use Rattle.go_alike_core.specs.graph_core.Packages.{trees_of}
+use Rattle.go_alike_core.specs.graph_core.Workspaces.{PackageModel, names_of_files}
+use Rattle.go_alike_core.specs.decl_core.declared.keys.DeclKey.{DeclKey}
+use Rattle.go_alike_core.specs.decl_core.declared.keys.DeclRef.{DeclRef}
+use Rattle.go_alike_core.specs.block_core.Blocks.{BlocksModel}
+use Rattle.go_alike_core.specs.block_core.Exports.{clause_name, exported_names}
+use Rattle.go_alike_core.specs.block_core.Tables.{has}
+use Rattle.go_alike_core.specs.entry_core.Showing.{shown_in}
+use Rattle.go_alike_core.specs.table_core.Entries.{find_entry}
+use Rattle.go_alike_core.specs.table_core.Tables.{PackageTypesModel}
 use Rattle.go_alike_core.specs.face_core.declared.shown.ShownFace.TheVariants as shows
 use Rattle.go_alike_core.specs.face_core.Packages.{DeclaredOf, exported_in, face_by, face_in, names_seen, package_faces, shown_by}
 use Rattle.go_summary_core.specs.Summaries.{SummaryModel, IsOfOne, path_of, summary_of, summary_with}

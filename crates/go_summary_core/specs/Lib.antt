@@ -4,4 +4,9 @@ pub mod Told
 pub mod Views
 pub mod codes
 pub mod alike_core
+pub mod block_core
 pub mod decide_core
+pub mod face_core
+pub mod graph_core
+pub mod handle_core
+pub mod table_core

@@ -2,10 +2,10 @@
 --
 -- docs/RULES.md, "Summaries". The Go specification, "Import declarations", "Exported identifiers".
 use Rattle.std.specs.Prelude.{◌≡◌, ℕ, List}
-use Rattle.go_graph_core.specs.Workspaces.{PackageModel, names_of_files}
-use Rattle.go_block_core.specs.Blocks.{BlocksModel, exports_of}
-use Rattle.go_block_core.specs.Exports.{ExportsModel}
-use Rattle.go_table_core.specs.Tables.{PackageTypesModel, AreOf}
+use Rattle.go_alike_core.specs.graph_core.Workspaces.{PackageModel, names_of_files}
+use Rattle.go_alike_core.specs.block_core.Blocks.{BlocksModel, exports_of}
+use Rattle.go_alike_core.specs.block_core.Exports.{ExportsModel}
+use Rattle.go_alike_core.specs.table_core.Tables.{PackageTypesModel, AreOf}
 use Rattle.go_alike_core.specs.face_core.Packages.{PackageFacesModel}
 
 -- its path, the name in its clauses and its exported names with their declarations; all types that it declares, with their methods; its

@@ -25,3 +25,23 @@ pub use view::{View, view_of};
 pub mod alike_core {
     pub use go_alike_core::same_exports;
 }
+
+/// What the crates above name of `go_block_core`.
+pub mod block_core {
+    pub use go_alike_core::block_core::{Blocks, Imported, blocks, import_names};
+}
+
+/// What the crates above name of `go_graph_core`.
+pub mod graph_core {
+    pub use go_alike_core::graph_core::Package;
+}
+
+/// What the crates above name of `go_select_core`.
+pub mod select_core {
+    pub use go_alike_core::select_core::EmbedPath;
+}
+
+/// What the crates above name of `go_table_core`.
+pub mod table_core {
+    pub use go_alike_core::table_core::{DeclaredMethod, DefinedType, TypeTable};
+}

@@ -14,7 +14,7 @@ use Rattle.go_decl_core.specs.declared.anchoring.Anchor.{Anchor}
 use Rattle.go_decl_core.specs.declared.keys.DeclRef.{DeclRef}
 use Rattle.go_decl_core.proofs.AnchorLemmas.{anchors_are_of_declarations}
 use Rattle.go_decl_core.proofs.Numbers.{numbers_are_places}
-use Rattle.go_parse_core.specs.declared.error.SynFault.{SynFault}
+use Rattle.go_graph_core.specs.parse_core.declared.error.SynFault.{SynFault}
 use Rattle.go_graph_core.specs.Sources.{SourceModel}
 use Rattle.go_graph_core.proofs.Zips.{zip_append}
 use Rattle.go_block_core.specs.declared.exports.NamedDecl.{NamedDecl}

@@ -8,7 +8,7 @@ use Rattle.go_table_core.specs.declared.entry.DeclaredMethod.{DeclaredMethod}
 use Rattle.go_table_core.specs.declared.entry.TypeEntry.{TypeEntry}
 use Rattle.std.specs.Global.{Global}
 use Rattle.std.specs.declared.sync.Arc.{Arc}
-use Rattle.go_decl_core.specs.declared.keys.DeclKey.{DeclKey}
+use Rattle.go_term_core.specs.decl_core.declared.keys.DeclKey.{DeclKey}
 use Rattle.go_term_core.specs.declared.term.TypeTerm.{TypeTerm}
 use Rattle.go_table_core.specs.declared.assign.Operand.{Operand}
 use Rattle.go_table_core.specs.declared.assign.Operand.TheVariants as operands

@@ -7,7 +7,7 @@ ghost use Rattle.go_table_core.specs.mirrors.Spots.{spells_some};
 ghost use Rattle.go_table_core.specs.Methods.{term_fields};
 
 use crate::fields::FieldTable;
-use go_decl_core::DeclKey;
+use go_term_core::decl_core::DeclKey;
 use go_term_core::{MemberPlace, Signature, TypeTerm};
 use go_text_core::Name;
 use std::alloc::{AllocError, Global};

@@ -5,9 +5,9 @@ ghost use Rattle.go_term_core.specs.Shapes.{shape};
 ghost use Rattle.go_table_core.specs.Tables.{package_types, AreOf, KeysRise, ArePackageTypes, IsPlaceOf, AreOthers};
 
 use crate::entry::DefinedType;
-use go_decl_core::{DeclKey, place_order};
 use go_path_core::ImportPath;
 use go_term_core::TypeTerm;
+use go_term_core::decl_core::{DeclKey, place_order};
 use indexmap::IndexMap;
 use std::alloc::{AllocError, Global};
 use std::marker::Model;

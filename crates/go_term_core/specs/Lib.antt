@@ -8,3 +8,4 @@ pub mod Forms
 pub mod mirrors
 pub mod codes
 pub mod decl_core
+pub mod tree_core

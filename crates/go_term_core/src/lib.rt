@@ -27,5 +27,13 @@ pub use term::{
 
 /// What the crates above name of `go_decl_core`.
 pub mod decl_core {
-    pub use go_decl_core::{DeclKey, DeclRef};
+    pub use go_decl_core::{
+        DeclForm, DeclKey, DeclKind, DeclRef, Outline, Places, TopDecl, last_ident, outline,
+        place_order,
+    };
+}
+
+/// What the crates above name of `go_tree_core`.
+pub mod tree_core {
+    pub use go_decl_core::tree_core::Role;
 }

@@ -124,16 +124,16 @@ use Rattle.go_table_core.specs.contracts.entry.DefinedType as defined
 use Rattle.go_table_core.specs.contracts.table.PackageTypes as package_types
 use Rattle.go_face_core.specs.contracts.shown.DeclaredFace as declared_face
 use Rattle.go_face_core.specs.contracts.shown.PackageFaces as package_faces
-use Rattle.go_summary_core.specs.contracts.summary.Summary as summary
-use Rattle.go_summary_core.specs.contracts.list.SummaryList as summary_list
-use Rattle.go_summary_core.specs.contracts.reached.ReachedSummaries as reached
-use Rattle.go_part_core.specs.contracts.input.PartInput as input
+use Rattle.go_snap_core.specs.summary_core.contracts.summary.Summary as summary
+use Rattle.go_snap_core.specs.summary_core.contracts.list.SummaryList as summary_list
+use Rattle.go_snap_core.specs.summary_core.contracts.reached.ReachedSummaries as reached
+use Rattle.go_snap_core.specs.part_core.contracts.input.PartInput as input
 use Rattle.go_answer_core.specs.contracts.locals.HeldLocal as held_local
-use Rattle.go_package_core.specs.contracts.checked.FileAnswers as answers
-use Rattle.go_part_core.specs.contracts.files.PartFile as part_file
-use Rattle.go_part_core.specs.contracts.content.PackageContent as content
-use Rattle.go_part_core.specs.contracts.part.Part as part
-use Rattle.go_part_core.specs.contracts.parts.Parts as parts
+use Rattle.go_snap_core.specs.package_core.contracts.checked.FileAnswers as answers
+use Rattle.go_snap_core.specs.part_core.contracts.files.PartFile as part_file
+use Rattle.go_snap_core.specs.part_core.contracts.content.PackageContent as content
+use Rattle.go_snap_core.specs.part_core.contracts.part.Part as part
+use Rattle.go_snap_core.specs.part_core.contracts.parts.Parts as parts
 use Rattle.go_snap_core.specs.contracts.snapshot.Snapshot as snapshot
 use Rattle.go_snap_core.specs.contracts.shared.SharedSnapshot as shared_snapshot
 

@@ -5,7 +5,7 @@
 ghost use Rattle.go_thread_core.specs.Threads.{InputsCross, PartsCross, SharedSnapshotsCross, SinglePartsCross, SnapshotsCross, WorkspacesCross};
 
 use go_graph_core::Workspace;
-use go_part_core::{Part, PartInput, Parts};
+use go_snap_core::part_core::{Part, PartInput, Parts};
 use go_snap_core::{SharedSnapshot, Snapshot};
 
 // Asks that values of a type may go to a thread, and be seen by several.

@@ -5,8 +5,8 @@ use Rattle.std.proofs.lemmas.List.{append_assoc, append-nil, take_all}
 use Rattle.go_tree_nodes.specs.declared.exprs.Expr.{Expr}
 use Rattle.go_tree_nodes.specs.declared.exprs.NextExpr.{NextExpr}
 use Rattle.go_tree_nodes.specs.Shapes.{shape, exprs_from}
-use Rattle.go_local_core.specs.declared.Fault.{Fault}
-use Rattle.go_expr_core.specs.Looks.{Looks}
+use Rattle.go_piece_core.specs.local_core.declared.Fault.{Fault}
+use Rattle.go_piece_core.specs.expr_core.Looks.{Looks}
 use Rattle.go_top_core.specs.Initial.{expr_initial_faults, list_initial_faults}
 
 -- those of a list are those of its first expression, and of each behind it

@@ -5,18 +5,18 @@ use Rattle.std.specs.Prelude.{List, [], ◌++◌, Option, Some, None}
 use Rattle.go_text_core.specs.declared.span.Span.{Span}
 use Rattle.go_text_core.specs.declared.rule.Rule.{Rule}
 use Rattle.go_text_core.specs.declared.rule.Rule.TheVariants.{X1}
-use Rattle.go_constant_core.specs.declared.values.Constant.{Constant}
+use Rattle.go_piece_core.specs.constant_core.declared.values.Constant.{Constant}
 use Rattle.go_tree_nodes.specs.declared.decls.ValueKind.{ValueKind}
 use Rattle.go_tree_nodes.specs.declared.decls.ValueKind.TheVariants as kinds
 use Rattle.go_tree_nodes.specs.Trees.{Separated, One, Then, ExprTree, ValueSpecTree}
-use Rattle.go_denote_core.specs.declared.things.Stand.TheVariants as stands
-use Rattle.go_denote_core.specs.declared.things.Denoted.{Denoted}
-use Rattle.go_denote_core.specs.declared.things.Denoted.TheVariants as denotes
-use Rattle.go_local_core.specs.declared.Fault.{Fault}
-use Rattle.go_expr_core.specs.Looks.{Looks}
-use Rattle.go_expr_core.specs.Places.{start}
-use Rattle.go_expr_core.specs.Denoting.{denoted}
-use Rattle.go_expr_core.specs.Faults.{fault_at}
+use Rattle.go_piece_core.specs.denote_core.declared.things.Stand.TheVariants as stands
+use Rattle.go_piece_core.specs.denote_core.declared.things.Denoted.{Denoted}
+use Rattle.go_piece_core.specs.denote_core.declared.things.Denoted.TheVariants as denotes
+use Rattle.go_piece_core.specs.local_core.declared.Fault.{Fault}
+use Rattle.go_piece_core.specs.expr_core.Looks.{Looks}
+use Rattle.go_piece_core.specs.expr_core.Places.{start}
+use Rattle.go_piece_core.specs.expr_core.Denoting.{denoted}
+use Rattle.go_piece_core.specs.expr_core.Faults.{fault_at}
 
 abbrev pub unless_constant : Option Constant → Option Rule
 unless_constant None = Some X1

@@ -5,10 +5,10 @@
 use Rattle.std.specs.Prelude.{List, ◌++◌}
 use Rattle.go_tree_nodes.specs.declared.decls.ValueKind.{ValueKind}
 use Rattle.go_tree_nodes.specs.Trees.{ValueSpecTree, ValueTree, TypeSpecTree, TypeDeclTree, of_specs}
-use Rattle.go_expr_core.specs.declared.things.Use.{Use}
-use Rattle.go_local_core.specs.declared.Fault.{Fault}
-use Rattle.go_expr_core.specs.Looks.{Looks}
-use Rattle.go_expr_core.specs.TypeUses.{type_uses}
+use Rattle.go_piece_core.specs.expr_core.declared.things.Use.{Use}
+use Rattle.go_piece_core.specs.local_core.declared.Fault.{Fault}
+use Rattle.go_piece_core.specs.expr_core.Looks.{Looks}
+use Rattle.go_piece_core.specs.expr_core.TypeUses.{type_uses}
 use Rattle.go_piece_core.specs.Specifications.{spec_uses, outer_faults}
 use Rattle.go_inline_core.specs.Inline.{repeated_params}
 use Rattle.go_top_core.specs.Initial.{initial_faults}

@@ -1,13 +1,13 @@
 //! Initialisers of package variables.
 ghost use Rattle.std.specs.Prelude.{◌≡◌, ◌++◌, OnOk};
 ghost use Rattle.go_tree_nodes.specs.Shapes.{shape, shape_exprs, shape_value_spec, shape_values};
-ghost use Rattle.go_expr_core.specs.Looks.{everywhere};
-ghost use Rattle.go_expr_core.specs.Faults as expr_faults;
+ghost use Rattle.go_piece_core.specs.expr_core.Looks.{everywhere};
+ghost use Rattle.go_piece_core.specs.expr_core.Faults as expr_faults;
 ghost use Rattle.go_top_core.specs.Initial as initials;
 
-use go_denote_core::{Denoted, Stand};
-use go_expr_core::{Exprs, Notes, check_expr, start};
-use go_local_core::Fault;
+use go_piece_core::denote_core::{Denoted, Stand};
+use go_piece_core::expr_core::{Exprs, Notes, check_expr, start};
+use go_piece_core::local_core::Fault;
 use go_text_core::Rule;
 use go_tree_nodes::{Expr, ValueKind, ValueSpec, Values};
 use std::alloc::{AllocError, Global};

@@ -2,11 +2,11 @@
 ghost use Rattle.std.specs.Prelude.{◌≡◌, ◌++◌, OnOk, map};
 ghost use Rattle.std.specs.List.{flat_map};
 ghost use Rattle.go_tree_nodes.specs.Shapes.{shape_type_decl, shape_type_line, shape_type_spec};
-ghost use Rattle.go_expr_core.specs.Looks.{everywhere};
+ghost use Rattle.go_piece_core.specs.expr_core.Looks.{everywhere};
 ghost use Rattle.go_top_core.specs.Tops as tops;
 
-use go_expr_core::{Exprs, Notes, check_type};
 use go_inline_core::repeated_params;
+use go_piece_core::expr_core::{Exprs, Notes, check_type};
 use go_tree_nodes::{TypeDecl, TypeLine, TypeSpec, TypeSpecs};
 use std::alloc::{AllocError, Global};
 

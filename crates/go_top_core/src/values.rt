@@ -2,13 +2,13 @@
 ghost use Rattle.std.specs.Prelude.{◌≡◌, ◌++◌, OnOk, map};
 ghost use Rattle.std.specs.List.{flat_map};
 ghost use Rattle.go_tree_nodes.specs.Shapes.{shape_value, shape_value_line, shape_value_spec};
-ghost use Rattle.go_expr_core.specs.Looks.{everywhere};
+ghost use Rattle.go_piece_core.specs.expr_core.Looks.{everywhere};
 ghost use Rattle.go_piece_core.specs.Specifications.{spec_uses};
 ghost use Rattle.go_top_core.specs.Tops as tops;
 
 use crate::initial::note_initials;
-use go_expr_core::{Exprs, Notes};
 use go_piece_core::check_outer_spec;
+use go_piece_core::expr_core::{Exprs, Notes};
 use go_tree_nodes::{ValueDecl, ValueKind, ValueLine, ValueSpec, ValueSpecs};
 use std::alloc::{AllocError, Global};
 

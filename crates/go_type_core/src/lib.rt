@@ -29,10 +29,15 @@ pub use laws::{
 
 /// What the crates above name of `go_settle_core`.
 pub mod settle_core {
-    pub use go_table_core::settle_core::{Kind, SeenNames, kind_of};
+    pub use go_table_core::settle_core::{
+        Kind, Kinds, SeenNames, kind_of, settle, settle_signature,
+    };
 }
 
 /// What the crates above name of `go_table_core`.
 pub mod table_core {
-    pub use go_table_core::{FieldTable, StructField, StructFields, TypeTable};
+    pub use go_table_core::{
+        DeclaredMethod, DefinedType, FieldTable, PackageTypes, StructField, StructFields,
+        TypeEntry, TypeTable, identical_under, identical_under_but_for_tags, is_named_type,
+    };
 }

@@ -3,11 +3,11 @@ use Rattle.std.proofs.Common.{◌≡◌, ◌⊎◌, inl, inr, ⊎_elim, ℕ, Lis
 use Rattle.std.specs.Prelude.{AllPairs, Contains}
 use Rattle.go_text_core.specs.declared.rule.Rule.{Rule}
 use Rattle.go_term_core.proofs.Members.{In, contained_in, in_back, in_contained, in_either, in_front}
-use Rattle.go_report_core.specs.Faults.{ComesBefore, IsSaid, IsSettled}
-use Rattle.go_report_core.specs.Laws.{SettledFaultsAreOne}
-use Rattle.go_local_core.specs.declared.Fault.{Fault}
-use Rattle.go_denote_core.specs.declared.things.Outcome.TheVariants as outcomes
-use Rattle.go_handle_core.specs.Declarations.{Declaration}
+use Rattle.go_answer_core.specs.report_core.Faults.{ComesBefore, IsSaid, IsSettled}
+use Rattle.go_answer_core.specs.report_core.Laws.{SettledFaultsAreOne}
+use Rattle.go_answer_core.specs.local_core.declared.Fault.{Fault}
+use Rattle.go_answer_core.specs.denote_core.declared.things.Outcome.TheVariants as outcomes
+use Rattle.go_answer_core.specs.handle_core.Declarations.{Declaration}
 use Rattle.go_used_core.specs.Laws.{ReportsAreOne}
 use Rattle.go_used_core.specs.Reported.{IsReported}
 use Rattle.go_used_core.specs.Used.{TheOutcome, FileUse}

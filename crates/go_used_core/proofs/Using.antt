@@ -3,8 +3,8 @@ use Rattle.std.proofs.Common.{◌≡◌, ◌⊎◌, inl, inr, ⊎_elim, ℕ, zer
 use Rattle.std.specs.Prelude.{if◌then◌else◌, slice_get}
 use Rattle.go_term_core.proofs.Members.{In, in_back, in_either, in_front}
 use Rattle.go_tree_core.specs.declared.occurrence.Occ.{Occ}
-use Rattle.go_block_core.specs.declared.binding.Binding.{Binding}
-use Rattle.go_block_core.specs.Blocks.{BlocksModel, file_binding}
+use Rattle.go_answer_core.specs.block_core.declared.binding.Binding.{Binding}
+use Rattle.go_answer_core.specs.block_core.Blocks.{BlocksModel, file_binding}
 use Rattle.go_used_core.specs.Laws.{IsBoundBy, IsByDot, IsQualified}
 use Rattle.go_used_core.specs.Used.{FileUse, is_name_role, used_by, used_if, used_places, uses_binding}
 use Rattle.go_used_core.proofs.Bound.{Dots, Qualifies, dots_used, qualifies_used, used_is}

@@ -3,16 +3,16 @@ use Rattle.std.specs.Prelude.{◌≡◌, ◌↔◌, ◌⊎◌, ℕ, suc, true, L
 use Rattle.go_text_core.specs.declared.rule.Rule.{Rule}
 use Rattle.go_tree_core.specs.declared.occurrence.Role.TheVariants as roles
 use Rattle.go_tree_core.specs.declared.occurrence.Occ.{Occ}
-use Rattle.go_decl_core.specs.declared.keys.DeclRef.{DeclRef}
-use Rattle.go_decl_core.specs.declared.keys.DeclKey.{DeclKey}
+use Rattle.go_term_core.specs.decl_core.declared.keys.DeclRef.{DeclRef}
+use Rattle.go_term_core.specs.decl_core.declared.keys.DeclKey.{DeclKey}
 use Rattle.go_term_core.specs.declared.term.MemberPlace.TheVariants as member
-use Rattle.go_block_core.specs.declared.binding.Binding.{Binding}
-use Rattle.go_block_core.specs.declared.binding.Target.TheVariants as targets
-use Rattle.go_block_core.specs.Blocks.{BlocksModel, file_binding}
-use Rattle.go_handle_core.specs.Declarations.{Package, InFile}
-use Rattle.go_denote_core.specs.declared.things.Outcome.TheVariants as outcomes
-use Rattle.go_local_core.specs.declared.Fault.{Fault}
-use Rattle.go_report_core.specs.Faults.{IsSaid}
+use Rattle.go_answer_core.specs.block_core.declared.binding.Binding.{Binding}
+use Rattle.go_answer_core.specs.block_core.declared.binding.Target.TheVariants as targets
+use Rattle.go_answer_core.specs.block_core.Blocks.{BlocksModel, file_binding}
+use Rattle.go_answer_core.specs.handle_core.Declarations.{Package, InFile}
+use Rattle.go_answer_core.specs.denote_core.declared.things.Outcome.TheVariants as outcomes
+use Rattle.go_answer_core.specs.local_core.declared.Fault.{Fault}
+use Rattle.go_answer_core.specs.report_core.Faults.{IsSaid}
 use Rattle.go_answer_core.specs.face_core.Written.{same_decl_place}
 use Rattle.go_used_core.specs.Reported.{IsReported}
 use Rattle.go_used_core.specs.Used.{FileUse, is_name_role, used_places}

@@ -2,6 +2,11 @@ pub mod Laws
 pub mod Reported
 pub mod Used
 pub mod mirrors
+pub mod answer_core
+pub mod denote_core
 pub mod expr_core
 pub mod face_core
 pub mod handle_core
+pub mod local_core
+pub mod report_core
+pub mod tree_core

@@ -2,8 +2,8 @@
 --
 -- docs/RULES.md, "Reported faults".
 use Rattle.std.specs.Prelude.{◌↔◌, ◌⊎◌, List, AllPairs, Contains}
-use Rattle.go_local_core.specs.declared.Fault.{Fault}
-use Rattle.go_report_core.specs.Faults.{ComesBefore, IsSaid}
+use Rattle.go_answer_core.specs.local_core.declared.Fault.{Fault}
+use Rattle.go_answer_core.specs.report_core.Faults.{ComesBefore, IsSaid}
 use Rattle.go_used_core.specs.Used.{FileUse}
 
 -- the rules that its occurrences break, and the faults beside: in order, each once

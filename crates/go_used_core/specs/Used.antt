@@ -13,17 +13,17 @@ use Rattle.go_tree_core.specs.declared.occurrence.Role.{Role}
 use Rattle.go_tree_core.specs.declared.occurrence.Role.TheVariants as roles
 use Rattle.go_tree_core.specs.declared.occurrence.Occ.{Occ}
 use Rattle.go_tree_core.specs.Occurrences.{file_occs}
-use Rattle.go_decl_core.specs.declared.keys.DeclRef.{DeclRef}
+use Rattle.go_term_core.specs.decl_core.declared.keys.DeclRef.{DeclRef}
 use Rattle.go_term_core.specs.declared.term.MemberPlace.{MemberPlace}
 use Rattle.go_term_core.specs.declared.term.MemberPlace.TheVariants as member
-use Rattle.go_block_core.specs.declared.binding.Binding.{Binding}
-use Rattle.go_block_core.specs.declared.binding.Target.{Target}
-use Rattle.go_block_core.specs.declared.binding.Target.TheVariants as targets
-use Rattle.go_block_core.specs.Blocks.{BlocksModel, file_binding}
-use Rattle.go_block_core.specs.Naming.{file_specs}
-use Rattle.go_handle_core.specs.Declarations.{Declaration, Universe, OfError, Package, InFile}
-use Rattle.go_denote_core.specs.declared.things.Outcome.{Outcome}
-use Rattle.go_denote_core.specs.declared.things.Outcome.TheVariants as outcomes
+use Rattle.go_answer_core.specs.block_core.declared.binding.Binding.{Binding}
+use Rattle.go_answer_core.specs.block_core.declared.binding.Target.{Target}
+use Rattle.go_answer_core.specs.block_core.declared.binding.Target.TheVariants as targets
+use Rattle.go_answer_core.specs.block_core.Blocks.{BlocksModel, file_binding}
+use Rattle.go_answer_core.specs.block_core.Naming.{file_specs}
+use Rattle.go_answer_core.specs.handle_core.Declarations.{Declaration, Universe, OfError, Package, InFile}
+use Rattle.go_answer_core.specs.denote_core.declared.things.Outcome.{Outcome}
+use Rattle.go_answer_core.specs.denote_core.declared.things.Outcome.TheVariants as outcomes
 use Rattle.go_answer_core.specs.expr_core.declared.things.Use.{Use}
 use Rattle.go_answer_core.specs.face_core.Written.{same_decl_place}
 

@@ -13,7 +13,32 @@ pub use laws::{reports_are_one, used_imports_are_these};
 pub use reporting::report;
 pub use unused::refuse_unused;
 
+/// What the crates above name of `go_answer_core`.
+pub mod answer_core {
+    pub use go_answer_core::{Answer, HeldLocal, Site};
+}
+
+/// What the crates above name of `go_denote_core`.
+pub mod denote_core {
+    pub use go_answer_core::denote_core::Outcome;
+}
+
 /// What the crates above name of `go_face_core`.
 pub mod face_core {
-    pub use go_answer_core::face_core::Face;
+    pub use go_answer_core::face_core::{Face, FaceTable, lend};
+}
+
+/// What the crates above name of `go_handle_core`.
+pub mod handle_core {
+    pub use go_answer_core::handle_core::{Decl, DeclSite, SignatureRef, TypeRef};
+}
+
+/// What the crates above name of `go_local_core`.
+pub mod local_core {
+    pub use go_answer_core::local_core::Fault;
+}
+
+/// What the crates above name of `go_report_core`.
+pub mod report_core {
+    pub use go_answer_core::report_core::settle_faults;
 }

@@ -4,9 +4,9 @@ ghost use Rattle.go_used_core.specs.Reported.{IsReported};
 ghost use Rattle.go_used_core.specs.mirrors.Steps.{said};
 
 use go_answer_core::Answer;
-use go_denote_core::Outcome;
-use go_local_core::Fault;
-use go_report_core::settle_faults;
+use go_answer_core::denote_core::Outcome;
+use go_answer_core::local_core::Fault;
+use go_answer_core::report_core::settle_faults;
 use std::alloc::{AllocError, Global};
 
 // Adds the rules that occurrences break.

@@ -3,14 +3,14 @@ ghost use Rattle.std.specs.Prelude.{◌≡◌, ◌++◌, ◌||◌, ℕ, IfErr, I
 ghost use Rattle.std.specs.List.{flat_map, list_any};
 ghost use Rattle.indexmap.specs.IndexSet.{contains};
 ghost use Rattle.go_tree_nodes.specs.Shapes.{file_of, import_of, shape_import_spec, shape_import_specs};
-ghost use Rattle.go_block_core.specs.Naming.{specs_in, specs_of};
+ghost use Rattle.go_answer_core.specs.block_core.Naming.{specs_in, specs_of};
 ghost use Rattle.go_used_core.specs.Used.{blank_place, is_blank_name, judged_import, refused_use, without_unused};
 ghost use Rattle.go_used_core.specs.mirrors.Steps.{judged_by};
 
 use crate::used::{add_used_places, is_import};
 use go_answer_core::Answer;
-use go_block_core::Blocks;
-use go_denote_core::Outcome;
+use go_answer_core::block_core::Blocks;
+use go_answer_core::denote_core::Outcome;
 use go_text_core::Rule;
 use go_tree_core::occurrences;
 use go_tree_nodes::{File, ImportDecl, ImportName, ImportSpec, ImportSpecs};

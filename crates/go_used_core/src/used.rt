@@ -1,18 +1,18 @@
 //! Which imports of a file are used.
 ghost use Rattle.std.specs.Prelude.{◌≡◌, ◌++◌, IfOk, OnOk, None, Some, option_copied, slice_get};
 ghost use Rattle.std.specs.Option.{option_to_list};
-ghost use Rattle.go_block_core.specs.Blocks.{file_binding};
-ghost use Rattle.go_handle_core.specs.Declarations.{site_shown};
+ghost use Rattle.go_answer_core.specs.block_core.Blocks.{file_binding};
+ghost use Rattle.go_answer_core.specs.handle_core.Declarations.{site_shown};
 ghost use Rattle.go_used_core.specs.Used.{has_next, is_declared, is_exported, is_import, is_name_role, is_package_outcome, is_package_decl, is_qualifier, is_target_outcome, is_target_decl, is_target_place, used_by, used_if, used_places, uses_binding};
 ghost use Rattle.go_used_core.specs.mirrors.Steps.{some_used};
 
 use go_answer_core::Answer;
-use go_block_core::{Binding, Blocks, Target};
-use go_decl_core::DeclRef;
-use go_denote_core::Outcome;
-use go_handle_core::DeclSite;
+use go_answer_core::block_core::{Binding, Blocks, Target};
+use go_answer_core::denote_core::Outcome;
+use go_answer_core::handle_core::DeclSite;
 use go_path_core::ImportPath;
 use go_term_core::MemberPlace;
+use go_term_core::decl_core::DeclRef;
 use go_tree_core::{Occ, Role};
 use std::alloc::{AllocError, Global};
 

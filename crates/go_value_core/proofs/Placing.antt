@@ -5,10 +5,10 @@ use Rattle.std.specs.declared.alloc.Global.{Global}
 use Rattle.go_needs_core.specs.Needs.{rows_of}
 use Rattle.std.specs.List.{flat_map, enumerate_from}
 use Rattle.std.proofs.lemmas.List.{take_all, length-map}
-use Rattle.go_decl_core.specs.declared.tops.Outline.{Outline}
-use Rattle.go_decl_core.specs.Shown.{decl_shown}
-use Rattle.go_entry_core.specs.Outlines.{outline_shown}
-use Rattle.go_entry_core.proofs.Numbered.{flat_more}
+use Rattle.go_term_core.specs.decl_core.declared.tops.Outline.{Outline}
+use Rattle.go_term_core.specs.decl_core.Shown.{decl_shown}
+use Rattle.go_env_core.specs.entry_core.Outlines.{outline_shown}
+use Rattle.go_env_core.specs.entry_core.Numbered.{flat_more}
 use Rattle.go_env_core.specs.inline_core.Types.{InlineOf}
 use Rattle.go_value_core.specs.Package.{PlacedOf, placed, placed_in, placed_decls}
 

@@ -1,7 +1,7 @@
 -- The sample is computed.
 use Rattle.std.proofs.Common.{◌≡◌, ℕ, List, [], ◌∷◌, refl, subst}
 use Rattle.go_universe_core.specs.Universe.{found, spelling_of}
-use Rattle.go_scope_core.specs.Scopes.{universe}
+use Rattle.go_env_core.specs.scope_core.Scopes.{universe}
 use Rattle.go_needs_core.specs.Needs.{NeedsLead}
 use Rattle.go_needs_core.proofs.Edges.{one_inside}
 use Rattle.go_value_core.specs.Around.{LeadsBack}

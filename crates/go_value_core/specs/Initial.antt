@@ -8,13 +8,13 @@ use Rattle.go_tree_nodes.specs.declared.names.Ident.{Ident}
 use Rattle.go_tree_nodes.specs.declared.decls.ValueKind.{ValueKind}
 use Rattle.go_tree_nodes.specs.declared.decls.ValueKind.TheVariants as kinds
 use Rattle.go_tree_nodes.specs.Trees.{Separated, One, Then, ExprTree, ValueSpecTree}
-use Rattle.go_local_core.specs.Outline.{idents}
-use Rattle.go_operand_core.specs.declared.types.Operand.{Operand}
-use Rattle.go_operand_core.specs.TypeRules.{TypeRules}
-use Rattle.go_denote_core.specs.declared.things.Argument.{Argument}
-use Rattle.go_statement_core.specs.Declarations.{initial_types}
-use Rattle.go_expr_core.specs.Looks.{Looks}
-use Rattle.go_expr_core.specs.Needed.{needed_idents}
+use Rattle.go_piece_core.specs.local_core.Outline.{idents}
+use Rattle.go_piece_core.specs.operand_core.declared.types.Operand.{Operand}
+use Rattle.go_piece_core.specs.operand_core.TypeRules.{TypeRules}
+use Rattle.go_piece_core.specs.denote_core.declared.things.Argument.{Argument}
+use Rattle.go_piece_core.specs.statement_core.Declarations.{initial_types}
+use Rattle.go_piece_core.specs.expr_core.Looks.{Looks}
+use Rattle.go_piece_core.specs.expr_core.Needed.{needed_idents}
 pub use Rattle.go_piece_core.specs.Types.{some_written_type}
 pub use Rattle.go_piece_core.specs.Values.{variable, list_start}
 pub use Rattle.go_piece_core.specs.Specifications.{constant_value, constant_values, values_given}

@@ -4,11 +4,11 @@ use Rattle.std.specs.List.{list_all}
 use Rattle.go_tree_nodes.specs.declared.decls.ValueKind.{ValueKind}
 use Rattle.go_tree_nodes.specs.declared.decls.ValueKind.TheVariants as kinds
 use Rattle.go_tree_nodes.specs.Trees.{ValueSpecTree}
-use Rattle.go_decl_core.specs.TopDecls.{FormTree, ValueForm, TypeForm, FuncForm}
-use Rattle.go_denote_core.specs.declared.things.Found.{Found}
-use Rattle.go_statement_core.specs.Declarations.{is_initial}
-use Rattle.go_expr_core.specs.Looks.{Looks}
-use Rattle.go_expr_core.specs.Laws.{AgreeOnIdents, LooksAtNames, finding}
+use Rattle.go_term_core.specs.decl_core.TopDecls.{FormTree, ValueForm, TypeForm, FuncForm}
+use Rattle.go_piece_core.specs.denote_core.declared.things.Found.{Found}
+use Rattle.go_piece_core.specs.statement_core.Declarations.{is_initial}
+use Rattle.go_piece_core.specs.expr_core.Looks.{Looks}
+use Rattle.go_piece_core.specs.expr_core.Laws.{AgreeOnIdents, LooksAtNames, finding}
 use Rattle.go_env_core.specs.face_core.Faces.{TheFace}
 use Rattle.go_env_core.specs.Scenes.{SceneModel}
 use Rattle.go_needs_core.specs.Needs.{AreValues, known_in, needed}

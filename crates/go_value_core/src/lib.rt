@@ -24,9 +24,19 @@ pub use needs::package_needs;
 pub use placed::{PlacedDecl, placed_decls};
 pub use through::through_itself;
 
+/// What the crates above name of `go_entry_core`.
+pub mod entry_core {
+    pub use go_env_core::entry_core::{ImportedNames, outlines};
+}
+
 /// What the crates above name of `go_env_core`.
 pub mod env_core {
     pub use go_env_core::{Meaning, Scene, outer_names, stand};
+}
+
+/// What the crates above name of `go_face_core`.
+pub mod face_core {
+    pub use go_env_core::face_core::Face;
 }
 
 /// What the crates above name of `go_handle_core`.
@@ -37,4 +47,19 @@ pub mod handle_core {
 /// What the crates above name of `go_inline_core`.
 pub mod inline_core {
     pub use go_env_core::inline_core::InlineTypes;
+}
+
+/// What the crates above name of `go_names_core`.
+pub mod names_core {
+    pub use go_env_core::names_core::OpenNames;
+}
+
+/// What the crates above name of `go_operand_core`.
+pub mod operand_core {
+    pub use go_piece_core::operand_core::Operand;
+}
+
+/// What the crates above name of `go_scope_core`.
+pub mod scope_core {
+    pub use go_env_core::scope_core::Scopes;
 }

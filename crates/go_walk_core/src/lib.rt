@@ -13,3 +13,13 @@ pub use ends::{lines_have_break, lines_loop_faults};
 pub use terminating::{Panics, are_terminating, is_blank_target};
 pub use visitor::Visitor;
 pub use walk::visit_lines;
+
+/// What the crates above name of `go_local_core`.
+pub mod local_core {
+    pub use go_local_core::Fault;
+}
+
+/// What the crates above name of `go_open_core`.
+pub mod open_core {
+    pub use go_local_core::open_core::NameList;
+}

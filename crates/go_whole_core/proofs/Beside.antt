@@ -3,19 +3,19 @@ use Rattle.std.proofs.Common.{◌≡◌, ◌≢◌, ℕ, zero, suc, ◌+◌, inl
 use Rattle.std.specs.Prelude.{slice_get}
 use Rattle.std.specs.List.{flat_map}
 use Rattle.std.proofs.lemmas.List.Kept.{AllPairs-cons}
-use Rattle.go_graph_core.specs.Workspaces.{PackageModel, IsWorkspace}
-use Rattle.go_graph_core.proofs.OneTarget.{same_number}
+use Rattle.go_block_core.specs.graph_core.Workspaces.{PackageModel, IsWorkspace}
+use Rattle.go_block_core.specs.graph_core.OneTarget.{same_number}
 use Rattle.go_block_core.specs.Blocks.{exports_of}
 use Rattle.go_block_core.specs.Exports.{ExportsModel}
-use Rattle.go_table_core.specs.Entries.{Entry}
-use Rattle.go_table_core.specs.Tables.{package_types}
-use Rattle.go_entry_core.proofs.Among.{Among}
-use Rattle.go_face_core.specs.Packages.{PackageFacesModel}
+use Rattle.go_near_core.specs.table_core.Entries.{Entry}
+use Rattle.go_near_core.specs.table_core.Tables.{package_types}
+use Rattle.go_near_core.specs.entry_core.Among.{Among}
+use Rattle.go_near_core.specs.face_core.Packages.{PackageFacesModel}
 use Rattle.go_part_core.specs.summary_core.Summaries.{SummaryModel, IsOfOne, path_of, summary_of}
 use Rattle.go_part_core.specs.summary_core.Views.{PathsAreApart, exports_told, faces_told, types_told}
 use Rattle.go_part_core.specs.ready_core.Packages.{PackageIn}
 use Rattle.go_part_core.specs.package_core.Checked.{CheckedOf}
-use Rattle.go_entry_core.specs.Showing.{shown_in}
+use Rattle.go_near_core.specs.entry_core.Showing.{shown_in}
 use Rattle.go_whole_core.specs.Known.{CheckGives}
 use Rattle.go_whole_core.proofs.Told.{AreWell, NoneIsOf}
 use Rattle.go_whole_core.specs.Whole.{WholeOf, beside, if_some}

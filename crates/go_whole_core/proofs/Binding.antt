@@ -2,7 +2,7 @@
 use Rattle.std.proofs.Common.{◌≡◌, ℕ, zero, suc, Bool, true, false, List, [], ◌∷◌, ◌++◌, inl, inr, if◌then◌else◌, refl, sym, ap, subst, ◌∙◌}
 use Rattle.std.specs.Prelude.{Option, Some, None, slice_get}
 use Rattle.go_tree_nodes.specs.Trees.{ImportSpecTree}
-use Rattle.go_graph_core.specs.Packages.{Trees}
+use Rattle.go_block_core.specs.graph_core.Packages.{Trees}
 use Rattle.go_text_core.specs.Text.{is_blank}
 use Rattle.go_block_core.specs.declared.binding.Binding.{Binding}
 use Rattle.go_block_core.specs.declared.binding.Target.{Target}
@@ -18,7 +18,7 @@ use Rattle.go_block_core.specs.Naming.{file_named, file_specs, package_named, sp
 use Rattle.go_block_core.specs.Tables.{in_block}
 use Rattle.go_block_core.proofs.BindingLemmas.{imports_list}
 use Rattle.go_block_core.proofs.HoldingLaws.{file_answers, file_holds}
-use Rattle.go_entry_core.proofs.Among.{Among, among_to, among_flat, among_map, among_right}
+use Rattle.go_near_core.specs.entry_core.Among.{Among, among_to, among_flat, among_map, among_right}
 use Rattle.go_part_core.specs.ready_core.Lists.{mapped_at}
 use Rattle.go_whole_core.specs.Known.{IsImportedPath, IsTargetIn}
 use Rattle.go_whole_core.specs.LocalLaws.{ImportsBindTheirs}

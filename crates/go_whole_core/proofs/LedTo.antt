@@ -4,27 +4,27 @@ use Rattle.std.specs.Prelude.{Option, Some, None, Contains, slice_index_or}
 use Rattle.std.specs.List.{AllZip, enumerate_from}
 use Rattle.go_tree_nodes.specs.Trees.{FileTree}
 use Rattle.go_tree_nodes.specs.declared.types.TypeName.{TypeName}
-use Rattle.go_decl_core.specs.declared.keys.DeclKey.{DeclKey}
-use Rattle.go_decl_core.specs.declared.keys.DeclRef.{DeclRef}
-use Rattle.go_decl_core.specs.TopDecls.{top_decls}
+use Rattle.go_term_core.specs.decl_core.declared.keys.DeclKey.{DeclKey}
+use Rattle.go_term_core.specs.decl_core.declared.keys.DeclRef.{DeclRef}
+use Rattle.go_term_core.specs.decl_core.TopDecls.{top_decls}
 use Rattle.go_term_core.specs.Terms.{term_keys}
-use Rattle.go_table_core.specs.Entries.{Entry, find_entry, entry_keys}
-use Rattle.go_type_core.specs.Built.{IsBuilt}
-use Rattle.go_type_core.specs.Laws.{written_keys}
-use Rattle.go_entry_core.specs.Entries.{Meanings, entries_with, file_at, package_meanings, package_methods, type_key}
-use Rattle.go_entry_core.specs.Meanings.{file_meaning}
-use Rattle.go_entry_core.specs.Outlines.{FileOutline, outline_of}
-use Rattle.go_entry_core.proofs.Among.{Among}
-use Rattle.go_fault_core.specs.TypeFaults.{faults_of_types}
+use Rattle.go_near_core.specs.table_core.Entries.{Entry, find_entry, entry_keys}
+use Rattle.go_near_core.specs.type_core.Built.{IsBuilt}
+use Rattle.go_near_core.specs.type_core.Laws.{written_keys}
+use Rattle.go_near_core.specs.entry_core.Entries.{Meanings, entries_with, file_at, package_meanings, package_methods, type_key}
+use Rattle.go_near_core.specs.entry_core.Meanings.{file_meaning}
+use Rattle.go_near_core.specs.entry_core.Outlines.{FileOutline, outline_of}
+use Rattle.go_near_core.specs.entry_core.Among.{Among}
+use Rattle.go_part_core.specs.fault_core.TypeFaults.{faults_of_types}
 use Rattle.go_near_core.specs.handle_core.Declarations.{Declaration}
-use Rattle.go_local_core.specs.declared.Fault.{Fault}
-use Rattle.go_report_core.specs.Faults.{IsSettled}
-use Rattle.go_face_core.specs.Faces.{TheFace}
-use Rattle.go_face_core.specs.Packages.{PackageFacesModel, face_among, face_by, face_in}
-use Rattle.go_face_core.specs.Written.{decls_of, package_written, same_decl_place, written_at}
-use Rattle.go_face_core.proofs.Locality.{written_are_local}
-use Rattle.go_answer_core.specs.Outer.{outer_faults}
-use Rattle.go_answer_core.specs.Shown.{exported_decls, is_decl_listed, package_shown, shown_among, shown_if}
+use Rattle.go_near_core.specs.local_core.declared.Fault.{Fault}
+use Rattle.go_part_core.specs.report_core.Faults.{IsSettled}
+use Rattle.go_near_core.specs.face_core.Faces.{TheFace}
+use Rattle.go_near_core.specs.face_core.Packages.{PackageFacesModel, face_among, face_by, face_in}
+use Rattle.go_near_core.specs.face_core.Written.{decls_of, package_written, same_decl_place, written_at}
+use Rattle.go_near_core.specs.face_core.Locality.{written_are_local}
+use Rattle.go_part_core.specs.answer_core.Outer.{outer_faults}
+use Rattle.go_part_core.specs.answer_core.Shown.{exported_decls, is_decl_listed, package_shown, shown_among, shown_if}
 use Rattle.go_near_core.specs.Tables.{AgreeOn}
 use Rattle.go_near_core.specs.Functions.{StandsAgree}
 use Rattle.go_near_core.proofs.Files.{file_used, file_breaks, file_declares}

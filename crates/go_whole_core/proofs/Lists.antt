@@ -4,7 +4,7 @@ use Rattle.std.specs.Prelude.{slice_get, AllPairs}
 use Rattle.std.specs.List.{AllZip}
 use Rattle.std.proofs.lemmas.List.Elements.{All-cons, All-nil}
 use Rattle.std.proofs.lemmas.List.Kept.{AllPairs-cons}
-use Rattle.go_entry_core.proofs.Among.{Among, among_to}
+use Rattle.go_near_core.specs.entry_core.Among.{Among, among_to}
 
 -- the same items at the same places
 pub same_list : {A : Type 0} (xs ys : List A) → length xs ≡ length ys → ((i : ℕ) (x y : A) → slice_get xs i ≡ Some x → slice_get ys i ≡ Some y → x ≡ y) → xs ≡ ys

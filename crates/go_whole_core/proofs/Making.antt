@@ -7,20 +7,20 @@ use Rattle.std.proofs.lemmas.List.{take_more, length-take, length-set, get_or-ta
 use Rattle.std.proofs.lemmas.List.Elements.{Contains-append_left, Contains-append_right, Contains-push_cases}
 use Rattle.std.proofs.lemmas.Map.Keys.{apart_from_distinct}
 use Rattle.std.proofs.lemmas.Option.{slice_get_within, slice_get-get_or, get_or_from_slice_get}
-use Rattle.go_graph_core.specs.declared.imports.ImportAt.{ImportAt}
-use Rattle.go_graph_core.specs.Packages.{IsAssembled, trees_of}
-use Rattle.go_graph_core.specs.Plans.{PlanModel, IsPlan}
-use Rattle.go_graph_core.specs.Workspaces.{PackageModel, IsWorkspace}
-use Rattle.go_graph_core.proofs.Zips.{zip_append}
+use Rattle.go_block_core.specs.graph_core.declared.imports.ImportAt.{ImportAt}
+use Rattle.go_block_core.specs.graph_core.Packages.{IsAssembled, trees_of}
+use Rattle.go_block_core.specs.graph_core.Plans.{PlanModel, IsPlan}
+use Rattle.go_block_core.specs.graph_core.Workspaces.{PackageModel, IsWorkspace}
+use Rattle.go_block_core.specs.graph_core.Zips.{zip_append}
 use Rattle.go_block_core.specs.declared.imports.Imported.{Imported}
 use Rattle.go_block_core.specs.Exports.{ExportsModel}
 use Rattle.go_block_core.proofs.Growing.{given_weaker, package_weaker}
 use Rattle.go_block_core.proofs.AllLemmas.{no_number, nothing_at, numbered_from}
-use Rattle.go_entry_core.specs.Showing.{shown_in, with_shown}
-use Rattle.go_entry_core.proofs.Among.{Among, among_from}
-use Rattle.go_table_core.specs.Entries.{Entry}
-use Rattle.go_table_core.specs.Tables.{AreOthers}
-use Rattle.go_face_core.specs.Packages.{PackageFacesModel, with_faces}
+use Rattle.go_near_core.specs.entry_core.Showing.{shown_in, with_shown}
+use Rattle.go_near_core.specs.entry_core.Among.{Among, among_from}
+use Rattle.go_near_core.specs.table_core.Entries.{Entry}
+use Rattle.go_near_core.specs.table_core.Tables.{AreOthers}
+use Rattle.go_near_core.specs.face_core.Packages.{PackageFacesModel, with_faces}
 use Rattle.go_part_core.specs.summary_core.Summaries.{SummaryModel, IsOfOne, path_of}
 use Rattle.go_part_core.specs.summary_core.Views.{exports_told, types_told}
 use Rattle.go_part_core.specs.summary_core.Telling.{of_one}

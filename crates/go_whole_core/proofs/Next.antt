@@ -2,17 +2,17 @@
 use Rattle.std.proofs.Common.{◌≡◌, ℕ, ◌+◌, ◌<◌, ◌≤◌, List, [], ◌∷◌, ◌++◌, length, take, Option, Some, None, refl, sym, ap, subst, ◌∙◌, arith}
 use Rattle.std.specs.Prelude.{slice_get, slice_set, Contains, replicate}
 use Rattle.std.proofs.lemmas.List.{take_all, length-take, get_or-take, get_or_default}
-use Rattle.go_graph_core.specs.Sources.{SourceModel}
+use Rattle.go_block_core.specs.graph_core.Sources.{SourceModel}
 use Rattle.std.proofs.lemmas.Option.{slice_get_within}
-use Rattle.go_graph_core.specs.Imports.{IsNumbered}
-use Rattle.go_graph_core.specs.Packages.{IsAssembled}
-use Rattle.go_graph_core.specs.Plans.{PlanModel, IsPlan, IsAssembledAt}
-use Rattle.go_graph_core.specs.Workspaces.{PackageModel, IsWorkspace}
+use Rattle.go_block_core.specs.graph_core.Imports.{IsNumbered}
+use Rattle.go_block_core.specs.graph_core.Packages.{IsAssembled}
+use Rattle.go_block_core.specs.graph_core.Plans.{PlanModel, IsPlan, IsAssembledAt}
+use Rattle.go_block_core.specs.graph_core.Workspaces.{PackageModel, IsWorkspace}
 use Rattle.go_block_core.specs.Exports.{ExportsModel}
-use Rattle.go_table_core.specs.Entries.{Entry}
-use Rattle.go_table_core.specs.Tables.{AreOthers}
-use Rattle.go_entry_core.specs.Showing.{shown_in, with_shown}
-use Rattle.go_face_core.specs.Packages.{PackageFacesModel, with_faces}
+use Rattle.go_near_core.specs.table_core.Entries.{Entry}
+use Rattle.go_near_core.specs.table_core.Tables.{AreOthers}
+use Rattle.go_near_core.specs.entry_core.Showing.{shown_in, with_shown}
+use Rattle.go_near_core.specs.face_core.Packages.{PackageFacesModel, with_faces}
 use Rattle.go_part_core.specs.summary_core.Summaries.{SummaryModel, path_of}
 use Rattle.go_whole_core.specs.LocalLaws.{CheckIsLocal, ImportsBindTheirs}
 use Rattle.go_part_core.specs.Inputs.{InputModel, path_in}

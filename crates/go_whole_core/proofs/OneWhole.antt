@@ -2,19 +2,19 @@
 use Rattle.std.proofs.Common.{◌≡◌, ◌≢◌, ℕ, zero, suc, ◌+◌, ◌<◌, ◌≤◌, ◌⊎◌, inl, inr, List, [], ◌∷◌, length, map, take, Option, Some, None, refl, sym, ap, subst, ◌∙◌, arith}
 use Rattle.std.specs.Prelude.{slice_get, slice_index, Contains}
 use Rattle.std.proofs.lemmas.Bool.{cases_eq}
-use Rattle.go_graph_core.specs.Lists.{AllNumbered}
-use Rattle.go_graph_core.specs.Packages.{IsAssembled, Trees, trees_of}
-use Rattle.go_graph_core.specs.Plans.{PlanModel, IsPlan, IsAssembledAt}
-use Rattle.go_graph_core.specs.Workspaces.{PackageModel, IsWorkspace}
-use Rattle.go_graph_core.proofs.PlanLaws.{has_plan}
-use Rattle.go_graph_core.proofs.Zips.{numbered_at, numbered_back, numbered_length}
+use Rattle.go_block_core.specs.graph_core.Lists.{AllNumbered}
+use Rattle.go_block_core.specs.graph_core.Packages.{IsAssembled, Trees, trees_of}
+use Rattle.go_block_core.specs.graph_core.Plans.{PlanModel, IsPlan, IsAssembledAt}
+use Rattle.go_block_core.specs.graph_core.Workspaces.{PackageModel, IsWorkspace}
+use Rattle.go_block_core.specs.graph_core.PlanLaws.{has_plan}
+use Rattle.go_block_core.specs.graph_core.Zips.{numbered_at, numbered_back, numbered_length}
 use Rattle.go_block_core.specs.declared.imports.Imported.{Imported}
 use Rattle.go_block_core.specs.All.{AreAllBlocks, AreImported, AreBlocksOrNone, IsImported, IsShown}
 use Rattle.go_block_core.specs.Blocks.{BlocksModel, exports_of}
 use Rattle.go_block_core.specs.Exports.{ExportsModel}
 use Rattle.go_block_core.proofs.OneBlocks.{one_blocks}
-use Rattle.go_entry_core.specs.Showing.{shown_in}
-use Rattle.go_entry_core.proofs.Among.{Among, among_from, among_map, among_to, map_among}
+use Rattle.go_near_core.specs.entry_core.Showing.{shown_in}
+use Rattle.go_near_core.specs.entry_core.Among.{Among, among_from, among_map, among_to, map_among}
 use Rattle.go_part_core.specs.summary_core.Summaries.{SummaryModel, IsOfOne}
 use Rattle.go_part_core.specs.summary_core.Views.{exports_told, faces_told, types_told}
 use Rattle.go_part_core.specs.ready_core.Packages.{PackageIn}

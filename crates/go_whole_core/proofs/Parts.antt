@@ -3,14 +3,14 @@ use Rattle.std.proofs.Common.{◌≡◌, ◌≢◌, ℕ, ◌⊎◌, inl, inr, Li
 use Rattle.std.specs.Prelude.{slice_get, AllPairs, Contains}
 use Rattle.std.specs.List.{AllZip}
 use Rattle.std.proofs.lemmas.List.Kept.{AllPairs-from_increasing}
-use Rattle.go_graph_core.specs.Packages.{trees_of}
-use Rattle.go_graph_core.specs.Plans.{PlanModel, IsPlan}
-use Rattle.go_graph_core.specs.Workspaces.{PackageModel, IsWorkspace}
+use Rattle.go_block_core.specs.graph_core.Packages.{trees_of}
+use Rattle.go_block_core.specs.graph_core.Plans.{PlanModel, IsPlan}
+use Rattle.go_block_core.specs.graph_core.Workspaces.{PackageModel, IsWorkspace}
 use Rattle.go_block_core.specs.Blocks.{BlocksModel, AreBlocks}
 use Rattle.go_block_core.specs.Naming.{package_named}
 use Rattle.go_block_core.specs.Exports.{ExportsModel}
-use Rattle.go_entry_core.specs.Showing.{shown_in}
-use Rattle.go_entry_core.proofs.Among.{Among, among_from, among_map, among_to, map_among}
+use Rattle.go_near_core.specs.entry_core.Showing.{shown_in}
+use Rattle.go_near_core.specs.entry_core.Among.{Among, among_from, among_map, among_to, map_among}
 use Rattle.go_part_core.specs.summary_core.Summaries.{SummaryModel, IsOfOne, path_of}
 use Rattle.go_part_core.specs.summary_core.Views.{exports_told, faces_told, types_told}
 use Rattle.go_whole_core.specs.Known.{KnownAlike}

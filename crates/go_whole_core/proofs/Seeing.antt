@@ -3,7 +3,7 @@ use Rattle.std.proofs.Common.{◌≡◌, ◌++◌, ℕ, List, [], ◌∷◌, ref
 use Rattle.std.specs.Prelude.{Option, Some, None, slice_index_or}
 use Rattle.go_universe_core.specs.declared.Predeclared.{Predeclared}
 use Rattle.go_universe_core.specs.declared.Predeclared.TheVariants as universe
-use Rattle.go_decl_core.specs.declared.keys.DeclRef.{DeclRef}
+use Rattle.go_term_core.specs.decl_core.declared.keys.DeclRef.{DeclRef}
 use Rattle.go_block_core.specs.declared.binding.Binding.{Binding}
 use Rattle.go_block_core.specs.declared.binding.Target.{Target}
 use Rattle.go_block_core.specs.declared.binding.Target.TheVariants as targets
@@ -11,16 +11,16 @@ use Rattle.go_block_core.specs.Blocks.{file_binding}
 use Rattle.go_block_core.specs.Tables.{in_block}
 use Rattle.go_term_core.specs.declared.term.MemberPlace.TheVariants as places
 use Rattle.go_term_core.specs.Terms.{Term}
-use Rattle.go_operand_core.specs.declared.types.ValueType.{ValueType}
-use Rattle.go_operand_core.specs.declared.types.ValueType.TheVariants as value_types
-use Rattle.go_operand_core.specs.declared.types.Operand.{Operand}
+use Rattle.go_near_core.specs.operand_core.declared.types.ValueType.{ValueType}
+use Rattle.go_near_core.specs.operand_core.declared.types.ValueType.TheVariants as value_types
+use Rattle.go_near_core.specs.operand_core.declared.types.Operand.{Operand}
 use Rattle.go_near_core.specs.handle_core.Declarations.{Declaration, Universe, OfError, Package, InFile}
-use Rattle.go_face_core.specs.declared.face.Face.TheVariants as faces
-use Rattle.go_face_core.specs.Faces.{TheFace}
-use Rattle.go_face_core.specs.Packages.{PackageFacesModel, exported_in, face_by, face_in, face_in_some, package_in, shown_in_some, shown_name}
-use Rattle.go_face_core.specs.Written.{position_of}
-use Rattle.go_names_core.specs.declared.meaning.Outside.{Outside}
-use Rattle.go_names_core.specs.declared.meaning.Outside.TheVariants as outsides
+use Rattle.go_near_core.specs.face_core.declared.face.Face.TheVariants as faces
+use Rattle.go_near_core.specs.face_core.Faces.{TheFace}
+use Rattle.go_near_core.specs.face_core.Packages.{PackageFacesModel, exported_in, face_by, face_in, face_in_some, package_in, shown_in_some, shown_name}
+use Rattle.go_near_core.specs.face_core.Written.{position_of}
+use Rattle.go_near_core.specs.names_core.declared.meaning.Outside.{Outside}
+use Rattle.go_near_core.specs.names_core.declared.meaning.Outside.TheVariants as outsides
 use Rattle.go_near_core.specs.env_core.Scenes.{SceneModel}
 use Rattle.go_near_core.specs.env_core.Found.{TheFound, TheExported, exported_face, exported_shown, face_at, found_binding, found_exported, found_face, found_outside, found_target, found_universe}
 use Rattle.go_near_core.specs.Near.{IfAny, NearValue, NearOperand, NearFound, NearExported}

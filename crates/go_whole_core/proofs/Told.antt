@@ -1,16 +1,16 @@
 -- What is known by summaries, and what it mentions.
 use Rattle.std.proofs.Common.{◌≡◌, ℕ, ◌⊎◌, inl, inr, Bool, true, false, List, [], ◌∷◌, All, if◌then◌else◌, refl, sym, subst, ◌∙◌}
 use Rattle.std.specs.Prelude.{Some, None, Contains}
-use Rattle.go_decl_core.specs.declared.keys.DeclKey.{DeclKey}
-use Rattle.go_decl_core.specs.declared.keys.DeclRef.{DeclRef}
-use Rattle.go_graph_core.specs.Packages.{Trees}
+use Rattle.go_term_core.specs.decl_core.declared.keys.DeclKey.{DeclKey}
+use Rattle.go_term_core.specs.decl_core.declared.keys.DeclRef.{DeclRef}
+use Rattle.go_block_core.specs.graph_core.Packages.{Trees}
 use Rattle.go_block_core.specs.Blocks.{AreBlocks}
 use Rattle.go_block_core.specs.Naming.{package_named}
-use Rattle.go_table_core.specs.Entries.{Entry, entry_keys, find_entry, same_key}
-use Rattle.go_entry_core.specs.Showing.{shown_in}
-use Rattle.go_entry_core.proofs.Among.{Among, among_to}
-use Rattle.go_face_core.specs.Faces.{TheFace}
-use Rattle.go_face_core.specs.Packages.{exported_in, face_by, face_in}
+use Rattle.go_near_core.specs.table_core.Entries.{Entry, entry_keys, find_entry, same_key}
+use Rattle.go_near_core.specs.entry_core.Showing.{shown_in}
+use Rattle.go_near_core.specs.entry_core.Among.{Among, among_to}
+use Rattle.go_near_core.specs.face_core.Faces.{TheFace}
+use Rattle.go_near_core.specs.face_core.Packages.{exported_in, face_by, face_in}
 use Rattle.go_part_core.specs.summary_core.Summaries.{SummaryModel, IsOfOne, path_of}
 use Rattle.go_part_core.specs.summary_core.Views.{PathsAreApart, exports_told, faces_told, types_told}
 use Rattle.go_part_core.specs.summary_core.Telling.{nothing_else, views_tell}

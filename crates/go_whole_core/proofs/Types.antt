@@ -6,21 +6,21 @@ use Rattle.std.proofs.lemmas.List.Elements.{Contains-append_left, Contains-appen
 use Rattle.go_tree_nodes.specs.declared.files.Receiver.{Receiver}
 use Rattle.go_tree_nodes.specs.declared.types.TypeName.{TypeName}
 use Rattle.go_tree_nodes.specs.Trees.{FuncTree, TypeSpecTree}
-use Rattle.go_decl_core.specs.declared.keys.DeclKey.{DeclKey}
-use Rattle.go_decl_core.specs.TopDecls.{TopDeclTree, FormTree, ValueForm, TypeForm, FuncForm}
+use Rattle.go_term_core.specs.decl_core.declared.keys.DeclKey.{DeclKey}
+use Rattle.go_term_core.specs.decl_core.TopDecls.{TopDeclTree, FormTree, ValueForm, TypeForm, FuncForm}
 use Rattle.go_term_core.specs.Terms.{term_keys, sign_keys}
-use Rattle.go_table_core.specs.Entries.{Entry, Member, find_entry, entry_keys, members_keys}
-use Rattle.go_table_core.proofs.ByRule.{adding}
-use Rattle.go_type_core.specs.declared.build.TypeFault.{TypeFault}
-use Rattle.go_type_core.specs.Built.{IsBuilt}
-use Rattle.go_type_core.specs.Laws.{written_keys}
-use Rattle.go_type_core.proofs.Elsewhere.{found_in, building_is_local}
-use Rattle.go_type_core.proofs.Mentioned.{built_mentions_written}
-use Rattle.go_written_core.specs.Written.{InFile, Meaning, term_of}
-use Rattle.go_written_core.proofs.ByNames.{written_by_names}
-use Rattle.go_entry_core.specs.Entries.{Meanings, Received, decl_methods, entries_with, entry_of, file_at, file_entries, file_methods, func_methods, is_type_of, methods_received, package_methods, spec_entry, type_key}
-use Rattle.go_entry_core.specs.Outlines.{FileOutline}
-use Rattle.go_entry_core.proofs.Among.{Among, among_flat, among_map, among_filter}
+use Rattle.go_near_core.specs.table_core.Entries.{Entry, Member, find_entry, entry_keys, members_keys}
+use Rattle.go_near_core.specs.table_core.ByRule.{adding}
+use Rattle.go_near_core.specs.type_core.declared.build.TypeFault.{TypeFault}
+use Rattle.go_near_core.specs.type_core.Built.{IsBuilt}
+use Rattle.go_near_core.specs.type_core.Laws.{written_keys}
+use Rattle.go_near_core.specs.type_core.Elsewhere.{found_in, building_is_local}
+use Rattle.go_near_core.specs.type_core.Mentioned.{built_mentions_written}
+use Rattle.go_near_core.specs.written_core.Written.{InFile, Meaning, term_of}
+use Rattle.go_near_core.specs.written_core.ByNames.{written_by_names}
+use Rattle.go_near_core.specs.entry_core.Entries.{Meanings, Received, decl_methods, entries_with, entry_of, file_at, file_entries, file_methods, func_methods, is_type_of, methods_received, package_methods, spec_entry, type_key}
+use Rattle.go_near_core.specs.entry_core.Outlines.{FileOutline}
+use Rattle.go_near_core.specs.entry_core.Among.{Among, among_flat, among_map, among_filter}
 use Rattle.go_near_core.specs.Tables.{Nearby, AgreeOn}
 use Rattle.go_whole_core.proofs.Names.{AllInside}
 

@@ -8,32 +8,32 @@ use Rattle.go_tree_nodes.specs.declared.decls.ValueKind.{ValueKind}
 use Rattle.go_tree_nodes.specs.declared.decls.ValueKind.TheVariants as kinds
 use Rattle.go_tree_nodes.specs.declared.types.TypeName.{TypeName}
 use Rattle.go_tree_nodes.specs.Trees.{TypeTree, ValueSpecTree}
-use Rattle.go_decl_core.specs.TopDecls.{TopDeclTree, FormTree, ValueForm, TypeForm, FuncForm}
+use Rattle.go_term_core.specs.decl_core.TopDecls.{TopDeclTree, FormTree, ValueForm, TypeForm, FuncForm}
 use Rattle.go_settle_core.specs.Settled.{settled}
 use Rattle.go_settle_core.proofs.Mentions.{settled_mentions_written, sign_mentions}
 use Rattle.go_term_core.specs.Terms.{Term, Defined, term_keys}
-use Rattle.go_table_core.specs.Entries.{Entry, find_entry}
-use Rattle.go_decide_core.specs.Conversion.{is_type_term}
-use Rattle.go_decide_core.specs.Rules.{typed}
-use Rattle.go_operand_core.specs.declared.types.ValueType.{ValueType}
-use Rattle.go_operand_core.specs.declared.types.ValueType.TheVariants as value_types
-use Rattle.go_operand_core.specs.declared.types.Operand.{Operand}
-use Rattle.go_written_core.specs.Written.{InFile, Meaning, term_of, signature_of}
-use Rattle.go_written_core.proofs.ByNames.{written_by_names}
-use Rattle.go_entry_core.specs.Entries.{Meanings, file_at, type_key}
-use Rattle.go_entry_core.specs.Meanings.{file_meaning}
-use Rattle.go_entry_core.specs.Outlines.{FileOutline}
-use Rattle.go_entry_core.proofs.Among.{Among, among_from, among_to, among_flat, among_map}
-use Rattle.go_face_core.specs.declared.face.Face.TheVariants as faces
-use Rattle.go_face_core.specs.Faces.{TheFace, variable_face}
-use Rattle.go_face_core.specs.Laws.{FileDecl}
-use Rattle.go_face_core.specs.Written as writing
-use Rattle.go_face_core.specs.Written.{WrittenOf, face_found, file_written, type_written, written_at, written_of, written_with}
+use Rattle.go_near_core.specs.table_core.Entries.{Entry, find_entry}
+use Rattle.go_near_core.specs.decide_core.Conversion.{is_type_term}
+use Rattle.go_near_core.specs.decide_core.Rules.{typed}
+use Rattle.go_near_core.specs.operand_core.declared.types.ValueType.{ValueType}
+use Rattle.go_near_core.specs.operand_core.declared.types.ValueType.TheVariants as value_types
+use Rattle.go_near_core.specs.operand_core.declared.types.Operand.{Operand}
+use Rattle.go_near_core.specs.written_core.Written.{InFile, Meaning, term_of, signature_of}
+use Rattle.go_near_core.specs.written_core.ByNames.{written_by_names}
+use Rattle.go_near_core.specs.entry_core.Entries.{Meanings, file_at, type_key}
+use Rattle.go_near_core.specs.entry_core.Meanings.{file_meaning}
+use Rattle.go_near_core.specs.entry_core.Outlines.{FileOutline}
+use Rattle.go_near_core.specs.entry_core.Among.{Among, among_from, among_to, among_flat, among_map}
+use Rattle.go_near_core.specs.face_core.declared.face.Face.TheVariants as faces
+use Rattle.go_near_core.specs.face_core.Faces.{TheFace, variable_face}
+use Rattle.go_near_core.specs.face_core.Laws.{FileDecl}
+use Rattle.go_near_core.specs.face_core.Written as writing
+use Rattle.go_near_core.specs.face_core.Written.{WrittenOf, face_found, file_written, type_written, written_at, written_of, written_with}
 use Rattle.go_near_core.specs.env_core.Looks.{TheLooks}
 use Rattle.go_near_core.specs.func_core.Stands.{outer_looks}
 use Rattle.go_needs_core.specs.Needs.{AreValues, EndsWithin, known_in, needed}
-use Rattle.go_scope_core.specs.Laws.{denotes}
-use Rattle.go_scope_core.specs.Models.{scopes_model}
+use Rattle.go_near_core.specs.scope_core.Laws.{denotes}
+use Rattle.go_near_core.specs.scope_core.Models.{scopes_model}
 use Rattle.go_part_core.specs.value_core.Around.{LeadsBack}
 use Rattle.go_part_core.specs.value_core.Initial.{initial}
 use Rattle.go_part_core.specs.value_core.Package as values
@@ -51,15 +51,15 @@ use Rattle.go_near_core.proofs.Functions.{outer_closed, outer_agree}
 use Rattle.go_part_core.specs.ready_core.Laws.{package_placed}
 use Rattle.go_part_core.specs.ready_core.Packages.{PackageIn, scene_in, stand_in}
 use Rattle.go_part_core.specs.ready_core.Values.{AreDeclared, AreLooped, declared_in, decls_in, needs_in, some_decl_face}
-use Rattle.go_face_core.proofs.Places.{among_at}
+use Rattle.go_near_core.specs.face_core.Places.{among_at}
 use Rattle.go_part_core.specs.ready_core.ValuesProofs.{needs_same, faces_same}
 use Rattle.go_whole_core.specs.Known.{package_with, type_keys, value_type_keys}
 use Rattle.go_whole_core.proofs.Names.{AllInside, none_inside, one_inside}
 use Rattle.go_whole_core.proofs.Types.{near_of}
 use Rattle.go_whole_core.proofs.Seeing.{IsFaceInside, IsAnyInside}
 use Rattle.go_tree_nodes.specs.Spelling.{IsPlaced}
-use Rattle.go_table_core.specs.Entries.{kinds_in}
-use Rattle.go_statement_core.specs.Locality.{Each}
+use Rattle.go_near_core.specs.table_core.Entries.{kinds_in}
+use Rattle.go_near_core.specs.statement_core.Locality.{Each}
 use Rattle.go_part_core.specs.Parts.{SeenOf}
 
 -- numbers of a list

@@ -6,14 +6,14 @@ use Rattle.std.specs.List.{AllZip}
 use Rattle.std.specs.List.Sorted.{IsStrictlyIncreasing}
 use Rattle.go_reach_core.specs.Reach.{ReachesByEdges}
 use Rattle.go_cycle_core.specs.declared.edge.Edge.{Edge}
-use Rattle.go_graph_core.specs.declared.imports.ImportAt.{ImportAt}
-use Rattle.go_graph_core.specs.declared.imports.ImportOutcome.{ImportOutcome}
-use Rattle.go_graph_core.specs.declared.imports.ImportOutcome.TheVariants.{Package}
-use Rattle.go_graph_core.specs.Imports.{IsNumbered, IsOutcome}
-use Rattle.go_graph_core.specs.Lists.{AllNumbered}
-use Rattle.go_graph_core.specs.Packages.{IsAssembled, trees_of}
-use Rattle.go_graph_core.specs.Sources.{SourceModel}
-use Rattle.go_graph_core.specs.Workspaces.{PackageModel}
+use Rattle.go_block_core.specs.graph_core.declared.imports.ImportAt.{ImportAt}
+use Rattle.go_block_core.specs.graph_core.declared.imports.ImportOutcome.{ImportOutcome}
+use Rattle.go_block_core.specs.graph_core.declared.imports.ImportOutcome.TheVariants.{Package}
+use Rattle.go_block_core.specs.graph_core.Imports.{IsNumbered, IsOutcome}
+use Rattle.go_block_core.specs.graph_core.Lists.{AllNumbered}
+use Rattle.go_block_core.specs.graph_core.Packages.{IsAssembled, trees_of}
+use Rattle.go_block_core.specs.graph_core.Sources.{SourceModel}
+use Rattle.go_block_core.specs.graph_core.Workspaces.{PackageModel}
 use Rattle.go_block_core.specs.declared.imports.Imported.{Imported}
 use Rattle.go_block_core.specs.Exports.{ExportsModel}
 use Rattle.go_block_core.specs.Naming.{AreInPackage, IsGiven}

@@ -2,8 +2,8 @@
 --
 -- The Go specification, "Packages", "Import declarations", "Exported identifiers".
 use Rattle.std.specs.Prelude.{◌≡◌, ℕ, List, [], Option, Some, None, Contains, ⊤}
-use Rattle.go_decl_core.specs.declared.keys.DeclKey.{DeclKey}
-use Rattle.go_decl_core.specs.declared.keys.DeclRef.{DeclRef}
+use Rattle.go_term_core.specs.decl_core.declared.keys.DeclKey.{DeclKey}
+use Rattle.go_term_core.specs.decl_core.declared.keys.DeclRef.{DeclRef}
 use Rattle.go_block_core.specs.declared.binding.Binding.{Binding}
 use Rattle.go_block_core.specs.declared.binding.Target.{Target}
 use Rattle.go_block_core.specs.declared.binding.Target.TheVariants as targets
@@ -11,14 +11,14 @@ use Rattle.go_block_core.specs.declared.imports.Imported.{Imported}
 use Rattle.go_block_core.specs.declared.imports.Imported.TheVariants as given
 use Rattle.go_block_core.specs.Exports.{ExportsModel}
 use Rattle.go_block_core.specs.Blocks.{BlocksModel, file_binding}
-use Rattle.go_operand_core.specs.declared.types.ValueType.{ValueType}
-use Rattle.go_operand_core.specs.declared.types.ValueType.TheVariants as value_types
-use Rattle.go_operand_core.specs.declared.types.Operand.{Operand}
+use Rattle.go_near_core.specs.operand_core.declared.types.ValueType.{ValueType}
+use Rattle.go_near_core.specs.operand_core.declared.types.ValueType.TheVariants as value_types
+use Rattle.go_near_core.specs.operand_core.declared.types.Operand.{Operand}
 use Rattle.go_term_core.specs.Terms.{Term, term_keys, sign_keys}
-use Rattle.go_table_core.specs.Entries.{Entry, find_entry, entry_keys}
-use Rattle.go_face_core.specs.declared.face.Face.TheVariants as faces
-use Rattle.go_face_core.specs.Faces.{TheFace}
-use Rattle.go_face_core.specs.Packages.{exported_in, face_by, face_in}
+use Rattle.go_near_core.specs.table_core.Entries.{Entry, find_entry, entry_keys}
+use Rattle.go_near_core.specs.face_core.declared.face.Face.TheVariants as faces
+use Rattle.go_near_core.specs.face_core.Faces.{TheFace}
+use Rattle.go_near_core.specs.face_core.Packages.{exported_in, face_by, face_in}
 use Rattle.go_part_core.specs.ready_core.Packages.{PackageIn}
 use Rattle.go_part_core.specs.package_core.Checked.{CheckedOf, IsChecked}
 use Rattle.go_part_core.specs.Parts.{SeenOf}

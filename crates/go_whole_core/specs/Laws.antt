@@ -2,7 +2,7 @@
 use Rattle.std.specs.Prelude.{◌≡◌, ℕ, List, Option, Some, None, length, slice_get, slice_set}
 use Rattle.std.specs.List.{AllZip}
 use Rattle.go_cycle_core.specs.declared.edge.Edge.{Edge}
-use Rattle.go_graph_core.specs.Workspaces.{PackageModel, IsWorkspace}
+use Rattle.go_block_core.specs.graph_core.Workspaces.{PackageModel, IsWorkspace}
 use Rattle.go_part_core.specs.Inputs.{InputModel}
 use Rattle.go_part_core.specs.Parts.{IsPart, PartModel}
 use Rattle.go_whole_core.specs.Inputs.{AreParts, HasReached, IsInputAt, IsPartOf, IsPassingImport}

@@ -5,5 +5,11 @@ pub mod Laws
 pub mod LocalLaws
 pub mod Whole
 pub mod mirrors
+pub mod block_core
+pub mod entry_core
 pub mod face_core
+pub mod near_core
 pub mod part_core
+pub mod summary_core
+pub mod table_core
+pub mod type_core

@@ -2,7 +2,7 @@
 --
 -- The Go specification, "Packages", "Import declarations", "Exported identifiers".
 use Rattle.std.specs.Prelude.{◌≡◌, ℕ, List, All, Contains}
-use Rattle.go_graph_core.specs.Packages.{Trees}
+use Rattle.go_block_core.specs.graph_core.Packages.{Trees}
 use Rattle.go_block_core.specs.declared.imports.Imported.{Imported}
 use Rattle.go_block_core.specs.Blocks.{BlocksModel, AreBlocks}
 use Rattle.go_block_core.specs.Naming.{package_named}

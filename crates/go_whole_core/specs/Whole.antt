@@ -4,17 +4,17 @@
 use Rattle.std.specs.Prelude.{◌≡◌, ℕ, zero, suc, List, [], ◌∷◌, Option, Some, None, map}
 use Rattle.std.specs.List.{flat_map}
 use Rattle.std.specs.Option.{option_map}
-use Rattle.go_graph_core.specs.Lists.{AllNumbered}
-use Rattle.go_graph_core.specs.Packages.{IsAssembled, trees_of}
-use Rattle.go_graph_core.specs.Workspaces.{PackageModel}
+use Rattle.go_block_core.specs.graph_core.Lists.{AllNumbered}
+use Rattle.go_block_core.specs.graph_core.Packages.{IsAssembled, trees_of}
+use Rattle.go_block_core.specs.graph_core.Workspaces.{PackageModel}
 use Rattle.go_block_core.specs.declared.imports.Imported.{Imported}
 use Rattle.go_block_core.specs.All.{AreImported}
 use Rattle.go_block_core.specs.Blocks.{BlocksModel, AreBlocks, exports_of}
 use Rattle.go_block_core.specs.Exports.{ExportsModel}
 use Rattle.go_block_core.specs.Naming.{package_named}
-use Rattle.go_table_core.specs.Entries.{Entry}
-use Rattle.go_entry_core.specs.Showing.{shown_in}
-use Rattle.go_face_core.specs.Packages.{PackageFacesModel}
+use Rattle.go_near_core.specs.table_core.Entries.{Entry}
+use Rattle.go_near_core.specs.entry_core.Showing.{shown_in}
+use Rattle.go_near_core.specs.face_core.Packages.{PackageFacesModel}
 use Rattle.go_part_core.specs.ready_core.Packages.{PackageIn, trees_in}
 use Rattle.go_part_core.specs.package_core.Checked.{CheckedOf, IsChecked}
 

@@ -15,7 +15,7 @@ use Rattle.go_tree_nodes.specs.declared.types.«Param» as declared_param
 use Rattle.go_tree_nodes.specs.Trees.{Separated, One, Then, FieldTrees}
 use Rattle.go_tree_nodes.specs.TypeShapes.{idents_from, shape_idents, shape_names, shape_type, shape_signature, shape_results, fields_before}
 use Rattle.go_tree_nodes.proofs.TypeShapes.{listed_parts}
-use Rattle.go_decl_core.specs.declared.places.DeclKind.TheVariants as kinds
+use Rattle.go_term_core.specs.decl_core.declared.places.DeclKind.TheVariants as kinds
 use Rattle.go_term_core.specs.declared.term.Field.{Field}
 use Rattle.go_term_core.specs.declared.term.Method.{Method}
 use Rattle.go_term_core.specs.declared.term.MemberPlace.{MemberPlace}

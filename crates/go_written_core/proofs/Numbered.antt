@@ -2,10 +2,10 @@
 use Rattle.std.proofs.Common.{◌≡◌, ℕ, zero, suc, ◌+◌, ◌<◌, List, [], ◌∷◌, get_or, Some, None, refl, sym, ap, ◌∙◌, arith}
 use Rattle.std.specs.Prelude.{if◌then◌else◌}
 use Rattle.std.proofs.lemmas.Bool.{eq-eqb, ne_eqb}
-use Rattle.go_decl_core.specs.declared.places.DeclKind.{DeclKind}
-use Rattle.go_decl_core.specs.declared.places.Place.{Place}
-use Rattle.go_decl_core.specs.Table.{IsAt, IsNowhere, Rise}
-use Rattle.go_decl_core.proofs.Tables.{offset_at}
+use Rattle.go_term_core.specs.decl_core.declared.places.DeclKind.{DeclKind}
+use Rattle.go_term_core.specs.decl_core.declared.places.Place.{Place}
+use Rattle.go_term_core.specs.decl_core.Table.{IsAt, IsNowhere, Rise}
+use Rattle.go_term_core.specs.decl_core.Tables.{offset_at}
 use Rattle.go_written_core.specs.Written.{InFile, number_from, written_member_place, member_place}
 
 rise_behind : (p : Place) (ps : List Place) → Rise (p ∷ ps) → Rise ps

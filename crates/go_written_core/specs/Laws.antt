@@ -2,7 +2,7 @@
 use Rattle.std.specs.Prelude.{◌≡◌, List, Contains}
 use Rattle.go_tree_nodes.specs.declared.types.TypeName.{TypeName}
 use Rattle.go_tree_nodes.specs.Trees.{TypeTree, SignatureTree}
-use Rattle.go_decl_core.specs.declared.keys.DeclKey.{DeclKey}
+use Rattle.go_term_core.specs.decl_core.declared.keys.DeclKey.{DeclKey}
 use Rattle.go_term_core.specs.Terms.{term_keys, sign_keys}
 use Rattle.go_written_core.specs.Written.{Meaning, InFile, term_of, signature_of}
 use Rattle.go_tree_nodes.specs.TypeNames.{type_names_in, signature_names_in}

@@ -1,6 +1,6 @@
 //! The terms of type expressions.
 ghost use Rattle.std.specs.Prelude.{◌≡◌, ◌++◌, ◌∷◌, [], IfOk, OnOk, true, false};
-ghost use Rattle.go_decl_core.specs.Outer.{last_ident};
+ghost use Rattle.go_term_core.specs.decl_core.Outer.{last_ident};
 ghost use Rattle.go_term_core.specs.Shapes.{line_with, shape, sign_of, method_shapes, param_shapes};
 ghost use Rattle.go_term_core.specs.Terms.{NoField, AField, NoMethod, AMethod, NoTerm, ATerm};
 ghost use Rattle.go_tree_nodes.specs.TypeShapes.{shape_type, shape_idents, shape_names, shape_signature, shape_results};
@@ -8,7 +8,7 @@ ghost use Rattle.go_written_core.specs.mirrors.Adding.{Adds, AddsLine, AddsParam
 ghost use Rattle.go_written_core.specs.Written.{in_file, term_of, signature_of, member_place, named_fields, fields_of_tree, methods_of_tree, results_of_tree, params_of_tree, for_names, term_starred, tag_of};
 
 use crate::names::{TypeNames, WrittenIn};
-use go_decl_core::{DeclKind, last_ident};
+use go_term_core::decl_core::{DeclKind, last_ident};
 use go_term_core::{Field, FieldLine, Method, Params, Signature, Tag, TypeTerm};
 use go_text_core::{Span, add, boxed};
 use go_tree_nodes::{

@@ -11,9 +11,10 @@ use Rattle.clap.specs.declared.error.kind.ErrorKind.TheVariants as kind
 use Rattle.clap.proofs.OnLiterals.{clap_on_literals}
 use Rattle.govisd.specs.declared.program.Ran.{Ran}
 use Rattle.govisd.specs.declared.words.Request.{Request}
-use Rattle.govisd.specs.declared.words.Request.TheVariants.{Resolve, Explain, Check, Help, Version}
+use Rattle.govisd.specs.declared.words.Request.TheVariants.{Resolve, Explain, Check, Script, Serve, Help, Version, BadCount}
 use Rattle.govisd.specs.Asking.{Asks, ToHelp, ToResolve, ToTellVersion, is_plain, command_behind, command_line, asked_by_subcommand as asked_by, refusals, said}
-use Rattle.govisd.specs.Runs.{Answering, Does, HelpsAlone, HelpsByFlag, Refuses, RefusesFor, RefusesNothing, RefusesWordBehind, Resolves, ResolvesAlone, Runs, RunsOut, ShowsOrRunsOut, ShowsText, TellsVersion}
+use Rattle.govisd.specs.Runs.{Answering, Does, HelpsAlone, HelpsByFlag, Refuses, RefusesFor, RefusesNothing, RefusesWordBehind, Resolves, ResolvesAlone, Runs, ShowsOrRunsOut, ShowsText, TellsVersion}
+use Rattle.govisd.specs.Says.{RunsOut}
 use Rattle.govisd.specs.Texts.{program_help_text, version_text}
 use Rattle.govisd.proofs.PlainWords.{resolve_word}
 use Rattle.govisd.proofs.RunLemmas.{asked, failed, helped, helps, ran_out}
@@ -59,6 +60,9 @@ module _ (Answers : Answering) (ran : Ran) (given left out out' err err' : Optio
   resolves (Check order) is h = absurd (cc)
   resolves (Help topic) is h = absurd (cc)
   resolves Version is h = absurd (cc)
+  resolves (Script workers) is h = absurd (cc)
+  resolves (Serve daemon) is h = absurd (cc)
+  resolves (BadCount option) is h = absurd (cc)
 
   tells : (request : Request) → said request ≡ ToTellVersion → Does Answers (Ok request) ran given left out out' err err' → ShowsText ran version_text out out' err err' × Keeps given left
   tells Resolve is h = absurd (cc)
@@ -66,6 +70,9 @@ module _ (Answers : Answering) (ran : Ran) (given left out out' err err' : Optio
   tells (Check order) is h = absurd (cc)
   tells (Help topic) is h = absurd (cc)
   tells Version is h = h
+  tells (Script workers) is h = absurd (cc)
+  tells (Serve daemon) is h = absurd (cc)
+  tells (BadCount option) is h = absurd (cc)
 
   resolved : (words : List Text) → refusals words ≡ [] → asked_by words ≡ ToResolve → Runs Answers words ran given left out out' err err' → Resolves ran given left out out' err err' ⊎ (RunsOut ran err err' × Keeps out out' × Keeps given left)
   resolved words none is r = by r.asked r.asks r.does
@@ -98,7 +105,7 @@ module _ (Answers : Answering) (ran : Ran) (given left out out' err err' : Optio
         | inr other ↦ absurd (other.2 other.0)
       ]
 
-  refused_for : (words : List Text) (k : ErrorKind) → k ≢ kind.DisplayHelp → k ≢ kind.DisplayVersion → refusals words ≡ k ∷ [] → Runs Answers words ran given left out out' err err' → RefusesFor k ran out out' err err' × Keeps given left
+  pub refused_for : (words : List Text) (k : ErrorKind) → k ≢ kind.DisplayHelp → k ≢ kind.DisplayVersion → refusals words ≡ k ∷ [] → Runs Answers words ran given left out out' err err' → RefusesFor k ran out out' err err' × Keeps given left
   refused_for words k no_help no_version one r = by r.asked r.asks r.does
     where
       by : (a : Result Request Error) → Asks words a → Does Answers a ran given left out out' err err' → RefusesFor k ran out out' err err' × Keeps given left

@@ -10,7 +10,8 @@ use Rattle.clap.specs.Kinds.{Kinds, or_else}
 use Rattle.clap.specs.Faults.{bundle_fault, check_fault, defaults_fault, flag_word_fault, level_fault, other_fault, settle_fault, step_fault, turn_fault, walk_fault, word_fault}
 use Rattle.clap.specs.declared.error.kind.ErrorKind.TheVariants as kind
 use Rattle.clap.proofs.OnLiterals.{clap_on_literals}
-use Rattle.govisd.specs.Asking.{ToCheck, ToExplain, ToHelp, explain_app, govisd_app, is_plain, command_line, asked_by_subcommand, order_in, refusals}
+use Rattle.govisd.specs.Asking.{ToCheck, ToExplain, ToHelp, ToServe, explain_app, govisd_app, is_plain, command_line, asked_by_subcommand, order_in, refusals, script_in, script_with, serve_in, serve_with}
+use Rattle.govisd.specs.Counts.{connections_in, workers_in}
 
 not_true : (t : Bool) → not t ≡ true → t ≡ false
 not_true true h = absurd (cc)
@@ -227,3 +228,48 @@ help_word_named program word plain =
 pub resolve_word : (program word : Text) → is_plain word ≡ true → refusals (command_line program (codes "resolve" ∷ (word ∷ []))) ≡ kind.UnknownArgument ∷ []
 unfolding clap_on_literals
 resolve_word program word plain = ap (λ k. or_else k []) (one_word (sub 0) word plain)
+
+-- what is held where a number of workers is waited for
+abbrev held_workers : Held
+held_workers = (walked (sub 4).rules [] (at 1 nothing_held) (codes "--workers")).held
+
+pub script_workers : (program count : Text) → is_plain count ≡ true → refusals (command_line program (codes "script" ∷ (codes "--workers" ∷ (count ∷ [])))) ≡ []
+unfolding clap_on_literals
+script_workers program count plain = ap (λ k. or_else k []) (value_last (sub 4) (codes "workers") 1 held_workers count plain)
+
+pub script_workers_named : (program count : Text) → is_plain count ≡ true → asked_by_subcommand (command_line program (codes "script" ∷ (codes "--workers" ∷ (count ∷ [])))) ≡ script_with (workers_in (Some count))
+unfolding clap_on_literals
+script_workers_named program count plain = ap (λ (w : Walk). script_in (finished (sub 4).rules w.held)) (value_passed (sub 4) [] (codes "workers") 1 held_workers count plain)
+
+-- what is held where an address is waited for, where a number of workers is behind it, and where one of connections is behind these
+abbrev held_listen : Held
+held_listen = (walked (sub 5).rules [] (at 1 nothing_held) (codes "--listen")).held
+
+abbrev held_address : Text → Held
+held_address address = (walked (sub 5).rules [] (behind_value (sub 5) (codes "listen") 1 held_listen address) (codes "--workers")).held
+
+abbrev held_count : Text → Text → Held
+held_count address count = (walked (sub 5).rules [] (behind_value (sub 5) (codes "workers") 1 (held_address address) count) (codes "--connections")).held
+
+pub serve_at : (program address : Text) → is_plain address ≡ true → refusals (command_line program (codes "serve" ∷ (codes "--listen" ∷ (address ∷ [])))) ≡ []
+unfolding clap_on_literals
+serve_at program address plain = ap (λ k. or_else k []) (value_last (sub 5) (codes "listen") 1 held_listen address plain)
+
+pub serve_at_named : (program address : Text) → is_plain address ≡ true → asked_by_subcommand (command_line program (codes "serve" ∷ (codes "--listen" ∷ (address ∷ [])))) ≡ ToServe address 1 None
+unfolding clap_on_literals
+serve_at_named program address plain = ap (λ (w : Walk). serve_in (finished (sub 5).rules w.held)) (value_passed (sub 5) [] (codes "listen") 1 held_listen address plain)
+
+pub serve_told : (program address count most : Text) → is_plain address ≡ true → is_plain count ≡ true → is_plain most ≡ true → refusals (command_line program (codes "serve" ∷ (codes "--listen" ∷ (address ∷ (codes "--workers" ∷ (count ∷ (codes "--connections" ∷ (most ∷ [])))))))) ≡ []
+unfolding clap_on_literals
+serve_told program address count most plain plain' plain'' =
+    ap (λ k. or_else k [])
+    (value_then (sub 5) (codes "listen") 1 held_listen address (codes "--workers" ∷ (count ∷ (codes "--connections" ∷ (most ∷ [])))) plain
+    ∙ (value_then (sub 5) (codes "workers") 1 (held_address address) count (codes "--connections" ∷ (most ∷ [])) plain'
+    ∙ value_last (sub 5) (codes "connections") 1 (held_count address count) most plain''))
+
+pub serve_told_named : (program address count most : Text) → is_plain address ≡ true → is_plain count ≡ true → is_plain most ≡ true → asked_by_subcommand (command_line program (codes "serve" ∷ (codes "--listen" ∷ (address ∷ (codes "--workers" ∷ (count ∷ (codes "--connections" ∷ (most ∷ [])))))))) ≡ serve_with address (workers_in (Some count)) (connections_in (Some most))
+unfolding clap_on_literals
+serve_told_named program address count most plain plain' plain'' =
+    ap (λ (w : Walk). serve_in (finished (sub 5).rules (walked (sub 5).rules [] (walked (sub 5).rules [] (walked (sub 5).rules [] (walked (sub 5).rules [] w (codes "--workers")) count) (codes "--connections")) most).held)) (value_passed (sub 5) [] (codes "listen") 1 held_listen address plain)
+    ∙ (ap (λ (w : Walk). serve_in (finished (sub 5).rules (walked (sub 5).rules [] (walked (sub 5).rules [] w (codes "--connections")) most).held)) (value_passed (sub 5) [] (codes "workers") 1 (held_address address) count plain')
+    ∙ ap (λ (w : Walk). serve_in (finished (sub 5).rules w.held)) (value_passed (sub 5) [] (codes "connections") 1 (held_count address count) most plain''))

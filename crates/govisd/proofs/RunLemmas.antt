@@ -16,9 +16,10 @@ use Rattle.go_explain_core.proofs.Everywhere.{everywhere}
 use Rattle.go_explain_core.proofs.Numbers.{names_each}
 use Rattle.govisd.specs.declared.program.Ran.{Ran}
 use Rattle.govisd.specs.declared.words.Request.{Request}
-use Rattle.govisd.specs.declared.words.Request.TheVariants.{Resolve, Explain, Check, Help, Version}
+use Rattle.govisd.specs.declared.words.Request.TheVariants.{Resolve, Explain, Check, Script, Serve, Help, Version, BadCount}
 use Rattle.govisd.specs.Asking.{Asks, ToCheck, ToExplain, ToHelp, is_plain, command_line, asked_by_subcommand as asked_by, refusals, said}
-use Rattle.govisd.specs.Runs.{Answering, ChecksEach, ChecksEachAsJson, ChecksEachModule, ChecksFolder, Does, Explains, ExplainsEach, ExplainsFound, Helps, HelpsEach, HelpsFound, ListsAll, Refuses, RefusesName, RefusesOtherCommands, RefusesOthers, Runs, RunsOut, ShowsOrRunsOut}
+use Rattle.govisd.specs.Runs.{Answering, ChecksEach, ChecksEachAsJson, ChecksEachModule, ChecksFolder, Does, Explains, ExplainsEach, ExplainsFound, Helps, HelpsEach, HelpsFound, ListsAll, Refuses, RefusesName, RefusesOtherCommands, RefusesOthers, Runs, ShowsOrRunsOut}
+use Rattle.govisd.specs.Says.{RunsOut}
 use Rattle.govisd.specs.Texts.{help_of, unknown_command_text}
 use Rattle.govisd.proofs.PlainWords.{check_folder, check_folder_named, check_module, check_module_json, check_module_json_named, check_module_named, explain_word, explain_word_named, help_word, help_word_named}
 
@@ -56,6 +57,9 @@ module _ (Answers : Answering) (ran : Ran) (given left out out' err err' : Optio
   explains (Check order) word is h = absurd (cc)
   explains (Help topic) word is h = absurd (cc)
   explains Version word is h = absurd (cc)
+  explains (Script workers) word is h = absurd (cc)
+  explains (Serve daemon) word is h = absurd (cc)
+  explains (BadCount option) word is h = absurd (cc)
 
   pub helps : (request : Request) (word : Option Text) → said request ≡ ToHelp word → Does Answers (Ok request) ran given left out out' err err' → Helps word ran out out' err err' × Keeps given left
   helps Resolve word is h = absurd (cc)
@@ -63,6 +67,9 @@ module _ (Answers : Answering) (ran : Ran) (given left out out' err err' : Optio
   helps (Check order) word is h = absurd (cc)
   helps (Help topic) word is h = (subst (λ w. Helps w ran out out' err err') (same_topic _ word is) h.0, h.1)
   helps Version word is h = absurd (cc)
+  helps (Script workers) word is h = absurd (cc)
+  helps (Serve daemon) word is h = absurd (cc)
+  helps (BadCount option) word is h = absurd (cc)
 
   checks : (request : Request) (folder : Text) (path : Option Text) (json : Bool) → said request ≡ ToCheck folder path json → Does Answers (Ok request) ran given left out out' err err' → ChecksFolder Answers folder json path ran out out' err err' × Keeps given left
   checks Resolve folder path json is h = absurd (cc)
@@ -74,6 +81,9 @@ module _ (Answers : Answering) (ran : Ran) (given left out out' err err' : Optio
       (subst (λ p. ChecksFolder Answers folder json p ran out out' err err') (same_path _ folder _ path _ json is) formed, h.1)
   checks (Help topic) folder path json is h = absurd (cc)
   checks Version folder path json is h = absurd (cc)
+  checks (Script workers) folder path json is h = absurd (cc)
+  checks (Serve daemon) folder path json is h = absurd (cc)
+  checks (BadCount option) folder path json is h = absurd (cc)
 
   pub ran_out : (e : Error) → kind_of e ≡ kind.OutOfMemory → Refuses (kind_of e) ran err err' → RunsOut ran err err'
   ran_out e is h =
@@ -81,7 +91,7 @@ module _ (Answers : Answering) (ran : Ran) (given left out out' err err' : Optio
       (r.status, r.says)
 
   -- a run for words that are not refused does what is done for what they name, or memory ran out
-  done : (words : List Text) (Happens : Type 0) → ((request : Request) → said request ≡ asked_by words → Does Answers (Ok request) ran given left out out' err err' → Happens × Keeps given left) → refusals words ≡ [] → Runs Answers words ran given left out out' err err' → (Happens ⊎ (RunsOut ran err err' × Keeps out out')) × Keeps given left
+  pub done : (words : List Text) (Happens : Type 0) → ((request : Request) → said request ≡ asked_by words → Does Answers (Ok request) ran given left out out' err err' → Happens × Keeps given left) → refusals words ≡ [] → Runs Answers words ran given left out out' err err' → (Happens ⊎ (RunsOut ran err err' × Keeps out out')) × Keeps given left
   done words Happens does none r = by r.asked r.asks r.does
     where
       by : (a : Result Request Error) → Asks words a → Does Answers a ran given left out out' err err' → (Happens ⊎ (RunsOut ran err err' × Keeps out out')) × Keeps given left

@@ -1,5 +1,5 @@
 -- What clap says of the program's words.
-use Rattle.std.proofs.Common.{◌≡◌, ◌≢◌, ◌∙◌, inl, inr, true, List, [], Option, Some, None, refl, sym, ap, ap₂, subst}
+use Rattle.std.proofs.Common.{◌≡◌, ◌≢◌, ◌∙◌, ◌⊎◌, inl, inr, true, List, [], Option, Some, None, refl, sym, ap, ap₂, subst}
 use Rattle.std.specs.Prelude.{option_map}
 use Rattle.std.specs.Option.{option_map_or}
 use Rattle.clap.specs.Faults.{fault_of, is_simple_and_free}
@@ -7,7 +7,7 @@ use Rattle.clap.specs.Kinds.{HasKind, IsAmong}
 use Rattle.clap.specs.Values.{kind_of}
 use Rattle.clap.specs.declared.error.Error.{Error}
 use Rattle.clap.specs.declared.error.kind.ErrorKind.{ErrorKind}
-use Rattle.clap.specs.declared.error.kind.ErrorKind.TheVariants.{OutOfMemory}
+use Rattle.clap.specs.declared.error.kind.ErrorKind.TheVariants.{DisplayHelp, DisplayVersion, OutOfMemory}
 use Rattle.clap.specs.Simple.{App, HasMatchesOf, is_simple, subcommand_of, subcommand_rows_of}
 use Rattle.clap.specs.Matches.{first_value, subcommand_name_of}
 use Rattle.clap.specs.Walk.{Row, Text, first_of, rows_of}
@@ -34,6 +34,14 @@ refused_by app words e k is has same other = by (has (ap is_simple_and_free is �
     by : HasKind (fault_of app words) e → IsAmong k (refusals words)
     by (inl h) = absurd (other (same ∙ h))
     by (inr h) = subst (IsAmong k) (ap (λ a. fault_of a words) is) (subst (λ x. IsAmong x (fault_of app words)) (sym same) h)
+
+-- the words are refused, by a kind that is neither help nor version, or memory ran out
+pub refused_other : (app : App) (words : List Text) (e : Error) → app ≡ govisd_app → (is_simple_and_free app ≡ true → HasKind (fault_of app words) e) → kind_of e ≢ DisplayHelp → kind_of e ≢ DisplayVersion → (kind_of e ≡ OutOfMemory) ⊎ (IsAmong (kind_of e) (refusals words) × (kind_of e ≢ DisplayHelp) × (kind_of e ≢ DisplayVersion))
+refused_other app words e is has no_help no_version = by (has (ap is_simple_and_free is ∙ simple_and_free))
+  where
+    by : HasKind (fault_of app words) e → (kind_of e ≡ OutOfMemory) ⊎ (IsAmong (kind_of e) (refusals words) × (kind_of e ≢ DisplayHelp) × (kind_of e ≢ DisplayVersion))
+    by (inl h) = inl h
+    by (inr h) = inr (subst (IsAmong (kind_of e)) (ap (λ a. fault_of a words) is) h, no_help, no_version)
 
 -- the subcommand is the one that the words name
 pub entered : (app : App) (words : List Text) (m : ArgMatches) → app ≡ govisd_app → HasMatchesOf app words m → subcommand_rows_of m ≡ subcommand_of govisd_app words

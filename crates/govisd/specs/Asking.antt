@@ -1,6 +1,6 @@
 -- What the words of a command line ask for. How words are read is `clap`'s to say (its `specs/Faults.antt`): what it
 -- refuses them for, and which subcommand they name with what behind it.
-use Rattle.std.specs.Prelude.{◌≡◌, ◌≢◌, ◌⊎◌, ◌==◌, ◌||◌, Bool, true, false, not, List, [], ◌∷◌, Option, Some, None, Result, Ok, Err, codes, option_and_then, option_map, slice_get, nat_lt, unwrap_or, if◌then◌else◌}
+use Rattle.std.specs.Prelude.{◌≡◌, ◌≢◌, ◌⊎◌, ◌==◌, ◌||◌, ℕ, Bool, true, false, not, List, [], ◌∷◌, Option, Some, None, Result, Ok, Err, codes, option_and_then, option_map, slice_get, nat_lt, unwrap_or, if◌then◌else◌}
 use Rattle.std.specs.Str.{bytes_eq}
 use Rattle.std.specs.Option.{option_map_or}
 use Rattle.clap.specs.Walk.{Row, Rule, Text, count_of, first_of}
@@ -13,27 +13,46 @@ use Rattle.clap.specs.declared.error.Error.{Error}
 use Rattle.clap.specs.declared.error.kind.ErrorKind.TheVariants as kind
 use Rattle.govisd_folders.specs.declared.checking.Order.{Order}
 use Rattle.govisd.specs.declared.words.Request.{Request}
-use Rattle.govisd.specs.declared.words.Request.TheVariants.{Resolve, Explain, Check, Help, Version}
+use Rattle.govisd.specs.declared.words.CountOption.{CountOption}
+use Rattle.govisd.specs.declared.words.CountOption.TheVariants.{Workers, Connections}
+use Rattle.govisd.specs.declared.words.Daemon.{Daemon}
+use Rattle.govisd.specs.declared.words.Request.TheVariants.{Resolve, Explain, Check, Script, Serve, Help, Version, BadCount}
+use Rattle.govisd.specs.Counts.{connections_in, workers_in}
 
 -- what is asked for
 pub data Asked : Type 0 where
   ToResolve : Asked
   ToExplain : (rule : Option Text) → Asked
   ToCheck : (folder : Text) (path : Option Text) (json : Bool) → Asked
+  ToScript : (workers : ℕ) → Asked
+  ToServe : (address : Text) (workers : ℕ) (connections : Option ℕ) → Asked
   ToHelp : (topic : Option Text) → Asked
   ToTellVersion : Asked
+  ToRefuse : (option : CountOption) → Asked
 
 -- the check that an order is of
 abbrev pub said_order : Order → Asked
 said_order order = ToCheck order.folder.now (option_map (λ word. word.now) order.module_path) order.json
+
+-- the daemon that is described
+abbrev pub said_daemon : Daemon → Asked
+said_daemon daemon = ToServe daemon.address.now daemon.workers daemon.connections
 
 -- what a request asks for
 abbrev pub said : Request → Asked
 said Resolve = ToResolve
 said (Explain rule) = ToExplain (option_map (λ word. word.now) rule)
 said (Check order) = said_order order
+said (Script workers) = ToScript workers
+said (Serve daemon) = said_daemon daemon
 said (Help topic) = ToHelp (option_map (λ word. word.now) topic)
 said Version = ToTellVersion
+said (BadCount option) = ToRefuse option
+
+-- whether a script is asked for
+abbrev pub is_script : Request → Bool
+is_script (Script workers) = true
+is_script _ = false
 
 -- `explain`, and behind it maybe a rule
 abbrev pub explain_app : App
@@ -52,6 +71,23 @@ json_rule = record (new_rule (codes "json")) { long = Some (codes "json"); actio
 abbrev pub check_app : App
 check_app = with_rule (with_rule (with_rule (new_app (codes "check")) folder_rule) module_rule) json_rule
 
+-- `script`, with maybe a number of workers
+abbrev pub workers_rule : Rule
+workers_rule = record (new_rule (codes "workers")) { long = Some (codes "workers") }
+
+abbrev pub script_app : App
+script_app = with_rule (new_app (codes "script")) workers_rule
+
+-- `serve`, with an address, and maybe a number of workers and one of connections
+abbrev pub listen_rule : Rule
+listen_rule = record (new_rule (codes "listen")) { long = Some (codes "listen"); required = true }
+
+abbrev pub connections_rule : Rule
+connections_rule = record (new_rule (codes "connections")) { long = Some (codes "connections") }
+
+abbrev pub serve_app : App
+serve_app = with_rule (with_rule (with_rule (new_app (codes "serve")) listen_rule) workers_rule) connections_rule
+
 -- `help`, and behind it maybe a command
 abbrev pub help_app : App
 help_app = with_rule (new_app (codes "help")) (new_rule (codes "command"))
@@ -60,9 +96,13 @@ help_app = with_rule (new_app (codes "help")) (new_rule (codes "command"))
 abbrev pub govisd_shape : Shape
 govisd_shape = record (new_shape (codes "govisd")) { has_version = true; subcommand_required = true; disable_help_subcommand = true }
 
+-- the commands on sources
+abbrev pub source_app : App
+source_app =
+    with_subcommand (with_subcommand (with_subcommand (record { top = govisd_shape; subs = [] }) (new_shape (codes "resolve"))) explain_app.top) check_app.top
+
 abbrev pub govisd_app : App
-govisd_app =
-    with_subcommand (with_subcommand (with_subcommand (with_subcommand (record { top = govisd_shape; subs = [] }) (new_shape (codes "resolve"))) explain_app.top) check_app.top) help_app.top
+govisd_app = with_subcommand (with_subcommand (with_subcommand source_app help_app.top) script_app.top) serve_app.top
 
 -- why the words are refused, and nothing where they are not
 abbrev pub refusals : List Text → Kinds
@@ -72,20 +112,44 @@ refusals words = fault_of govisd_app words
 abbrev pub order_in : List Row → Asked
 order_in rows = ToCheck (unwrap_or (first_of (codes "folder") rows) (codes ".")) (first_of (codes "module") rows) (nat_lt 0 (count_of (codes "json") rows))
 
+-- a script with so many workers, if their number is one that is taken
+abbrev pub script_with : Option ℕ → Asked
+script_with (Some workers) = ToScript workers
+script_with None = ToRefuse Workers
+
+abbrev pub script_in : List Row → Asked
+script_in rows = script_with (workers_in (first_of (codes "workers") rows))
+
+-- a daemon at an address, if the numbers are such that are taken
+abbrev pub serve_with : Text → Option ℕ → Option (Option ℕ) → Asked
+serve_with address (Some workers) (Some connections) = ToServe address workers connections
+serve_with address (Some workers) None = ToRefuse Connections
+serve_with address None connections = ToRefuse Workers
+
+abbrev pub serve_in : List Row → Asked
+serve_in rows =
+    serve_with (unwrap_or (first_of (codes "listen") rows) []) (workers_in (first_of (codes "workers") rows)) (connections_in (first_of (codes "connections") rows))
+
 -- what a subcommand asks for, by its name and what stands behind it
 abbrev pub asked_in : Text × List Row → Asked
 asked_in (name, rows) =
     if bytes_eq name (codes "explain") then ToExplain (first_of (codes "rule") rows)
     else (if bytes_eq name (codes "check") then order_in rows
-    else (if bytes_eq name (codes "help") then ToHelp (first_of (codes "command") rows) else ToResolve))
+    else (if bytes_eq name (codes "help") then ToHelp (first_of (codes "command") rows)
+    else (if bytes_eq name (codes "script") then script_in rows
+    else (if bytes_eq name (codes "serve") then serve_in rows else ToResolve))))
 
 -- what the subcommand asks for that the words name
 abbrev pub asked_by_subcommand : List Text → Asked
 asked_by_subcommand words = option_map_or asked_in (subcommand_of govisd_app words) (ToHelp None)
 
+-- a command on sources, or the help, has this name
+abbrev pub names_checker : Text → Bool
+names_checker word = bytes_eq word (codes "resolve") || (bytes_eq word (codes "check") || (bytes_eq word (codes "explain") || bytes_eq word (codes "help")))
+
 -- a command has this name
 abbrev pub names_command : Text → Bool
-names_command word = bytes_eq word (codes "resolve") || (bytes_eq word (codes "check") || (bytes_eq word (codes "explain") || bytes_eq word (codes "help")))
+names_command word = names_checker word || (bytes_eq word (codes "script") || bytes_eq word (codes "serve"))
 
 abbrev pub if_command : Text → Option Text
 if_command word = if names_command word then Some word else None
@@ -136,6 +200,21 @@ pub record AskAs (program : Text) : Type 0 where
   pub json_check_named : (folder : Text) → is_plain folder ≡ true → asked_by_subcommand (command_line program (codes "check" ∷ (codes "--json" ∷ (folder ∷ [])))) ≡ ToCheck folder None true
   pub module_check : (folder path : Text) → is_plain folder ≡ true → is_plain path ≡ true → refusals (command_line program (codes "check" ∷ (codes "--module" ∷ (path ∷ (folder ∷ []))))) ≡ []
   pub module_check_named : (folder path : Text) → is_plain folder ≡ true → is_plain path ≡ true → asked_by_subcommand (command_line program (codes "check" ∷ (codes "--module" ∷ (path ∷ (folder ∷ []))))) ≡ ToCheck folder (Some path) false
+  pub script : refusals (command_line program (codes "script" ∷ [])) ≡ []
+  pub script_named : asked_by_subcommand (command_line program (codes "script" ∷ [])) ≡ ToScript 1
+  pub script_workers : (count : Text) → is_plain count ≡ true → refusals (command_line program (codes "script" ∷ (codes "--workers" ∷ (count ∷ [])))) ≡ []
+  pub script_workers_named : (count : Text) → is_plain count ≡ true → asked_by_subcommand (command_line program (codes "script" ∷ (codes "--workers" ∷ (count ∷ [])))) ≡ script_with (workers_in (Some count))
+  pub no_workers : asked_by_subcommand (command_line program (codes "script" ∷ (codes "--workers" ∷ (codes "0" ∷ [])))) ≡ ToRefuse Workers
+  pub eight_workers : asked_by_subcommand (command_line program (codes "script" ∷ (codes "--workers" ∷ (codes "8" ∷ [])))) ≡ ToScript 8
+  pub most_workers : asked_by_subcommand (command_line program (codes "script" ∷ (codes "--workers" ∷ (codes "64" ∷ [])))) ≡ ToScript 64
+  pub too_many_workers : asked_by_subcommand (command_line program (codes "script" ∷ (codes "--workers" ∷ (codes "65" ∷ [])))) ≡ ToRefuse Workers
+  pub workers_in_words : asked_by_subcommand (command_line program (codes "script" ∷ (codes "--workers" ∷ (codes "two" ∷ [])))) ≡ ToRefuse Workers
+  pub serve : refusals (command_line program (codes "serve" ∷ [])) ≡ kind.MissingRequiredArgument ∷ []
+  pub serve_at : (address : Text) → is_plain address ≡ true → refusals (command_line program (codes "serve" ∷ (codes "--listen" ∷ (address ∷ [])))) ≡ []
+  pub serve_at_named : (address : Text) → is_plain address ≡ true → asked_by_subcommand (command_line program (codes "serve" ∷ (codes "--listen" ∷ (address ∷ [])))) ≡ ToServe address 1 None
+  pub serve_told : (address count most : Text) → is_plain address ≡ true → is_plain count ≡ true → is_plain most ≡ true → refusals (command_line program (codes "serve" ∷ (codes "--listen" ∷ (address ∷ (codes "--workers" ∷ (count ∷ (codes "--connections" ∷ (most ∷ [])))))))) ≡ []
+  pub serve_told_named : (address count most : Text) → is_plain address ≡ true → is_plain count ≡ true → is_plain most ≡ true → asked_by_subcommand (command_line program (codes "serve" ∷ (codes "--listen" ∷ (address ∷ (codes "--workers" ∷ (count ∷ (codes "--connections" ∷ (most ∷ [])))))))) ≡ serve_with address (workers_in (Some count)) (connections_in (Some most))
+  pub one_connection : asked_by_subcommand (command_line program (codes "serve" ∷ (codes "--listen" ∷ (codes "127.0.0.1:0" ∷ (codes "--connections" ∷ (codes "1" ∷ [])))))) ≡ ToServe (codes "127.0.0.1:0") 1 (Some 1)
   pub help_flag : refusals (command_line program (codes "--help" ∷ [])) ≡ kind.DisplayHelp ∷ []
   pub short_help_flag : refusals (command_line program (codes "-h" ∷ [])) ≡ kind.DisplayHelp ∷ []
   pub resolve_help_flag : refusals (command_line program (codes "resolve" ∷ (codes "--help" ∷ []))) ≡ kind.DisplayHelp ∷ []

@@ -6,15 +6,17 @@ use Rattle.clap.specs.Walk.{Text}
 use Rattle.clap.specs.Values.{kind_of}
 use Rattle.clap.specs.declared.error.Error.{Error}
 use Rattle.clap.specs.declared.error.kind.ErrorKind.{ErrorKind}
-use Rattle.clap.specs.declared.error.kind.ErrorKind.TheVariants.{MissingSubcommand, OutOfMemory, UnknownArgument}
+use Rattle.clap.specs.declared.error.kind.ErrorKind.TheVariants.{MissingRequiredArgument, MissingSubcommand, OutOfMemory, UnknownArgument}
 use Rattle.govisd_core.specs.Inputs.{ReadsUpTo}
 use Rattle.govisd_core.specs.Outputs.{IsCutShort}
 use Rattle.govisd_core.specs.Reports.{IsEnd, ReadsAll, max_bytes}
 use Rattle.govisd_core.specs.declared.run.ResolveEnd.{ResolveEnd}
 use Rattle.govisd_core.specs.declared.run.ResolveEnd.TheVariants.{WriteFault, Memory}
 use Rattle.govisd.specs.declared.program.Ran.{Ran}
+use Rattle.govisd.specs.declared.words.CountOption.{CountOption}
+use Rattle.govisd.specs.declared.words.CountOption.TheVariants.{Workers}
 use Rattle.govisd.specs.declared.words.Request.{Request}
-use Rattle.govisd.specs.declared.words.Request.TheVariants.{Resolve, Explain, Check, Help, Version}
+use Rattle.govisd.specs.declared.words.Request.TheVariants.{Resolve, Explain, Check, Script, Serve, Help, Version, BadCount}
 use Rattle.go_explain_core.specs.Naming.{rule_of_number}
 use Rattle.govisd_folders.specs.Checks.{IsAnswerOfCheck}
 use Rattle.govisd_folders.specs.declared.checking.CheckAnswer.{CheckAnswer}
@@ -22,13 +24,11 @@ use Rattle.go_text_core.specs.Rules.{rule_number}
 use Rattle.go_text_core.specs.declared.rule.Rule.{Rule}
 use Rattle.govisd.specs.Asking.{Asks, is_plain, command_line}
 use Rattle.go_explain_core.specs.Telling.{explained_text, list_text, unknown_text}
+use Rattle.govisd.specs.Counts.{connections_in, workers_in}
+use Rattle.govisd.specs.Daemons.{Scripts, Serves}
+use Rattle.govisd.specs.Says.{RunsOut, SaysText, WritesAnswer}
 use Rattle.govisd.specs.Statuses.{end_status, refusal_status}
-use Rattle.govisd.specs.Texts.{end_text, help_of, program_help_text, refused_text, unknown_command_text, version_text}
-
--- all of a text was written, or the first bytes alone
-abbrev pub SaysText : Bool → List ℕ → Option (List ℕ) → Option (List ℕ) → Type 0
-SaysText true text old new = Appends old new text
-SaysText false text old new = IsCutShort old new text
+use Rattle.govisd.specs.Texts.{bad_count_text, end_text, help_of, program_help_text, refused_text, unknown_command_text, version_text}
 
 -- a run of `resolve`: how it ended, over the bytes that the reader had, what was written, and what was said
 pub record Resolves (ran : Ran) (given left out out' err err' : Option (List ℕ)) : Type 0 where
@@ -44,10 +44,6 @@ abbrev pub ShowsText : Ran → List ℕ → Option (List ℕ) → Option (List �
 ShowsText ran text out out' err err' =
     ((ran.status ≡ 0) × (ran.is_told ≡ true) × Appends out out' text × Keeps err err')
     ⊎ ((ran.status ≡ 1) × IsCutShort out out' text × SaysText ran.is_told (end_text WriteFault) err err')
-
--- memory ran out, and that is said
-abbrev pub RunsOut : Ran → Option (List ℕ) → Option (List ℕ) → Type 0
-RunsOut ran err err' = (ran.status ≡ 1) × SaysText ran.is_told (end_text Memory) err err'
 
 -- a text that was made is shown
 abbrev pub ShowsMade : {Z E : Type 0} → Result (String Z) E → Ran → Option (List ℕ) → Option (List ℕ) → Option (List ℕ) → Option (List ℕ) → Type 0
@@ -75,12 +71,6 @@ ExplainsFound word (Some rule) ran out out' err err' = ShowsOrRunsOut (explained
 abbrev pub Explains : Option Text → Ran → Option (List ℕ) → Option (List ℕ) → Option (List ℕ) → Option (List ℕ) → Type 0
 Explains None ran out out' err err' = ShowsOrRunsOut list_text ran out out' err err'
 Explains (Some word) ran out out' err err' = ExplainsFound word (rule_of_number word) ran out out' err err'
-
--- an answer was written, and what there is to say beside was said; or it could not be written whole
-abbrev pub WritesAnswer : CheckAnswer → Ran → Option (List ℕ) → Option (List ℕ) → Option (List ℕ) → Option (List ℕ) → Type 0
-WritesAnswer answer ran out out' err err' =
-    ((ran.status ≡ answer.status) × Appends out out' (string_bytes answer.text) × SaysText ran.is_told (string_bytes answer.said) err err')
-    ⊎ ((ran.status ≡ 1) × IsCutShort out out' (string_bytes answer.text) × SaysText ran.is_told (end_text WriteFault) err err')
 
 -- what the check of a folder may answer: by the folder, by whether JSON is asked for, and by the path of the module, if one is given; none
 -- where memory runs out
@@ -118,14 +108,22 @@ pub record Refuses (kind : ErrorKind) (ran : Ran) (err err' : Option (List ℕ))
   pub status : ran.status ≡ refusal_status kind
   pub says : RefusalSays kind ran err err'
 
--- what is done for what was asked for, where the checks of folders answer so
+-- a number that is none of those that are taken is refused, and that is said
+abbrev pub RefusesCount : CountOption → Ran → Option (List ℕ) → Option (List ℕ) → Type 0
+RefusesCount option ran err err' = (ran.status ≡ 2) × SaysText ran.is_told (bad_count_text option) err err'
+
+-- what is done for what was asked for
 abbrev pub Does : Answering → Result Request Error → Ran → Option (List ℕ) → Option (List ℕ) → Option (List ℕ) → Option (List ℕ) → Option (List ℕ) → Option (List ℕ) → Type 0
 Does Answers (Ok Resolve) ran given left out out' err err' = Resolves ran given left out out' err err'
 Does Answers (Ok (Explain rule)) ran given left out out' err err' = Explains (option_map (λ word. word.now) rule) ran out out' err err' × Keeps given left
 Does Answers (Ok (Check order)) ran given left out out' err err' =
     ChecksFolder Answers order.folder.now order.json (option_map (λ word. word.now) order.module_path) ran out out' err err' × Keeps given left
+Does Answers (Ok (Script workers)) ran given left out out' err err' = Scripts ran given left out out' err err'
+Does Answers (Ok (Serve daemon)) ran given left out out' err err' =
+    Serves daemon.address.now ran err err' × Keeps out out' × Keeps given left
 Does Answers (Ok (Help topic)) ran given left out out' err err' = Helps (option_map (λ word. word.now) topic) ran out out' err err' × Keeps given left
 Does Answers (Ok Version) ran given left out out' err err' = ShowsText ran version_text out out' err err' × Keeps given left
+Does Answers (Ok (BadCount option)) ran given left out out' err err' = RefusesCount option ran err err' × Keeps out out' × Keeps given left
 Does Answers (Err e) ran given left out out' err err' = Refuses (kind_of e) ran err err' × Keeps out out' × Keeps given left
 
 -- it is done for what the words ask for
@@ -205,3 +203,32 @@ RefusesNothing Answers = (program : Text) → RunsFor Answers (command_line prog
 abbrev pub RefusesWordBehind : Answering → Type 0
 RefusesWordBehind Answers =
     (program word : Text) → is_plain word ≡ true → RunsFor Answers (command_line program (codes "resolve" ∷ (word ∷ []))) (RefusesFor UnknownArgument)
+
+-- `script` alone serves a script, where memory does not run out before
+abbrev pub ScriptsAlone : Answering → Type 0
+ScriptsAlone Answers =
+    (program : Text) (ran : Ran) (given left out out' err err' : Option (List ℕ)) → Runs Answers (command_line program (codes "script" ∷ [])) ran given left out out' err err' → Scripts ran given left out out' err err' ⊎ (RunsOut ran err err' × Keeps out out' × Keeps given left)
+
+-- and with a number of workers, where it is 1 to 64
+abbrev pub ScriptsEach : Answering → Type 0
+ScriptsEach Answers =
+    (program count : Text) (workers : ℕ) → is_plain count ≡ true → workers_in (Some count) ≡ Some workers → (ran : Ran) (given left out out' err err' : Option (List ℕ)) → Runs Answers (command_line program (codes "script" ∷ (codes "--workers" ∷ (count ∷ [])))) ran given left out out' err err' → Scripts ran given left out out' err err' ⊎ (RunsOut ran err err' × Keeps out out' × Keeps given left)
+
+-- another number than 1 to 64 is refused, and nothing is read or written
+abbrev pub RefusesWorkers : Answering → Type 0
+RefusesWorkers Answers =
+    (program count : Text) → is_plain count ≡ true → workers_in (Some count) ≡ None → RunsFor Answers (command_line program (codes "script" ∷ (codes "--workers" ∷ (count ∷ [])))) (λ ran out out' err err'. (RefusesCount Workers ran err err' ⊎ RunsOut ran err err') × Keeps out out')
+
+-- `serve` with an address serves there, where memory does not run out before
+abbrev pub ServesEach : Answering → Type 0
+ServesEach Answers =
+    (program address : Text) → is_plain address ≡ true → RunsFor Answers (command_line program (codes "serve" ∷ (codes "--listen" ∷ (address ∷ [])))) (λ ran out out' err err'. (Serves address ran err err' ⊎ RunsOut ran err err') × Keeps out out')
+
+-- and with numbers of workers and of connections, where they are such that are taken
+abbrev pub ServesAsTold : Answering → Type 0
+ServesAsTold Answers =
+    (program address count most : Text) (workers : ℕ) (connections : Option ℕ) → is_plain address ≡ true → is_plain count ≡ true → is_plain most ≡ true → workers_in (Some count) ≡ Some workers → connections_in (Some most) ≡ Some connections → RunsFor Answers (command_line program (codes "serve" ∷ (codes "--listen" ∷ (address ∷ (codes "--workers" ∷ (count ∷ (codes "--connections" ∷ (most ∷ [])))))))) (λ ran out out' err err'. (Serves address ran err err' ⊎ RunsOut ran err err') × Keeps out out')
+
+-- but not without an address
+abbrev pub RefusesNowhere : Answering → Type 0
+RefusesNowhere Answers = (program : Text) → RunsFor Answers (command_line program (codes "serve" ∷ [])) (RefusesFor MissingRequiredArgument)

@@ -1,6 +1,7 @@
 //! The program `govisd`: its command line, over standard input and output.
 #![tactic(auto)]
 
+mod daemons;
 mod program;
 mod status;
 mod texts;
@@ -44,13 +45,14 @@ fn main(rt: HostRuntime) -> ExitCode {
             return ExitCode::from(unread_status(error.kind()));
         }
     };
-    let ran = run(
+    let ended = run(
         rt.alloc(),
         words.as_slice(),
         &Folders { rt: &rt },
-        &mut rt.stdin(),
-        &mut rt.stdout(),
+        &rt,
+        rt.stdin(),
+        rt.stdout(),
         &mut rt.stderr(),
     );
-    ExitCode::from(ran.status)
+    ExitCode::from(ended.ran.status)
 }

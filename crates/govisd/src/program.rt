@@ -1,16 +1,20 @@
 //! What the program does, over a reader and two writers.
-ghost use Rattle.std.specs.Prelude.{◌≡◌, ◌++◌, List, ℕ, map, option_map, string_bytes, IfOk};
+ghost use Rattle.std.specs.Prelude.{◌≡◌, ◌++◌, List, ℕ, map, option_map, string_bytes, IfOk, Ok, false};
 ghost use Rattle.clap.specs.Values.{kind_of};
 ghost use Rattle.std.specs.Result.{result_ok};
 ghost use Rattle.govisd_folders.specs.Checks.{IsAnswerOfCheck};
 ghost use Rattle.govisd.specs.Texts.{refused_text as text_of_refused};
-ghost use Rattle.govisd.specs.Runs.{ChecksEach, ChecksEachAsJson, ChecksEachModule, ChecksFolder, Explains, WritesAnswer, Helps, Refuses, RefusesMade, Resolves, Runs, RunsOut, ShowsText, ShowsMade, SaysText, ExplainsEach, HelpsAlone, HelpsByFlag, HelpsEach, ListsAll, RefusesNothing, RefusesOtherCommands, RefusesOthers, RefusesWordBehind, ResolvesAlone, TellsVersion};
+ghost use Rattle.govisd.specs.Asking.{is_script};
+ghost use Rattle.govisd.specs.Runs.{ChecksEach, ChecksEachAsJson, ChecksEachModule, ChecksFolder, Does, Explains, Helps, Refuses, RefusesCount, RefusesMade, Resolves, Runs, ShowsText, ShowsMade, ExplainsEach, HelpsAlone, HelpsByFlag, HelpsEach, ListsAll, RefusesNothing, RefusesNowhere, RefusesOtherCommands, RefusesOthers, RefusesWordBehind, RefusesWorkers, ResolvesAlone, ScriptsAlone, ScriptsEach, ServesAsTold, ServesEach, TellsVersion};
+ghost use Rattle.govisd.specs.Says.{RunsOut, SaysText, WritesAnswer};
 
+use crate::daemons::{script, serve};
 use crate::status::{end_status, refusal_status};
 use crate::texts::{
-    command_help, end_text, program_help, refused_text, unknown_command, version_text,
+    bad_count_text, command_help, end_text, program_help, refused_text, unknown_command,
+    version_text,
 };
-use crate::words::{Request, read_words};
+use crate::words::{CountOption, Request, read_words};
 use clap::Error;
 use clap::error::ErrorKind;
 use go_explain_core::{explained, listed, rule_named, unknown};
@@ -19,6 +23,10 @@ use govisd_folders::{CheckAnswer, Order};
 use std::alloc::{AllocError, Global};
 use std::convert::AsStr;
 use std::io::{Read, Write};
+use std::net::{Net, TcpListener, TcpStream};
+use std::sync::Wait;
+use std::thread::Threads;
+use std::time::Clock;
 
 /// What came of the program.
 #[derive(Clone, Copy)]
@@ -27,6 +35,17 @@ pub struct Ran {
     pub status: u8,
     /// Whether the second writer took the whole of what was to be said on it, be it nothing.
     pub is_told: bool,
+}
+
+/// What came of the program, with its reader and its first writer.
+#[derive(Drop)]
+pub struct Ended<R: Drop, W: Drop> {
+    /// The status, and whether what was to be said was.
+    pub ran: Ran,
+    /// The reader, with what was not read.
+    pub reader: R,
+    /// The first writer.
+    pub out: W,
 }
 
 /// What checks folders.
@@ -47,8 +66,8 @@ pub trait Checks {
         ensures is { IfOk result (IsAnswerOfCheck order.now.folder.now order.now.json (option_map (λ m. m.now) order.now.module_path)) };
 }
 
-// Writes what is to be said, and answers whether all of it was written.
-fn tell<E: Write>(err: &mut E, text: &str) -> bool
+/// Writes what is to be said, and answers whether all of it was written.
+pub fn tell<E: Write>(err: &mut E, text: &str) -> bool
     ensures { SaysText result text.now (E.contents err.old) (E.contents err.new) }
 {
     write_report(err, text.as_bytes()).is_ok()
@@ -85,8 +104,8 @@ fn show<W: Write, E: Write>(out: &mut W, err: &mut E, text: &str) -> Ran
     Ran { status: 1, is_told }
 }
 
-// Says that memory ran out.
-fn run_out<E: Write>(err: &mut E) -> Ran
+/// Says that memory ran out.
+pub fn run_out<E: Write>(err: &mut E) -> Ran
     ensures { RunsOut result (E.contents err.old) (E.contents err.new) }
 {
     let is_told = tell(err, end_text(ResolveEnd::Memory));
@@ -147,8 +166,8 @@ fn help<W: Write, E: Write>(alloc: Global, out: &mut W, err: &mut E, topic: Opti
     }
 }
 
-// Writes an answer, and says what there is to say beside.
-fn give<W: Write, E: Write>(out: &mut W, err: &mut E, answer: &CheckAnswer) -> Ran
+/// Writes an answer, and says what there is to say beside.
+pub fn give<W: Write, E: Write>(out: &mut W, err: &mut E, answer: &CheckAnswer) -> Ran
     ensures { WritesAnswer answer.now result (W.contents out.old) (W.contents out.new) (E.contents err.old) (E.contents err.new) }
 {
     if write_report(out, answer.text.as_bytes()).is_err() {
@@ -202,32 +221,86 @@ fn refuse<E: Write>(alloc: Global, err: &mut E, error: &Error) -> Ran
     Ran { status, is_told }
 }
 
-/// What the program does for the words of its command line, of which the first is its name: a run of `resolve`
-/// from the reader to the first writer, the check of the folder that the words name, what a rule means, its help or its version on the first
-/// writer, or a refusal. What there is to say beside goes to the second writer.
-pub fn run<S: AsStr, C: Checks, R: Read, W: Write, E: Write>(
+// Says that a number is none of those that are taken.
+fn refuse_count<E: Write>(err: &mut E, option: CountOption) -> Ran
+    ensures { RefusesCount option result (E.contents err.old) (E.contents err.new) }
+{
+    let is_told = tell(err, bad_count_text(option));
+    Ran { status: 2, is_told }
+}
+
+// Does what is asked for, but for a script.
+fn answer<
+    C: Checks,
+    T: Net<Listener = TcpListener, Stream = TcpStream> + Threads + Wait + Clock + Sync,
+    R: Read,
+    W: Write,
+    E: Write,
+>(
     alloc: Global,
-    words: &[S],
     checks: &C,
+    rt: &T,
     reader: &mut R,
     out: &mut W,
     err: &mut E,
+    request: Request<'_>,
 ) -> Ran
-    ensures { Runs (C.Answers checks.now) (map S.text words.now) result (R.remaining reader.old) (R.remaining reader.new) (W.contents out.old) (W.contents out.new) (E.contents err.old) (E.contents err.new) }
+    requires { is_script request ≡ false }
+    ensures { Does (C.Answers checks.now) (Ok request.entry) result (R.remaining reader.old) (R.remaining reader.new) (W.contents out.old) (W.contents out.new) (E.contents err.old) (E.contents err.new) }
+{
+    match request {
+        Request::Script(_) => unreachable!(),
+        Request::Resolve => resolve(alloc, reader, out, err),
+        Request::Explain(word) => explain_rule(alloc, out, err, word),
+        Request::Check(order) => check(checks, out, err, &order),
+        Request::Serve(daemon) => serve(rt, alloc, err, &daemon),
+        Request::Help(topic) => help(alloc, out, err, topic),
+        Request::Version => show(out, err, version_text()),
+        Request::BadCount(option) => refuse_count(err, option),
+    }
+}
+
+/// What the program does for the words of its command line, of which the first is its name: a run of `resolve` or a script
+/// from the reader to the first writer, the check of the folder that the words name, a daemon, what a rule means, its help or its version on the first
+/// writer, or a refusal. What there is to say beside goes to the second writer.
+pub fn run<
+    S: AsStr,
+    C: Checks,
+    T: Net<Listener = TcpListener, Stream = TcpStream> + Threads + Wait + Clock + Sync,
+    R: Read + Drop,
+    W: Write + Drop,
+    E: Write,
+>(
+    alloc: Global,
+    words: &[S],
+    checks: &C,
+    rt: &T,
+    mut reader: R,
+    mut out: W,
+    err: &mut E,
+) -> Ended<R, W>
+    ensures { Runs (C.Answers checks.now) (map S.text words.now) result.ran (R.remaining reader) (R.remaining result.reader) (W.contents out) (W.contents result.out) (E.contents err.old) (E.contents err.new) }
 {
     match read_words(alloc, words) {
-        Ok(Request::Resolve) => resolve(alloc, reader, out, err),
-        Ok(Request::Explain(word)) => explain_rule(alloc, out, err, word),
-        Ok(Request::Check(order)) => check(checks, out, err, &order),
-        Ok(Request::Help(topic)) => help(alloc, out, err, topic),
-        Ok(Request::Version) => show(out, err, version_text()),
-        Err(error) => refuse(alloc, err, &error),
+        Ok(Request::Script(workers)) => script(rt, alloc, reader, out, err, workers),
+        Ok(request) => Ended {
+            ran: answer(alloc, checks, rt, &mut reader, &mut out, err, request),
+            reader,
+            out,
+        },
+        Err(error) => Ended {
+            ran: refuse(alloc, err, &error),
+            reader,
+            out,
+        },
     }
 }
 
 /// A law, with nothing to run: what a run of `explain` does for each rule, for a word that names none and without a word,
 /// one of `check` for each folder, also with the path of its module and as JSON, one of `help` for each command, for a word that names none and without
-/// a word, one of `resolve`, of `--help` and of `--version`, and that a line without a command is refused, as `resolve` with a word is; whatever checks folders.
+/// a word, one of `resolve`, of `--help` and of `--version`, one of `script` alone and for each number of workers, one of `serve` for each address, also
+/// with numbers of workers and of connections, and that a line without a command is refused, as `resolve` with a word and `serve` without an address are;
+/// whatever checks folders.
 pub fn runs_answer_words<C: Checks>(_checks: &C)
     ensures each { ExplainsEach (C.Answers _checks.now) }
     ensures other { RefusesOthers (C.Answers _checks.now) }
@@ -243,4 +316,10 @@ pub fn runs_answer_words<C: Checks>(_checks: &C)
     ensures version_flag { TellsVersion (C.Answers _checks.now) }
     ensures nothing { RefusesNothing (C.Answers _checks.now) }
     ensures word_behind { RefusesWordBehind (C.Answers _checks.now) }
+    ensures script { ScriptsAlone (C.Answers _checks.now) }
+    ensures workers { ScriptsEach (C.Answers _checks.now) }
+    ensures bad_workers { RefusesWorkers (C.Answers _checks.now) }
+    ensures serve { ServesEach (C.Answers _checks.now) }
+    ensures serve_told { ServesAsTold (C.Answers _checks.now) }
+    ensures nowhere { RefusesNowhere (C.Answers _checks.now) }
 {}

@@ -1,8 +1,9 @@
 //! The program's exit statuses.
 ghost use Rattle.std.specs.Prelude.{◌≡◌};
-ghost use Rattle.govisd.specs.Statuses.{end_status as status_of_end, refusal_status as status_of_refusal, unread_status as status_of_unread};
+ghost use Rattle.govisd.specs.Statuses.{end_status as status_of_end, refusal_status as status_of_refusal, serve_status as status_of_serve, unread_status as status_of_unread};
 
 use clap::error::ErrorKind;
+use go_wire_core::ServeEnd;
 use govisd_core::ResolveEnd;
 use std::io;
 
@@ -14,6 +15,20 @@ pub fn end_status(end: ResolveEnd) -> u8
         ResolveEnd::Clean => 0,
         ResolveEnd::Faults | ResolveEnd::ReadFault | ResolveEnd::WriteFault | ResolveEnd::Memory =>
             1,
+    }
+}
+
+/// The exit status of a script and of a daemon: 0 where its input ended or its last connection did, and else 1.
+pub fn serve_status(end: ServeEnd) -> u8
+    ensures { result ≡ status_of_serve end }
+{
+    match end {
+        ServeEnd::Done => 0,
+        ServeEnd::TooLong
+        | ServeEnd::ReadFault
+        | ServeEnd::WriteFault
+        | ServeEnd::Turns
+        | ServeEnd::Memory => 1,
     }
 }
 

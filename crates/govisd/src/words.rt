@@ -1,14 +1,36 @@
 //! What the words of a command line ask for.
-ghost use Rattle.std.specs.Prelude.{◌≡◌, IfOk, false, map, option_map};
+ghost use Rattle.std.specs.Prelude.{◌≡◌, [], IfOk, codes, false, map, option_map, unwrap_or};
+ghost use Rattle.clap.specs.Walk.{first_of};
+ghost use Rattle.govisd.specs.Counts.{connections_in, in_workers, number_of, workers_in};
 ghost use Rattle.clap.specs.Words.{app_of, found_of, rows_of};
 ghost use Rattle.clap.specs.declared.builder.command.Command.TheViews.{out-Command as fields_of};
-ghost use Rattle.govisd.specs.Asking.{Asks, Forms, asked_in, check_app, command_behind, explain_app, govisd_app, help_app, if_command, names_command, order_in, said, said_order};
+ghost use Rattle.govisd.specs.Asking.{Asks, Forms, asked_in, check_app, command_behind, explain_app, govisd_app, source_app, help_app, if_command, names_checker, names_command, order_in, said, said_daemon, said_order, script_app, script_in, serve_app, serve_in};
 
 use clap::error::ErrorKind;
 use clap::{Arg, ArgAction, ArgMatches, Command, Error};
 use govisd_folders::Order;
 use std::alloc::{AllocError, Global};
 use std::convert::AsStr;
+
+/// What a daemon is asked to be.
+#[derive(Clone, Copy)]
+pub struct Daemon<'a> {
+    /// Where it is to listen: an address and a port.
+    pub address: &'a str,
+    /// How many packages it compiles at once: 1 to 64.
+    pub workers: usize,
+    /// After how many connections it ends; if none is given, it does not.
+    pub connections: Option<u64>,
+}
+
+/// An option with a number behind it.
+#[derive(Clone, Copy, Debug, PartialEq, Eq)]
+pub enum CountOption {
+    /// `--workers`, which takes 1 to 64.
+    Workers,
+    /// `--connections`, which takes any number below 2^64.
+    Connections,
+}
 
 /// What a command line asks for.
 #[derive(Clone, Copy)]
@@ -19,10 +41,16 @@ pub enum Request<'a> {
     Explain(Option<&'a str>),
     /// The check of a folder.
     Check(Order<'a>),
+    /// A script with so many workers, 1 to 64.
+    Script(usize),
+    /// A daemon.
+    Serve(Daemon<'a>),
     /// The help of a command, by its name, or the program's.
     Help(Option<&'a str>),
     /// The program's version.
     Version,
+    /// Nothing, since the number behind an option is none that it takes.
+    BadCount(CountOption),
 }
 
 // The command `explain`, with the name of a rule.
@@ -59,21 +87,151 @@ fn help_command<'a>(alloc: Global) -> Result<Command<'a>, AllocError>
     Command::new(alloc, "help").arg(topic)
 }
 
-// The words that the program takes.
-fn command<'a>(alloc: Global) -> Result<Command<'a>, AllocError>
-    ensures { IfOk result (λ c. app_of c ≡ govisd_app) }
+// The command `script`, with a number of workers.
+fn script_command<'a>(alloc: Global) -> Result<Command<'a>, AllocError>
+    ensures shape { IfOk result (λ c. app_of c ≡ script_app) }
+    ensures local { IfOk result (λ c. (fields_of c).has_globals ≡ false) }
+{
+    let workers = Arg::new(alloc, "workers").long("workers");
+    Command::new(alloc, "script").arg(workers)
+}
+
+// The command `serve`, with an address, a number of workers and one of connections.
+fn serve_command<'a>(alloc: Global) -> Result<Command<'a>, AllocError>
+    ensures shape { IfOk result (λ c. app_of c ≡ serve_app) }
+    ensures local { IfOk result (λ c. (fields_of c).has_globals ≡ false) }
+{
+    let listen = Arg::new(alloc, "listen").long("listen").required(true);
+    let workers = Arg::new(alloc, "workers").long("workers");
+    let connections = Arg::new(alloc, "connections").long("connections");
+    Command::new(alloc, "serve")
+        .arg(listen)?
+        .arg(workers)?
+        .arg(connections)
+}
+
+// The program with its commands on sources.
+fn source_commands<'a>(alloc: Global) -> Result<Command<'a>, AllocError>
+    ensures { IfOk result (λ c. app_of c ≡ source_app) }
 {
     let explain = explain_command(alloc)?;
     let check = check_command(alloc)?;
-    let help = help_command(alloc)?;
     Command::new(alloc, "govisd")
         .version("0.1.0")
         .subcommand_required(true)
         .disable_help_subcommand(true)
         .subcommand(Command::new(alloc, "resolve"))?
         .subcommand(explain)?
-        .subcommand(check)?
-        .subcommand(help)
+        .subcommand(check)
+}
+
+// The words that the program takes.
+fn command<'a>(alloc: Global) -> Result<Command<'a>, AllocError>
+    ensures { IfOk result (λ c. app_of c ≡ govisd_app) }
+{
+    let help = help_command(alloc)?;
+    let script = script_command(alloc)?;
+    let serve = serve_command(alloc)?;
+    source_commands(alloc)?
+        .subcommand(help)?
+        .subcommand(script)?
+        .subcommand(serve)
+}
+
+// The number that a word writes.
+fn number_of(word: &str) -> Option<u64>
+    ensures { result ≡ number_of word.now }
+{
+    word.parse::<u64>().ok()
+}
+
+// So many workers, where they are 1 to 64.
+fn in_workers(count: u64) -> Option<usize>
+    ensures { result ≡ in_workers count }
+{
+    if count < 1 {
+        return None;
+    }
+    if count > 64 {
+        return None;
+    }
+    Some(count as usize)
+}
+
+// So many workers: 1 where none are told, and nothing where what is told is not 1 to 64.
+fn workers_of(word: Option<&str>) -> Option<usize>
+    ensures { result ≡ workers_in (option_map (λ w. w.now) word.entry) }
+{
+    match word {
+        None => Some(1),
+        Some(word) => match number_of(word) {
+            Some(count) => in_workers(count),
+            None => None,
+        },
+    }
+}
+
+// After so many connections: after none where none are told, and nothing where what is told is no number.
+fn connections_of(word: Option<&str>) -> Option<Option<u64>>
+    ensures { result ≡ connections_in (option_map (λ w. w.now) word.entry) }
+{
+    match word {
+        None => Some(None),
+        Some(word) => match number_of(word) {
+            Some(count) => Some(Some(count)),
+            None => None,
+        },
+    }
+}
+
+// The workers that are told behind a command.
+fn workers_told(found: &ArgMatches<'_>) -> Option<usize>
+    ensures { result ≡ workers_in (first_of (codes "workers") (rows_of (found_of found.now))) }
+{
+    workers_of(found.get_str("workers"))
+}
+
+// The connections that are told behind a command.
+fn connections_told(found: &ArgMatches<'_>) -> Option<Option<u64>>
+    ensures { result ≡ connections_in (first_of (codes "connections") (rows_of (found_of found.now))) }
+{
+    connections_of(found.get_str("connections"))
+}
+
+// The script that is asked for, by what stands behind the command.
+fn script_of<'a>(found: &ArgMatches<'a>) -> Request<'a>
+    ensures { said result ≡ script_in (rows_of (found_of found.now)) }
+{
+    match workers_told(found) {
+        Some(workers) => Request::Script(workers),
+        None => Request::BadCount(CountOption::Workers),
+    }
+}
+
+// The address that is told behind a command.
+#[tactic(auto, using(crate::proofs::WordLemmas::value_in_rows))]
+fn address_told<'a>(found: &ArgMatches<'a>) -> &'a str
+    ensures { result.now ≡ unwrap_or (first_of (codes "listen") (rows_of (found_of found.now))) [] }
+{
+    found.get_str("listen").unwrap_or("")
+}
+
+// The daemon that is asked for, by what stands behind the command.
+fn serve_of<'a>(found: &ArgMatches<'a>) -> Request<'a>
+    ensures { said result ≡ serve_in (rows_of (found_of found.now)) }
+{
+    let address = address_told(found);
+    match workers_told(found) {
+        Some(workers) => match connections_told(found) {
+            Some(connections) => Request::Serve(Daemon {
+                address,
+                workers,
+                connections,
+            }),
+            None => Request::BadCount(CountOption::Connections),
+        },
+        None => Request::BadCount(CountOption::Workers),
+    }
 }
 
 // The check that is asked for, by what stands behind the command.
@@ -102,14 +260,27 @@ fn request_of<'a>(name: &str, found: &ArgMatches<'a>) -> Request<'a>
     if name == "help" {
         return Request::Help(found.get_str("command"));
     }
+    if name == "script" {
+        return script_of(found);
+    }
+    if name == "serve" {
+        return serve_of(found);
+    }
     Request::Resolve
+}
+
+// Whether a command on sources, or the help, has a name.
+fn is_checker(name: &str) -> bool
+    ensures { result ≡ names_checker name.now }
+{
+    name == "resolve" || name == "check" || name == "explain" || name == "help"
 }
 
 // Whether a command has a name.
 fn is_command(name: &str) -> bool
     ensures { result ≡ names_command name.now }
 {
-    name == "resolve" || name == "check" || name == "explain" || name == "help"
+    is_checker(name) || name == "script" || name == "serve"
 }
 
 // A word, where it is the name of a command.

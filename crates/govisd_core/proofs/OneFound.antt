@@ -18,10 +18,10 @@ use Rattle.go_block_core.specs.declared.imports.Imported.TheVariants as given
 use Rattle.go_block_core.specs.Blocks.{BlocksModel}
 use Rattle.go_block_core.specs.Laws.{OneBlocksAlone}
 use Rattle.go_block_core.specs.Naming.{file_specs, import_at, package_named}
-use Rattle.go_handle_core.specs.Declarations.{Declaration}
+use Rattle.govisd_lines.specs.handle_core.Declarations.{Declaration}
 use Rattle.go_local_core.specs.declared.Fault.{Fault}
-use Rattle.go_report_core.specs.Faults.{IsSaid}
-use Rattle.go_report_core.specs.Laws.{SettledFaultsAreOne}
+use Rattle.go_part_core.specs.report_core.Faults.{IsSaid}
+use Rattle.go_part_core.specs.report_core.Laws.{SettledFaultsAreOne}
 use Rattle.go_part_core.specs.body_core.Notes.{TheLocal, TheUse}
 use Rattle.go_part_core.specs.ready_core.Packages.{trees_in}
 use Rattle.go_part_core.specs.package_core.Checked.{AnswersOf, IsChecked}

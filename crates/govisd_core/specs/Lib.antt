@@ -3,3 +3,13 @@ pub mod Inputs
 pub mod Outputs
 pub mod Reports
 pub mod mirrors
+pub mod body_core
+pub mod env_core
+pub mod file_core
+pub mod func_core
+pub mod handle_core
+pub mod inline_core
+pub mod ready_core
+pub mod report_core
+pub mod used_core
+pub mod value_core

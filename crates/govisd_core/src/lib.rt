@@ -11,3 +11,13 @@ mod run;
 pub use laws::one_input;
 pub use output::write_report;
 pub use run::{ResolveEnd, run_resolve};
+
+/// What the crates above name of `go_file_core`.
+pub mod file_core {
+    pub use go_part_core::file_core::functions_are_placed;
+}
+
+/// What the crates above name of `go_func_core`.
+pub mod func_core {
+    pub use go_part_core::func_core::{functions_have_one_table, locals_are_declarations};
+}

@@ -3,8 +3,8 @@ use Rattle.std.proofs.Common.{◌≡◌, ℕ, ◌+◌, ◌<◌, ◌≤◌, List,
 use Rattle.std.proofs.lemmas.List.{append_assoc, append-nil, take_more, take_all, flat_map_more}
 use Rattle.go_tree_core.specs.declared.occurrence.Occ.{Occ}
 use Rattle.go_decl_core.specs.declared.places.Place.{Place}
-use Rattle.go_handle_core.specs.Declarations.{Declaration}
-use Rattle.go_expr_core.specs.declared.things.Use.{Use}
+use Rattle.go_answer_core.specs.handle_core.Declarations.{Declaration}
+use Rattle.go_answer_core.specs.expr_core.declared.things.Use.{Use}
 use Rattle.govisd_lines.specs.Lines.{occurrence_line, occurrence_lines}
 
 -- one more turn of a loop that writes them

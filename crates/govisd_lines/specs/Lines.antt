@@ -13,10 +13,10 @@ use Rattle.go_decl_core.specs.Outer.{places_of}
 use Rattle.go_decl_core.specs.Table.{offset_of}
 use Rattle.go_term_core.specs.declared.term.MemberPlace.{MemberPlace}
 use Rattle.go_term_core.specs.declared.term.MemberPlace.TheVariants as places
-use Rattle.go_handle_core.specs.Declarations.{Declaration, Universe, OfError, Package, InFile}
+use Rattle.go_answer_core.specs.handle_core.Declarations.{Declaration, Universe, OfError, Package, InFile}
 use Rattle.go_denote_core.specs.declared.things.Outcome.{Outcome}
 use Rattle.go_denote_core.specs.declared.things.Outcome.TheVariants as outcomes
-use Rattle.go_expr_core.specs.declared.things.Use.{Use}
+use Rattle.go_answer_core.specs.expr_core.declared.things.Use.{Use}
 use Rattle.go_local_core.specs.declared.Fault.{Fault}
 
 -- an identifier of a file of the package of a path, by its offset

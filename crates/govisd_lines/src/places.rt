@@ -1,11 +1,11 @@
 //! How declarations are written.
 ghost use Rattle.std.specs.Prelude.{◌≡◌, ◌++◌, OnOk};
-ghost use Rattle.go_handle_core.specs.Declarations.{site_shown};
+ghost use Rattle.go_answer_core.specs.handle_core.Declarations.{site_shown};
 ghost use Rattle.govisd_lines.specs.Lines.{declaration_text, offset_in, place_text};
 
 use crate::bytes::{push, push_number};
+use go_answer_core::handle_core::DeclSite;
 use go_decl_core::Places;
-use go_handle_core::DeclSite;
 use go_term_core::MemberPlace;
 use std::alloc::AllocError;
 

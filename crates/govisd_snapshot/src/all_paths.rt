@@ -1,6 +1,6 @@
 //! A second opinion on selectors: all paths of embedded fields, one after another.
-use go_embed_core::Hits;
 use go_path_core::ImportPath;
+use go_select_core::embed_core::Hits;
 use go_select_core::{Member, Owner, Selected};
 use go_table_core::TypeTable;
 use go_term_core::TypeTerm;

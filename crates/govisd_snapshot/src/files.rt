@@ -1,12 +1,12 @@
 //! What stands in the files of packages.
 use crate::answers::{add_answer, add_place, spelling_at};
 use crate::shot::Shot;
-use go_answer_core::HeldLocal;
 use go_constant_core::Constant;
 use go_denote_core::Outcome;
-use go_face_core::Face;
 use go_operand_core::{Operand, ValueType};
 use go_site_core::SiteSpelling;
+use go_site_core::answer_core::HeldLocal;
+use go_snap_core::face_core::Face;
 use go_snap_core::package_core::FileAnswers;
 use go_snap_core::part_core::Part;
 use go_term_core::{Basic, MemberPlace, Signature, TypeTerm};

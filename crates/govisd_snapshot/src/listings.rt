@@ -1,10 +1,10 @@
 //! Packages as they run, as they are listed.
 use crate::answers::add_site;
 use crate::shot::Shot;
-use go_answer_core::Site;
 use go_object_core::{Object, listing};
 use go_path_core::ImportPath;
 use go_site_core::SiteSpelling;
+use go_site_core::answer_core::Site;
 use go_snap_core::emit_core::emit;
 use govisd_show::Lines;
 use std::alloc::{AllocError, Global};

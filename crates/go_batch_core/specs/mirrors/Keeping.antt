@@ -3,10 +3,10 @@ use Rattle.std.specs.Prelude.{◌≡◌, ℕ, List, Option, Some, None, All, ⊤
 use Rattle.go_graph_core.specs.Workspaces.{PackageModel, AreAllRead, IsWorkspace}
 use Rattle.go_graph_core.specs.Plans.{AreImporters, AreReached, IsAssembledAt, IsPlan, PlanModel}
 use Rattle.go_reach_core.specs.Numbers.{Numbers}
-use Rattle.go_summary_core.specs.Summaries.{SummaryModel}
-use Rattle.go_part_core.specs.Parts.{PartModel, IsPart}
-use Rattle.go_whole_core.specs.Inputs.{IsInputAt}
-use Rattle.go_make_core.specs.Telling.{told_of}
+use Rattle.go_submit_core.specs.summary_core.Summaries.{SummaryModel}
+use Rattle.go_submit_core.specs.part_core.Parts.{PartModel, IsPart}
+use Rattle.go_submit_core.specs.whole_core.Inputs.{IsInputAt}
+use Rattle.go_submit_core.specs.make_core.Telling.{told_of}
 use Rattle.go_turn_core.specs.declared.mark.Mark.{Mark}
 use Rattle.go_turn_core.specs.declared.mark.Mark.TheVariants as mark
 use Rattle.go_turn_core.specs.Turns.{TurnsModel}

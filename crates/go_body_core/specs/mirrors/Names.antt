@@ -2,10 +2,10 @@
 use Rattle.std.proofs.Common.{◌≡◌, ℕ, Bool, List, [], ◌∷◌, Option, refl, ap}
 use Rattle.go_tree_nodes.specs.Trees.{TypeTree}
 use Rattle.go_term_core.specs.Terms.{Term, Sign}
-use Rattle.go_handle_core.specs.Declarations.{Declaration}
+use Rattle.go_env_core.specs.handle_core.Declarations.{Declaration}
 use Rattle.go_local_core.specs.Binding.{NameLook}
 use Rattle.go_local_core.specs.Alike.{LookAtNames}
-use Rattle.go_expr_core.specs.Locality.{SameType}
+use Rattle.go_piece_core.specs.expr_core.Locality.{SameType}
 use Rattle.go_piece_core.specs.Laws.{FindByNames}
 use Rattle.go_local_core.specs.Pieces.{piece_types}
 use Rattle.go_piece_core.proofs.Shown.{pieces_look}

@@ -11,7 +11,7 @@ use Rattle.go_scope_core.specs.Models.{ScopesModel}
 use Rattle.go_scope_core.specs.Scopes.{scope_blocks}
 use Rattle.go_denote_core.specs.declared.things.Stand.{Stand}
 use Rattle.go_denote_core.specs.declared.things.Stand.TheVariants as stands
-use Rattle.go_face_core.specs.Packages.{PackageFacesModel}
+use Rattle.go_summary_core.specs.face_core.Packages.{PackageFacesModel}
 use Rattle.go_spot_core.specs.Used.{SpotTree, NameSpot, BehindSpot, BehindNameSpot, KeySpot}
 use Rattle.go_fitting_core.specs.Fitting.{fits_alone, fits_behind, package_at}
 

@@ -1,7 +1,7 @@
 -- The functions of a package by the outlines of its files.
 use Rattle.std.specs.Prelude.{ℕ, suc, List, [], ◌∷◌, ◌++◌}
-use Rattle.go_entry_core.specs.Outlines.{FileOutline}
-use Rattle.go_handle_core.specs.Declarations.{Declaration}
+use Rattle.go_meaning_core.specs.entry_core.Outlines.{FileOutline}
+use Rattle.go_meaning_core.specs.handle_core.Declarations.{Declaration}
 use Rattle.go_meaning_core.specs.part_core.Parts.{FileOf}
 use Rattle.go_object_core.specs.Objects.{FunctionOf}
 use Rattle.go_emit_core.specs.Emitted.{file_functions}

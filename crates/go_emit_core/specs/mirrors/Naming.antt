@@ -1,6 +1,6 @@
 -- The object of a package by tables.
 use Rattle.std.specs.Prelude.{List}
-use Rattle.go_handle_core.specs.Declarations.{Declaration}
+use Rattle.go_meaning_core.specs.handle_core.Declarations.{Declaration}
 use Rattle.go_meaning_core.specs.part_core.Parts.{PartModel}
 use Rattle.go_object_core.specs.Objects.{ObjectOf}
 use Rattle.go_meaning_core.specs.declared.tables.Tables.{Tables}

@@ -2,15 +2,15 @@
 use Rattle.std.specs.Prelude.{◌≡◌, refl, ℕ, zero, suc, Bool, List, Option, ◌⊎◌}
 use Rattle.std.specs.Coded.{Coded, code_by, coded×, coded⊎, coded_list, coded_option, coded_bool, coded_ℕ}
 use Rattle.std.proofs.Common.{inl, inr}
-use Rattle.go_constant_core.specs.declared.values.Constant.{Constant}
-use Rattle.go_constant_core.specs.contracts.values.Constant as constant
-use Rattle.go_decl_core.specs.declared.keys.DeclRef.{DeclRef}
-use Rattle.go_decl_core.specs.contracts.keys.DeclRef as decl_ref
+use Rattle.go_handle_core.specs.constant_core.declared.values.Constant.{Constant}
+use Rattle.go_handle_core.specs.constant_core.contracts.values.Constant as constant
+use Rattle.go_term_core.specs.decl_core.declared.keys.DeclRef.{DeclRef}
+use Rattle.go_term_core.specs.decl_core.contracts.keys.DeclRef as decl_ref
 use Rattle.go_term_core.specs.Terms.{Term, Sign}
 use Rattle.go_term_core.specs.codes.TermCodes.{coded_term, coded_sign}
-use Rattle.go_operand_core.specs.declared.types.ValueType.{ValueType}
-use Rattle.go_operand_core.specs.declared.types.ValueType.TheVariants as value_types
-use Rattle.go_operand_core.specs.declared.types.Operand.{Operand}
+use Rattle.go_handle_core.specs.operand_core.declared.types.ValueType.{ValueType}
+use Rattle.go_handle_core.specs.operand_core.declared.types.ValueType.TheVariants as value_types
+use Rattle.go_handle_core.specs.operand_core.declared.types.Operand.{Operand}
 use Rattle.go_face_core.specs.declared.face.Face.TheVariants as faces
 use Rattle.go_face_core.specs.Faces.{TheFace}
 use Rattle.go_face_core.specs.Written.{WrittenOf}

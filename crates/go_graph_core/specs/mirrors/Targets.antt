@@ -3,8 +3,8 @@ use Rattle.std.specs.Prelude.{◌≡◌, ℕ, ◌⊎◌, Bool, true, false, suc,
 use Rattle.std.specs.List.{AllZip, flat_map}
 use Rattle.std.specs.declared.vec.Vec.{Vec}
 use Rattle.go_text_core.specs.declared.rule.Rule.TheVariants.{I4}
-use Rattle.go_cycle_core.specs.declared.edge.Edge.{Edge}
-use Rattle.go_cycle_core.specs.Cycle.{IsOnCycle, IsRanking}
+use Rattle.go_reach_core.specs.cycle_core.declared.edge.Edge.{Edge}
+use Rattle.go_reach_core.specs.cycle_core.Cycle.{IsOnCycle, IsRanking}
 use Rattle.go_graph_core.specs.declared.imports.ImportOutcome.{ImportOutcome}
 use Rattle.go_graph_core.specs.declared.imports.ImportOutcome.TheVariants.{Package, Refused}
 use Rattle.go_graph_core.specs.declared.imports.Standing.{Standing}

@@ -3,8 +3,8 @@ use Rattle.std.specs.Prelude.{refl, ℕ, List}
 use Rattle.std.specs.Coded.{Coded, code_by, coded×, coded_list, coded_ℕ}
 use Rattle.go_term_core.specs.Terms.{Term}
 use Rattle.go_term_core.specs.codes.TermCodes.{coded_term}
-use Rattle.go_local_core.specs.declared.Fault.{Fault}
-use Rattle.go_local_core.specs.contracts.Fault as fault
+use Rattle.go_names_core.specs.local_core.declared.Fault.{Fault}
+use Rattle.go_names_core.specs.local_core.contracts.Fault as fault
 use Rattle.go_inline_core.specs.Types.{InlineOf}
 
 -- a type with its faults is stored as the pair of both

@@ -2,7 +2,7 @@
 use Rattle.std.specs.Prelude.{◌≡◌, Bool, false, List, ◌++◌, map}
 use Rattle.go_tree_nodes.specs.TypeShapes.{shape_type}
 use Rattle.go_tree_nodes.specs.Trees.{TypeTree}
-use Rattle.go_local_core.specs.declared.Fault.{Fault}
+use Rattle.go_names_core.specs.local_core.declared.Fault.{Fault}
 use Rattle.go_inline_core.specs.declared.listing.TypeList.{TypeList}
 use Rattle.go_inline_core.specs.declared.repeated.FaultList.{FaultList}
 

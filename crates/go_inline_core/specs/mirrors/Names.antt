@@ -5,7 +5,7 @@ use Rattle.go_tree_nodes.specs.declared.names.Ident.{Ident}
 use Rattle.go_tree_nodes.specs.declared.types.Fields.{Fields}
 use Rattle.go_tree_nodes.specs.declared.types.Fields.TheVariants as fields
 use Rattle.go_tree_nodes.specs.TypeShapes.{shape_type}
-use Rattle.go_local_core.specs.declared.Fault.{Fault}
+use Rattle.go_names_core.specs.local_core.declared.Fault.{Fault}
 use Rattle.go_inline_core.specs.Inline.{repeated_params}
 
 abbrev pub names_of : List (Bor Ident) → List Ident

@@ -1,6 +1,6 @@
 -- Inputs that look alike where it is known which packages tell what was told earlier.
 use Rattle.std.specs.Prelude.{◌≡◌, ℕ, Bool, true, List, Some, All, map, slice_get}
-use Rattle.go_summary_core.specs.Summaries.{path_of}
+use Rattle.go_whole_core.specs.summary_core.Summaries.{path_of}
 use Rattle.go_whole_core.specs.part_core.Inputs.{InputModel}
 
 -- all these numbers are marked

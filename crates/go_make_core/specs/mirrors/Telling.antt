@@ -3,7 +3,7 @@ use Rattle.std.specs.Prelude.{◌≡◌, ◌<◌, ℕ, List, Option, Some, None,
 use Rattle.std.specs.List.{AllZip}
 use Rattle.std.specs.List.Sorted.{IsStrictlyIncreasing}
 use Rattle.go_reach_core.specs.Numbers.{Numbers}
-use Rattle.go_summary_core.specs.Summaries.{SummaryModel}
+use Rattle.go_whole_core.specs.summary_core.Summaries.{SummaryModel}
 
 -- what stands at a place, if there is one
 abbrev pub at_place : List SummaryModel → Option ℕ → Option SummaryModel

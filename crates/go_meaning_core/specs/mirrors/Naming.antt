@@ -1,9 +1,9 @@
 -- What the code holds of a package, as contracts see it.
 use Rattle.std.specs.Prelude.{ℕ, List, Option}
 use Rattle.go_decl_core.specs.declared.keys.DeclRef.{DeclRef}
-use Rattle.go_table_core.specs.Entries.{Entry}
-use Rattle.go_face_core.specs.Faces.{TheFace}
-use Rattle.go_face_core.specs.Packages.{PackageFacesModel}
+use Rattle.go_part_core.specs.table_core.Entries.{Entry}
+use Rattle.go_part_core.specs.face_core.Faces.{TheFace}
+use Rattle.go_part_core.specs.face_core.Packages.{PackageFacesModel}
 use Rattle.go_part_core.specs.ready_core.Packages.{trees_in}
 use Rattle.go_part_core.specs.Inputs.{InputModel, path_in}
 use Rattle.go_part_core.specs.Parts.{ContentOf}

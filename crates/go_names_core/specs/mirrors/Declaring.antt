@@ -5,10 +5,10 @@ use Rattle.go_tree_nodes.specs.declared.names.Ident.{Ident}
 use Rattle.go_open_core.specs.Blocks.{any_new, short_names, is_short_new}
 use Rattle.go_open_core.specs.declared.short.ShortName.{ShortName}
 use Rattle.go_open_core.specs.declared.short.ShortName.TheVariants.{New, Old, Blank, Repeated}
-use Rattle.go_local_core.specs.declared.Fault.{Fault}
-use Rattle.go_local_core.specs.Faults.{ident_fault, none_new_fault, spellings}
+use Rattle.go_walk_core.specs.local_core.declared.Fault.{Fault}
+use Rattle.go_walk_core.specs.local_core.Faults.{ident_fault, none_new_fault, spellings}
 use Rattle.go_names_core.specs.declared.declaring.NewNames.{NewNames}
-use Rattle.go_local_core.specs.Steps.{Newness, EachFirst, OneNew}
+use Rattle.go_walk_core.specs.local_core.Steps.{Newness, EachFirst, OneNew}
 
 -- names before `:=`, or others
 abbrev pub manner_of : Bool → Newness

@@ -11,9 +11,9 @@ use Rattle.go_tree_nodes.specs.declared.files.Receiver.{Receiver}
 use Rattle.go_tree_nodes.specs.Terminals.{Terminal}
 use Rattle.go_tree_nodes.specs.Trees.{Separated, One, Then, TypeTree, FieldTrees, MethodTrees, SignatureTree, ResultTree, ParamTrees, NamedType, Pointer, ParenType, Struct, Interface, NoFields, NamedFields, EmbeddedField, NoMethods, Method, Signed, NoResult, OneResult, Results, NoParams, Param, ExprTree, ItemTrees, Integer, Text, Named, Paren, Unary, Binary, Select, Call, Literal, StructLiteral, NoItems, Item, ValueSpecTree, SimpleTree, Alone, Step, Assign, Update, Define}
 use Rattle.go_tree_nodes.specs.Spelling.{spell_ident, spell_idents, spell_some, spell_type_name, spell_tag, spell_names, spell_type, spell_fields, spell_methods, spell_signature, spell_result, spell_params, spell_key, spell, spell_items, spell_exprs, spell_some_type, spell_values, spell_value_spec, spell_simple, spell_some_exprs, spell_receiver_name, spell_receiver}
-use Rattle.go_local_core.specs.Steps.{Piece, Header, Spec, Act, Condition, Given, spell_piece}
-use Rattle.go_local_core.specs.Binding.{NameLook}
-use Rattle.go_local_core.specs.Alike.{Alike, LookAtNames}
+use Rattle.go_walk_core.specs.local_core.Steps.{Piece, Header, Spec, Act, Condition, Given, spell_piece}
+use Rattle.go_walk_core.specs.local_core.Binding.{NameLook}
+use Rattle.go_walk_core.specs.local_core.Alike.{Alike, LookAtNames}
 use Rattle.go_names_core.specs.declared.names.Denoted.{Denoted}
 use Rattle.go_names_core.specs.declared.names.NameUse.{NameUse}
 use Rattle.go_names_core.specs.Uses.{simple_used_idents, piece_used_idents, name_use, name_use_rules}

@@ -1,7 +1,7 @@
 -- What noting the uses of some names comes to.
 use Rattle.std.specs.Prelude.{◌≡◌, Bool, false, List, ◌++◌, map}
 use Rattle.go_tree_nodes.specs.declared.names.Ident.{Ident}
-use Rattle.go_local_core.specs.Binding.{NameLook}
+use Rattle.go_walk_core.specs.local_core.Binding.{NameLook}
 use Rattle.go_names_core.specs.declared.names.Denoted.{Denoted}
 use Rattle.go_names_core.specs.declared.names.NameUse.{NameUse}
 use Rattle.go_names_core.specs.declared.noting.Noter.{Noter}

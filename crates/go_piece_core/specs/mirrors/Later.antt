@@ -6,7 +6,7 @@ use Rattle.go_tree_nodes.specs.declared.exprs.NextExpr.{NextExpr}
 use Rattle.go_tree_nodes.specs.Shapes.{shape}
 use Rattle.go_statement_core.specs.declared.targets.Target.{Target}
 use Rattle.go_expr_core.specs.declared.things.Use.{Use}
-use Rattle.go_local_core.specs.declared.Fault.{Fault}
+use Rattle.go_walk_core.specs.local_core.declared.Fault.{Fault}
 use Rattle.go_expr_core.specs.Looks.{Looks}
 use Rattle.go_piece_core.specs.Targets.{target, target_uses, target_faults}
 

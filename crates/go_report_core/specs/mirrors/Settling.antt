@@ -4,7 +4,7 @@ use Rattle.std.specs.Ordering.{is_eq}
 use Rattle.go_expr_core.specs.denote_core.declared.things.Outcome.{Outcome}
 use Rattle.go_expr_core.specs.denote_core.declared.things.Outcome.TheVariants as outcomes
 use Rattle.go_expr_core.specs.declared.things.Use.{Use}
-use Rattle.go_local_core.specs.declared.Fault.{Fault}
+use Rattle.go_expr_core.specs.local_core.declared.Fault.{Fault}
 use Rattle.go_report_core.specs.Faults.{fault_order, IsSaid}
 
 -- the fault that an outcome at an offset says, before others

@@ -1,9 +1,9 @@
 -- Steps of the loops.
 use Rattle.std.specs.Prelude.{ℕ, Bool, ◌&&◌, not, if◌then◌else◌, List, [], ◌∷◌, ◌++◌, Option, Some, None}
 use Rattle.go_tree_core.specs.declared.occurrence.Occ.{Occ}
-use Rattle.go_block_core.specs.Blocks.{BlocksModel}
-use Rattle.go_denote_core.specs.declared.things.Outcome.TheVariants as outcomes
-use Rattle.go_local_core.specs.declared.Fault.{Fault}
+use Rattle.go_answer_core.specs.block_core.Blocks.{BlocksModel}
+use Rattle.go_answer_core.specs.denote_core.declared.things.Outcome.TheVariants as outcomes
+use Rattle.go_answer_core.specs.local_core.declared.Fault.{Fault}
 use Rattle.go_used_core.specs.Used.{TheOutcome, FileUse, is_import, refused_use, used_by}
 
 -- the place of the import that an occurrence uses, if it has something

@@ -7,7 +7,7 @@ use Rattle.go_tree_nodes.specs.declared.types.MethodLine.{MethodLine}
 use Rattle.go_tree_nodes.specs.declared.types.«Param» as declared_param
 use Rattle.go_tree_nodes.specs.declared.names.Ident.{Ident}
 use Rattle.go_tree_nodes.specs.declared.names.NextIdent.{NextIdent}
-use Rattle.go_decl_core.specs.declared.places.DeclKind.TheVariants as kinds
+use Rattle.go_term_core.specs.decl_core.declared.places.DeclKind.TheVariants as kinds
 use Rattle.go_term_core.specs.declared.term.Field.{Field}
 use Rattle.go_term_core.specs.declared.term.FieldLine as term_line
 use Rattle.go_term_core.specs.declared.term.Params.{Params}

@@ -1,6 +1,6 @@
 use Rattle.std.proofs.Common.{◌<◌, subst}
-use Rattle.go_graph_core.proofs.ToldApart.{told_apart}
-use Rattle.go_table_core.specs.Shown.{member_shown}
+use Rattle.go_face_core.specs.graph_core.ToldApart.{told_apart}
+use Rattle.go_face_core.specs.table_core.Shown.{member_shown}
 use Rattle.go_alike_core.proofs.entries.same_members.Goals as goal
 
 pub returns-then-not-is_same_member : goal.returns-then-not-is_same_member

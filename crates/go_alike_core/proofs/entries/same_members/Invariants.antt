@@ -1,5 +1,5 @@
 use Rattle.std.proofs.Common.{◌≡◌, take, map}
-use Rattle.go_table_core.specs.Shown.{member_shown}
+use Rattle.go_face_core.specs.table_core.Shown.{member_shown}
 use Rattle.go_alike_core.proofs.entries.same_members.Given as goal
 
 abbrev pub invariant-loop-place : goal.invariant-loop-place

@@ -1,5 +1,5 @@
 use Rattle.std.proofs.Common.{◌<◌, subst}
-use Rattle.go_graph_core.proofs.ToldApart.{told_apart}
+use Rattle.go_face_core.specs.graph_core.ToldApart.{told_apart}
 use Rattle.go_face_core.specs.Held.{declared_shown}
 use Rattle.go_alike_core.proofs.faces.same_declared.Goals as goal
 

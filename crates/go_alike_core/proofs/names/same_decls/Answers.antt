@@ -1,6 +1,6 @@
 use Rattle.std.proofs.Common.{◌<◌, subst}
-use Rattle.go_graph_core.proofs.ToldApart.{told_apart}
-use Rattle.go_block_core.specs.Exports.{name_and_decl}
+use Rattle.go_face_core.specs.graph_core.ToldApart.{told_apart}
+use Rattle.go_face_core.specs.block_core.Exports.{name_and_decl}
 use Rattle.go_alike_core.proofs.names.same_decls.Goals as goal
 
 pub returns-then-not-is_same_named : goal.returns-then-not-is_same_named

@@ -1,5 +1,5 @@
 use Rattle.std.proofs.Common.{◌≡◌, take, map}
-use Rattle.go_block_core.specs.Exports.{name_and_decl}
+use Rattle.go_face_core.specs.block_core.Exports.{name_and_decl}
 use Rattle.go_alike_core.proofs.names.same_decls.Given as goal
 
 abbrev pub invariant-loop-place : goal.invariant-loop-place

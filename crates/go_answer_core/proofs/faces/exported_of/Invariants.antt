@@ -1,5 +1,5 @@
 use Rattle.std.proofs.Common.{◌≡◌, ◌++◌, map, drop}
-use Rattle.go_block_core.specs.Exports.{name_and_decl}
+use Rattle.go_fault_core.specs.block_core.Exports.{name_and_decl}
 use Rattle.go_answer_core.specs.Shown.{exported_decls}
 use Rattle.go_answer_core.proofs.faces.exported_of.Given as goal
 

@@ -7,8 +7,8 @@ use Rattle.go_block_core.specs.Blocks.{BlocksModel}
 use Rattle.go_context_core.specs.Alone.{HasLocals}
 use Rattle.go_summary_core.specs.Summaries.{SummaryModel}
 use Rattle.go_summary_core.specs.Views.{faces_told}
-use Rattle.go_part_core.specs.Inputs.{InputModel}
-use Rattle.go_part_core.specs.Parts.{ContentOf}
+use Rattle.go_place_core.specs.part_core.Inputs.{InputModel}
+use Rattle.go_place_core.specs.part_core.Parts.{ContentOf}
 use Rattle.go_spot_core.specs.Shown.{idents_shown, spot_shown}
 use Rattle.go_spot_core.specs.Spots.{spot_seen}
 use Rattle.go_place_core.specs.Completions.{texts_of}

@@ -1,5 +1,5 @@
 use Rattle.std.proofs.Common.{◌≡◌, ◌++◌, drop, map}
-use Rattle.go_entry_core.specs.Outlines.{outline_shown}
+use Rattle.go_meaning_core.specs.entry_core.Outlines.{outline_shown}
 use Rattle.go_object_core.specs.Objects.{function_shown}
 use Rattle.go_meaning_core.specs.part_core.Parts.{file_shown}
 use Rattle.go_emit_core.specs.mirrors.Listing.{outlines_functions}

@@ -1,5 +1,5 @@
 use Rattle.std.proofs.Common.{List, ap, ◌∙◌}
-use Rattle.go_summary_core.specs.Summaries.{SummaryModel}
+use Rattle.go_meaning_core.specs.summary_core.Summaries.{SummaryModel}
 use Rattle.go_emit_core.specs.Emitted.{objects_over}
 use Rattle.go_emit_core.proofs.Tabled.{objects_told}
 use Rattle.go_emit_core.proofs.object.objects_seen.Goals as goal

@@ -1,8 +1,8 @@
 use Rattle.std.proofs.Common.{map, ap, ◌∙◌}
-use Rattle.go_entry_core.specs.Outlines.{outline_of, outline_shown}
-use Rattle.go_summary_core.specs.Summaries.{SummaryModel}
-use Rattle.go_graph_core.specs.Packages.{trees_of}
-use Rattle.go_graph_core.specs.Workspaces.{PackageModel}
+use Rattle.go_meaning_core.specs.entry_core.Outlines.{outline_of, outline_shown}
+use Rattle.go_meaning_core.specs.summary_core.Summaries.{SummaryModel}
+use Rattle.go_meaning_core.specs.graph_core.Packages.{trees_of}
+use Rattle.go_meaning_core.specs.graph_core.Workspaces.{PackageModel}
 use Rattle.go_meaning_core.specs.part_core.Inputs.{InputModel}
 use Rattle.go_meaning_core.specs.part_core.Parts.{ContentOf, file_shown}
 use Rattle.go_object_core.specs.Objects.{object_shown}

@@ -2,7 +2,7 @@ use Rattle.std.proofs.Common.{rules, ◌≡◌, ◌++◌, [], ◌∷◌, ◌<◌
 use Rattle.std.proofs.lemmas.List.{map-append}
 use Rattle.go_tree_nodes.specs.declared.exprs.«Item» as declared_item
 use Rattle.go_tree_nodes.specs.Shapes.{shape, items_of, shape_key}
-use Rattle.go_denote_core.specs.declared.things.Stand.TheVariants as stands
+use Rattle.go_literal_core.specs.denote_core.declared.things.Stand.TheVariants as stands
 use Rattle.go_expr_core.specs.Places.{start}
 use Rattle.go_expr_core.specs.Looks.{everywhere}
 use Rattle.go_tree_nodes.specs.TypeShapes.{shape_type}

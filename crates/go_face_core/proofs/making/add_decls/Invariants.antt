@@ -1,6 +1,6 @@
 use Rattle.std.proofs.Common.{◌≡◌, ◌++◌, map, take}
-use Rattle.go_decl_core.specs.Shown.{decl_shown}
-use Rattle.go_written_core.specs.Written.{in_file}
+use Rattle.go_term_core.specs.decl_core.Shown.{decl_shown}
+use Rattle.go_entry_core.specs.written_core.Written.{in_file}
 use Rattle.go_face_core.specs.Held.{written_shown}
 use Rattle.go_face_core.specs.Written.{file_written}
 use Rattle.go_face_core.proofs.making.add_decls.Given as goal

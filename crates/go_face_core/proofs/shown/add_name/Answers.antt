@@ -1,6 +1,6 @@
 use Rattle.std.proofs.Common.{◌≡◌, false, is_some, sym, ap, ◌∙◌}
-use Rattle.go_block_core.specs.Tables.{has, block_of, with_first}
-use Rattle.go_block_core.proofs.TableLemmas.{block_of-insert}
+use Rattle.go_entry_core.specs.block_core.Tables.{has, block_of, with_first}
+use Rattle.go_entry_core.specs.block_core_lemmas.TableLemmas.{block_of-insert}
 use Rattle.go_face_core.proofs.shown.add_name.Goals as goal
 
 pub returns : goal.returns

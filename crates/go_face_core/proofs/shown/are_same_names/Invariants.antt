@@ -1,5 +1,5 @@
 use Rattle.std.proofs.Common.{◌≡◌, take}
-use Rattle.go_block_core.specs.Tables.{block_of}
+use Rattle.go_entry_core.specs.block_core.Tables.{block_of}
 use Rattle.go_face_core.proofs.shown.are_same_names.Given as goal
 
 abbrev pub invariant-loop-place : goal.invariant-loop-place

@@ -1,5 +1,5 @@
 use Rattle.std.proofs.Common.{◌∙◌}
-use Rattle.go_block_core.proofs.TableLemmas.{in_table}
+use Rattle.go_entry_core.specs.block_core_lemmas.TableLemmas.{in_table}
 use Rattle.go_face_core.proofs.shown.name_in_table.Goals as goal
 
 pub returns : goal.returns

@@ -1,5 +1,5 @@
 use Rattle.std.proofs.Common.{List, ℕ, ap, ◌∙◌}
-use Rattle.go_block_core.specs.Tables.{block_of, with_first}
+use Rattle.go_entry_core.specs.block_core.Tables.{block_of, with_first}
 use Rattle.go_face_core.specs.Packages.{as_seen}
 use Rattle.go_face_core.proofs.Seeing.{seen_step}
 use Rattle.go_face_core.proofs.shown.names_seen.Goals as goal

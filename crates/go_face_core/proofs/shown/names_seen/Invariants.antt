@@ -1,6 +1,6 @@
 use Rattle.std.proofs.Common.{◌≡◌, [], map, take}
-use Rattle.go_block_core.specs.Exports.{name_and_decl}
-use Rattle.go_block_core.specs.Tables.{block_of}
+use Rattle.go_entry_core.specs.block_core.Exports.{name_and_decl}
+use Rattle.go_entry_core.specs.block_core.Tables.{block_of}
 use Rattle.go_face_core.specs.Packages.{seen_after}
 use Rattle.go_face_core.proofs.shown.names_seen.Given as goal
 

@@ -1,7 +1,7 @@
 use Rattle.std.proofs.Common.{◌≡◌, ◌++◌, map, take}
 use Rattle.std.specs.Prelude.{slice_get}
 use Rattle.std.specs.List.{flat_map}
-use Rattle.go_table_core.specs.Shown.{entry_shown}
+use Rattle.go_embed_core.specs.table_core.Shown.{entry_shown}
 use Rattle.go_entry_core.specs.Outlines.{outline_shown}
 use Rattle.go_fault_core.specs.TypeFaults.{type_loop_fault}
 use Rattle.go_fault_core.proofs.entries.add_loops.Given as goal

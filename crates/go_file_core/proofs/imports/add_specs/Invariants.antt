@@ -1,6 +1,6 @@
 use Rattle.std.proofs.Common.{◌≡◌, ◌++◌, map}
 use Rattle.go_file_core.specs.Imports.{imports_uses}
-use Rattle.go_block_core.specs.mirrors.Shown.{spec_shown}
+use Rattle.go_func_core.specs.block_core.mirrors.Shown.{spec_shown}
 use Rattle.go_file_core.proofs.imports.add_specs.Given as goal
 
 abbrev pub invariant-loop-spec : goal.invariant-loop-spec

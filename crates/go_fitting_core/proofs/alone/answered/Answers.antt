@@ -2,7 +2,7 @@ use Rattle.std.proofs.Common.{map, ap, ◌∙◌}
 use Rattle.std.specs.Prelude.{filter, string_bytes}
 use Rattle.std.proofs.lemmas.Result.{IfOk-weaker}
 use Rattle.go_shown_core.specs.Shown.{texts}
-use Rattle.go_summary_core.specs.Views.{faces_told}
+use Rattle.go_shown_core.specs.summary_core.Views.{faces_told}
 use Rattle.go_fitting_core.specs.Fitting.{fits_alone}
 use Rattle.go_fitting_core.proofs.Fits.{each_answered}
 use Rattle.go_fitting_core.proofs.alone.answered.Goals as goal

@@ -1,5 +1,5 @@
 use Rattle.std.proofs.Common.{sym, ap, ◌∙◌}
-use Rattle.go_summary_core.specs.Views.{faces_told}
+use Rattle.go_shown_core.specs.summary_core.Views.{faces_told}
 use Rattle.go_fitting_core.proofs.Fits.{blank_alone, by_key, without_key}
 use Rattle.go_fitting_core.proofs.alone.fits_alone.Goals as goal
 

@@ -1,7 +1,7 @@
 use Rattle.std.proofs.Common.{Bor, ℕ, List, map, subst}
 use Rattle.std.specs.Prelude.{◌↔◌, Contains, filter, string_bytes}
 use Rattle.go_shown_core.specs.Shown.{texts}
-use Rattle.go_summary_core.specs.Views.{faces_told}
+use Rattle.go_shown_core.specs.summary_core.Views.{faces_told}
 use Rattle.go_fitting_core.specs.Fitting.{fits_alone}
 use Rattle.go_fitting_core.proofs.Fits.{each_alone}
 use Rattle.go_fitting_core.proofs.alone.names_alone.Goals as goal

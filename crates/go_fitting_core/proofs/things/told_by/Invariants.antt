@@ -1,6 +1,6 @@
 use Rattle.std.proofs.Common.{◌≡◌, drop}
 use Rattle.go_face_core.specs.Packages.{package_in}
-use Rattle.go_summary_core.specs.Views.{faces_told}
+use Rattle.go_shown_core.specs.summary_core.Views.{faces_told}
 use Rattle.go_fitting_core.proofs.things.told_by.Given as goal
 
 abbrev pub invariant-loop-number : goal.invariant-loop-number

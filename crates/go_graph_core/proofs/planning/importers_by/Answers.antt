@@ -1,6 +1,6 @@
 use Rattle.std.proofs.Common.{◌≡◌, ◌∙◌, List, [], length, map, sym, subst}
-use Rattle.go_cycle_core.specs.declared.edge.Edge.{Edge}
-use Rattle.go_cycle_core.specs.Cycle.{InRange}
+use Rattle.go_reach_core.specs.cycle_core.declared.edge.Edge.{Edge}
+use Rattle.go_reach_core.specs.cycle_core.Cycle.{InRange}
 use Rattle.go_reach_core.specs.Reach.{AreStarts}
 use Rattle.go_graph_core.specs.Plans.{AreImporters, outcomes_shown, plan_of}
 use Rattle.go_graph_core.specs.mirrors.Targets.{edges_from}

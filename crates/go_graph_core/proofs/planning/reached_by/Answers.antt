@@ -1,7 +1,7 @@
 use Rattle.std.proofs.Common.{◌≡◌, ◌<◌, ◌∙◌, All, List, ℕ, length, map, sym, subst}
 use Rattle.std.proofs.lemmas.List.{length-map}
-use Rattle.go_cycle_core.specs.declared.edge.Edge.{Edge}
-use Rattle.go_cycle_core.specs.Cycle.{InRange}
+use Rattle.go_reach_core.specs.cycle_core.declared.edge.Edge.{Edge}
+use Rattle.go_reach_core.specs.cycle_core.Cycle.{InRange}
 use Rattle.go_reach_core.specs.Reach.{EndsStandBefore, AreReachSets}
 use Rattle.go_graph_core.specs.Plans.{AreReached, outcomes_shown, plan_of}
 use Rattle.go_graph_core.specs.mirrors.Targets.{edges_from}

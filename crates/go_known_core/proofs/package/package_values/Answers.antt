@@ -1,9 +1,9 @@
 use Rattle.std.proofs.Common.{◌≡◌, map, length, ap, sym, ◌∙◌, subst}
 use Rattle.std.specs.Prelude.{IfOk}
 use Rattle.go_needs_core.specs.Needs.{NeedsAreInside, AreValues, rows_of}
-use Rattle.go_face_core.specs.Faces.{TheFace}
+use Rattle.go_value_core.specs.face_core.Faces.{TheFace}
 use Rattle.go_value_core.specs.env_core.Scenes.{scene_shown}
-use Rattle.go_entry_core.specs.Outlines.{outline_shown}
+use Rattle.go_value_core.specs.entry_core.Outlines.{outline_shown}
 use Rattle.go_value_core.specs.Package.{placed_decls, placed_shown, package_needs, declared_face}
 use Rattle.go_value_core.proofs.Seeing.{all_inside}
 use Rattle.go_known_core.proofs.package.package_values.Goals as goal

@@ -1,6 +1,6 @@
 use Rattle.std.specs.Prelude.{ℕ, List}
 use Rattle.go_term_core.specs.Terms.{Term, Sign}
-use Rattle.go_handle_core.specs.Declarations.{Declaration}
+use Rattle.govisd_core.specs.handle_core.Declarations.{Declaration}
 use Rattle.go_fold_core.proofs.Folding.{constants_folded, expressions_folded}
 use Rattle.go_laws_core.proofs.Agree.{constants_agree}
 use Rattle.go_laws_core.proofs.constant_laws.constants_are_of_the_check.Goals as goal

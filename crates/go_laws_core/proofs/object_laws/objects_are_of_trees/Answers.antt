@@ -1,6 +1,6 @@
 use Rattle.std.proofs.Common.{subst}
 use Rattle.std.specs.List.{AllZip}
-use Rattle.go_whole_core.specs.Entries.{IsPartEntry}
+use Rattle.go_snap_core.specs.whole_core.Entries.{IsPartEntry}
 use Rattle.go_laws_core.proofs.Telling.{object_is, told_by_trees}
 use Rattle.go_laws_core.proofs.object_laws.objects_are_of_trees.Goals as goal
 

@@ -4,11 +4,11 @@ use Rattle.go_tree_nodes.specs.Shapes.{file_of}
 use Rattle.go_tree_nodes.specs.Trees.{ImportSpecTree}
 use Rattle.go_graph_core.specs.Lists.{AllNumbered}
 use Rattle.go_whole_core.specs.mirrors.Steps.{exports_in}
-use Rattle.go_block_core.specs.declared.imports.Imported.{Imported}
-use Rattle.go_block_core.specs.Naming.{file_specs, import_at}
-use Rattle.go_block_core.specs.mirrors.Shown.{spec_shown}
-use Rattle.go_block_core.specs.mirrors.Steps.{IsPlanned}
-use Rattle.go_block_core.proofs.GivenSteps.{numbered_next}
+use Rattle.go_whole_core.specs.block_core.declared.imports.Imported.{Imported}
+use Rattle.go_whole_core.specs.block_core.Naming.{file_specs, import_at}
+use Rattle.go_whole_core.specs.block_core.mirrors.Shown.{spec_shown}
+use Rattle.go_whole_core.specs.block_core.mirrors.Steps.{IsPlanned}
+use Rattle.go_whole_core.specs.block_core.GivenSteps.{numbered_next}
 use Rattle.go_make_core.proofs.inputs.file_imports.Goals as goal
 
 pub loop-import-init : goal.loop-import-init

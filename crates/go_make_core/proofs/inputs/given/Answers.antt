@@ -1,9 +1,9 @@
 use Rattle.std.proofs.Common.{◌≡◌, Some, None, refl, sym, ap, subst, ◌∙◌}
 use Rattle.std.proofs.lemmas.Option.{slice_get_within, get_or_from_slice_get, slice_get_read}
 use Rattle.std.proofs.lemmas.Result.{IfOk-weaker}
-use Rattle.go_block_core.specs.declared.imports.Imported.TheVariants as imported
-use Rattle.go_block_core.specs.Naming.{IsGiven}
-use Rattle.go_block_core.specs.mirrors.Steps.{HasExports, IsShownIn}
+use Rattle.go_whole_core.specs.block_core.declared.imports.Imported.TheVariants as imported
+use Rattle.go_whole_core.specs.block_core.Naming.{IsGiven}
+use Rattle.go_whole_core.specs.block_core.mirrors.Steps.{HasExports, IsShownIn}
 use Rattle.go_whole_core.specs.mirrors.Steps.{exports_in}
 use Rattle.go_whole_core.proofs.Inputting.{shown_from, shown_to}
 use Rattle.go_make_core.proofs.inputs.given.Goals as goal

@@ -2,9 +2,9 @@ use Rattle.std.proofs.Common.{◌≡◌, Some, map, sym, ap, subst, ◌∙◌}
 use Rattle.std.specs.Prelude.{slice_get}
 use Rattle.go_graph_core.specs.Packages.{IsAssembled, trees_of}
 use Rattle.go_graph_core.specs.Workspaces.{PackageModel}
-use Rattle.go_block_core.proofs.GivenSteps.{have_one_each}
-use Rattle.go_block_core.specs.Naming.{imported_in}
-use Rattle.go_block_core.specs.mirrors.Steps.{IsPlanned}
+use Rattle.go_whole_core.specs.block_core.GivenSteps.{have_one_each}
+use Rattle.go_whole_core.specs.block_core.Naming.{imported_in}
+use Rattle.go_whole_core.specs.block_core.mirrors.Steps.{IsPlanned}
 use Rattle.go_whole_core.specs.part_core.Inputs.{InputModel}
 use Rattle.go_whole_core.specs.mirrors.Steps.{AreToldBySet, exports_in}
 use Rattle.go_whole_core.proofs.Inputting.{input_made, package_comes, package_ready, reached_there, told_apart, told_is, told_others}

@@ -4,9 +4,9 @@ use Rattle.go_tree_nodes.specs.Shapes.{file_of}
 use Rattle.go_graph_core.specs.Packages.{trees_of}
 use Rattle.go_graph_core.proofs.Assemblies.{as_many}
 use Rattle.go_whole_core.specs.mirrors.Steps.{exports_in}
-use Rattle.go_block_core.specs.Naming.{AreInPackage, imported_in}
-use Rattle.go_block_core.specs.mirrors.Steps.{IsPlanned, AreReadyIn}
-use Rattle.go_block_core.proofs.GivenSteps.{given_more, tree_there}
+use Rattle.go_whole_core.specs.block_core.Naming.{AreInPackage, imported_in}
+use Rattle.go_whole_core.specs.block_core.mirrors.Steps.{IsPlanned, AreReadyIn}
+use Rattle.go_whole_core.specs.block_core.GivenSteps.{given_more, tree_there}
 use Rattle.go_make_core.proofs.inputs.package_imports.Goals as goal
 
 pub loop-file-init : goal.loop-file-init

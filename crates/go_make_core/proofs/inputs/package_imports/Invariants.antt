@@ -1,8 +1,8 @@
 use Rattle.std.proofs.Common.{take, map}
 use Rattle.go_graph_core.specs.Packages.{trees_of}
 use Rattle.go_whole_core.specs.mirrors.Steps.{exports_in}
-use Rattle.go_block_core.specs.Naming.{AreInPackage, imported_in}
-use Rattle.go_block_core.specs.mirrors.Steps.{IsPlanned}
+use Rattle.go_whole_core.specs.block_core.Naming.{AreInPackage, imported_in}
+use Rattle.go_whole_core.specs.block_core.mirrors.Steps.{IsPlanned}
 use Rattle.go_make_core.proofs.inputs.package_imports.Given as goal
 
 abbrev pub invariant-loop-file : goal.invariant-loop-file

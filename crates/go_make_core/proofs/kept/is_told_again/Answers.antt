@@ -1,5 +1,5 @@
 use Rattle.std.proofs.Common.{◌≡◌, true, false, sym, subst, ◌∙◌}
-use Rattle.go_summary_core.specs.Summaries.{path_of}
+use Rattle.go_whole_core.specs.summary_core.Summaries.{path_of}
 use Rattle.go_whole_core.specs.part_core.Parts.{PartModel}
 use Rattle.go_make_core.specs.Finding.{IsPartAt}
 use Rattle.go_make_core.proofs.Marking.{told_at, told_is, told_nowhere}

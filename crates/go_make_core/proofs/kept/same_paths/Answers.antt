@@ -1,7 +1,7 @@
 use Rattle.std.proofs.Common.{◌≡◌, true, false, map, slice_get, sym, ap, ◌∙◌}
 use Rattle.std.specs.Option.{option_map}
 use Rattle.std.proofs.lemmas.Option.{slice_get-map}
-use Rattle.go_summary_core.specs.Summaries.{path_of}
+use Rattle.go_whole_core.specs.summary_core.Summaries.{path_of}
 use Rattle.go_make_core.proofs.Marking.{alike_more}
 use Rattle.go_make_core.proofs.kept.same_paths.Goals as goal
 

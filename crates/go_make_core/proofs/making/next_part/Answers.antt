@@ -1,7 +1,7 @@
 use Rattle.std.proofs.Common.{◌≡◌, true, false, refl, sym, ap, subst, ◌∙◌}
 use Rattle.go_graph_core.proofs.OutcomeLaws.{all_at_place}
 use Rattle.go_graph_core.specs.Workspaces.{AreAllRead}
-use Rattle.go_table_core.specs.Tables.{AreOthers}
+use Rattle.go_whole_core.specs.table_core.Tables.{AreOthers}
 use Rattle.go_whole_core.specs.part_core.Inputs.{path_in}
 use Rattle.go_whole_core.specs.part_core.Parts.{IsPart, PartModel}
 use Rattle.go_whole_core.proofs.Next.{next_assembled, next_is, next_others, next_reached, next_right}

@@ -2,9 +2,9 @@ use Rattle.std.proofs.Common.{List, Option, map, ap, ◌∙◌}
 use Rattle.std.specs.Option.{option_map}
 use Rattle.go_term_core.specs.declared.term.TypeTerm.{TypeTerm}
 use Rattle.go_term_core.specs.declared.term.Signature.{Signature}
-use Rattle.go_entry_core.specs.Outlines.{outline_shown}
-use Rattle.go_face_core.specs.declared.face.Face.{Face}
-use Rattle.go_face_core.specs.Faces.{face_shown}
+use Rattle.go_part_core.specs.entry_core.Outlines.{outline_shown}
+use Rattle.go_part_core.specs.face_core.declared.face.Face.{Face}
+use Rattle.go_part_core.specs.face_core.Faces.{face_shown}
 use Rattle.go_part_core.specs.Parts.{ContentOf}
 use Rattle.go_meaning_core.specs.mirrors.Naming.{code_scene_shown}
 use Rattle.go_meaning_core.proofs.Outlined.{scene_made}

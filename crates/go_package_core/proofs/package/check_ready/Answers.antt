@@ -1,7 +1,7 @@
 use Rattle.std.proofs.Common.{map, length, ap, sym, subst, ◌∙◌}
 use Rattle.std.proofs.lemmas.List.{length-map}
-use Rattle.go_entry_core.specs.Outlines.{outline_shown}
-use Rattle.go_face_core.specs.Written.{decls_of}
+use Rattle.go_known_core.specs.entry_core.Outlines.{outline_shown}
+use Rattle.go_answer_core.specs.face_core.Written.{decls_of}
 use Rattle.go_known_core.specs.env_core.Scenes.{scene_shown}
 use Rattle.go_known_core.specs.value_core.Laws.{AreFaces}
 use Rattle.go_known_core.specs.value_core.Package.{AreThroughThemselves}

@@ -1,5 +1,5 @@
 use Rattle.std.proofs.Common.{length, map, sym, ap, subst, ◌∙◌}
-use Rattle.go_graph_core.specs.Workspaces.{PackageModel}
+use Rattle.go_summary_core.specs.graph_core.Workspaces.{PackageModel}
 use Rattle.go_package_core.specs.ready_core.Packages.{trees_in}
 use Rattle.go_package_core.specs.Checked.{answers_shown}
 use Rattle.go_summary_core.specs.Summaries.{summary_of}

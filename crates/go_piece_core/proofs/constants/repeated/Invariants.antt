@@ -1,6 +1,6 @@
 use Rattle.std.proofs.Common.{◌≡◌}
 use Rattle.std.specs.Prelude.{replicate}
-use Rattle.go_denote_core.specs.declared.things.Argument.TheVariants as arguments
+use Rattle.go_statement_core.specs.denote_core.declared.things.Argument.TheVariants as arguments
 use Rattle.go_piece_core.specs.Specifications.{constant_value}
 use Rattle.go_piece_core.proofs.constants.repeated.Given as goal
 

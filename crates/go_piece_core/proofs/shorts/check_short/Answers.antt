@@ -1,7 +1,7 @@
 use Rattle.std.proofs.Common.{[], ◌∙◌}
 use Rattle.go_tree_nodes.specs.Shapes.{shape_exprs}
 use Rattle.go_tree_nodes.specs.TypeShapes.{shape_idents}
-use Rattle.go_local_core.specs.Outline.{idents}
+use Rattle.go_walk_core.specs.local_core.Outline.{idents}
 use Rattle.go_statement_core.specs.Assignments.{assignment_rule}
 use Rattle.go_expr_core.specs.Looks.{everywhere}
 use Rattle.go_expr_core.proofs.Steps.{ok_any}

@@ -2,7 +2,7 @@ use Rattle.std.proofs.Common.{◌≡◌, ap, sym, subst, ◌∙◌}
 use Rattle.std.specs.Prelude.{IfOk, Option, Some}
 use Rattle.go_tree_nodes.specs.declared.exprs.CallExpr.{out-CallExpr}
 use Rattle.go_tree_nodes.specs.Shapes.{shape}
-use Rattle.go_denote_core.specs.declared.things.Stand.TheVariants as stands
+use Rattle.go_statement_core.specs.denote_core.declared.things.Stand.TheVariants as stands
 use Rattle.go_expr_core.specs.Looks.{everywhere}
 use Rattle.go_expr_core.specs.Denoting.{denoted}
 use Rattle.go_expr_core.proofs.Arms.{call_denoted, call_has_uses, call_has_faults}

@@ -1,6 +1,6 @@
 use Rattle.std.proofs.Common.{rules, of_calls, ◌∙◌}
 use Rattle.std.proofs.lemmas.Fn.{always_returns_same}
-use Rattle.go_local_core.specs.declared.Fault.{Fault}
+use Rattle.go_expr_core.specs.local_core.declared.Fault.{Fault}
 use Rattle.go_report_core.specs.Faults.{fault_order}
 use Rattle.go_report_core.proofs.Settled.{searched}
 use Rattle.go_report_core.proofs.settling.is_among.Goals as goal

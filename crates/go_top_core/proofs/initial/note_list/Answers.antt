@@ -1,4 +1,4 @@
-use Rattle.go_expr_core.specs.Looks.{everywhere}
+use Rattle.go_piece_core.specs.expr_core.Looks.{everywhere}
 use Rattle.go_top_core.proofs.Lists.{all_listed}
 use Rattle.go_top_core.proofs.initial.note_list.Goals as goal
 

@@ -1,7 +1,7 @@
 use Rattle.std.proofs.Common.{◌≡◌, ◌++◌, take}
 use Rattle.std.specs.List.{flat_map}
 use Rattle.go_tree_nodes.specs.Shapes.{shape}
-use Rattle.go_expr_core.specs.Looks.{everywhere}
+use Rattle.go_piece_core.specs.expr_core.Looks.{everywhere}
 use Rattle.go_top_core.specs.Initial.{expr_initial_faults}
 use Rattle.go_top_core.proofs.initial.note_list.Given as goal
 

@@ -1,7 +1,7 @@
 use Rattle.std.proofs.Common.{◌≡◌, ◌++◌, map, take}
 use Rattle.std.specs.List.{flat_map}
 use Rattle.go_tree_nodes.specs.Shapes.{shape_type_line}
-use Rattle.go_expr_core.specs.Looks.{everywhere}
+use Rattle.go_piece_core.specs.expr_core.Looks.{everywhere}
 use Rattle.go_top_core.specs.Tops.{type_spec_uses, type_spec_faults}
 use Rattle.go_top_core.proofs.types.check_lines.Given as goal
 

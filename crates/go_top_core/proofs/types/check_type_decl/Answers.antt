@@ -2,7 +2,7 @@ use Rattle.std.proofs.Common.{◌++◌, map, ap, sym, ◌∙◌}
 use Rattle.std.specs.List.{flat_map}
 use Rattle.std.proofs.lemmas.Result.{on_ok_weaker}
 use Rattle.go_tree_nodes.specs.Shapes.{shape_type_line, shape_type_specs}
-use Rattle.go_expr_core.specs.Looks.{everywhere}
+use Rattle.go_piece_core.specs.expr_core.Looks.{everywhere}
 use Rattle.go_top_core.specs.Tops.{type_spec_uses, type_spec_faults}
 use Rattle.go_top_core.proofs.types.check_type_decl.Goals as goal
 use Rattle.go_tree_nodes.specs.Trees.{of_specs}

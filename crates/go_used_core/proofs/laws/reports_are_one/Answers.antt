@@ -1,4 +1,4 @@
-use Rattle.go_report_core.proofs.Settled.{settled_are_one}
+use Rattle.go_answer_core.specs.report_core.Settled.{settled_are_one}
 use Rattle.go_used_core.proofs.Said.{reports_one}
 use Rattle.go_used_core.proofs.laws.reports_are_one.Goals as goal
 

@@ -2,9 +2,9 @@ use Rattle.std.proofs.Common.{◌++◌, ap, sym, ◌∙◌}
 use Rattle.std.specs.List.{flat_map}
 use Rattle.std.proofs.lemmas.List.{take_all}
 use Rattle.go_tree_nodes.specs.Shapes.{shape_import_specs}
-use Rattle.go_block_core.specs.Naming.{specs_in}
+use Rattle.go_answer_core.specs.block_core.Naming.{specs_in}
 use Rattle.go_used_core.specs.Used.{blank_place}
-use Rattle.go_block_core.proofs.Pieces.{piece_more}
+use Rattle.go_answer_core.specs.block_core.Pieces.{piece_more}
 use Rattle.go_used_core.proofs.Steps.{group_blanks, line_blank}
 use Rattle.go_used_core.proofs.unused.add_blanks.Goals as goal
 

@@ -1,7 +1,7 @@
 use Rattle.std.proofs.Common.{[], ap, ◌∙◌}
 use Rattle.std.specs.List.{flat_map}
 use Rattle.std.proofs.lemmas.List.{take_all}
-use Rattle.go_block_core.proofs.Pieces.{piece_more}
+use Rattle.go_answer_core.specs.block_core.Pieces.{piece_more}
 use Rattle.go_used_core.proofs.Steps.{all_blanks, decl_blanks}
 use Rattle.go_used_core.proofs.unused.blank_places.Goals as goal
 

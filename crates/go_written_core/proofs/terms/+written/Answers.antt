@@ -3,12 +3,12 @@ use Rattle.std.proofs.lemmas.Result.{IfOk-weaker, on_ok_weaker}
 use Rattle.go_tree_nodes.specs.TypeShapes.{shape_idents, shape_type}
 use Rattle.go_tree_nodes.proofs.TypeShapes as trees
 use Rattle.go_term_core.specs.Terms.{Fields, NoField, AField, StructOf, InterfaceOf, SignOf}
-use Rattle.go_decl_core.specs.declared.places.DeclKind.TheVariants as kinds
+use Rattle.go_term_core.specs.decl_core.declared.places.DeclKind.TheVariants as kinds
 use Rattle.go_term_core.specs.Shapes.{shape, sign_of}
 use Rattle.go_term_core.specs.declared.term.Params.{roll-Params}
 use Rattle.go_term_core.proofs.TermShapes.{shape_struct, shape_interface}
 use Rattle.go_written_core.specs.Written.{in_file, member_place, named_fields, term_starred, tag_of, term_of, signature_of, fields_of_tree, methods_of_tree}
-use Rattle.go_decl_core.specs.Outer.{last_ident}
+use Rattle.go_term_core.specs.decl_core.Outer.{last_ident}
 use Rattle.go_written_core.specs.mirrors.Adding.{Adds, line_fields, lines_of, method_lines_of}
 use Rattle.go_written_core.proofs.Collected.{body_start, lines_step, lines_whole, method_lines_step, params_start, params_step, params_whole, listed_has}
 use Rattle.go_written_core.proofs.terms.+written.Goals as goal

@@ -2,7 +2,7 @@ use Rattle.std.proofs.Common.{◌++◌, ◌∷◌, [], map, true, ap, ◌∙◌}
 use Rattle.std.proofs.lemmas.Result.{on_ok_weaker}
 use Rattle.go_term_core.specs.Shapes.{line_shape, line_with, shape}
 use Rattle.go_written_core.specs.Written.{in_file, term_starred, tag_of}
-use Rattle.go_decl_core.specs.Outer.{last_ident}
+use Rattle.go_term_core.specs.decl_core.Outer.{last_ident}
 use Rattle.go_written_core.specs.mirrors.Adding.{field_in}
 use Rattle.go_written_core.proofs.Collected.{embedded_added}
 use Rattle.go_written_core.proofs.terms.add_embedded.Goals as goal

@@ -1,12 +1,8 @@
-use Rattle.govisd.proofs.CommandLemmas.{added, added_last, with_required, with_version, without_help}
+use Rattle.govisd.proofs.CommandLemmas.{added, added_last}
 use Rattle.govisd.proofs.words.command.Goals as goal
 
 pub returns : goal.returns
 returns c =
-    let versioned = with_version c.new.result c.version.result _ _ c.version.ensures c.new.ensures.app in
-    let required = with_required c.version.result c.subcommand_required.result _ c.subcommand_required.ensures versioned in
-    let settled = without_help c.subcommand_required.result c.disable_help_subcommand.result _ c.disable_help_subcommand.ensures required in
-    let resolve = added c.disable_help_subcommand.result c.new-2.result c.in_ok-subcommand.field-0 _ _ settled c.new-2.ensures.app c.new-2.ensures.local c.in_ok-subcommand.ensures in
-    let explain = added c.in_ok-subcommand.field-0 c.in_ok-explain.explain c.in_ok-subcommand-2.field-0 _ _ resolve c.in_ok-explain.ensures.shape c.in_ok-explain.ensures.local c.in_ok-subcommand-2.ensures in
-    let check = added c.in_ok-subcommand-2.field-0 c.in_ok-check.check c.in_ok-subcommand-3.field-0 _ _ explain c.in_ok-check.ensures.shape c.in_ok-check.ensures.local c.in_ok-subcommand-3.ensures in
-    added_last c.subcommand-4.result c.in_ok-subcommand-3.field-0 c.in_ok-help.help _ _ check c.in_ok-help.ensures.shape c.in_ok-help.ensures.local c.subcommand-4.ensures
+    let help = added c.in_ok-source_commands.field-0 c.in_ok-help.help c.in_ok-subcommand.field-0 _ _ c.in_ok-source_commands.ensures c.in_ok-help.ensures.shape c.in_ok-help.ensures.local c.in_ok-subcommand.ensures in
+    let script = added c.in_ok-subcommand.field-0 c.in_ok-script.script c.in_ok-subcommand-2.field-0 _ _ help c.in_ok-script.ensures.shape c.in_ok-script.ensures.local c.in_ok-subcommand-2.ensures in
+    added_last c.subcommand-3.result c.in_ok-subcommand-2.field-0 c.in_ok-serve.serve _ _ script c.in_ok-serve.ensures.shape c.in_ok-serve.ensures.local c.subcommand-3.ensures

@@ -1,6 +1,6 @@
 use Rattle.std.proofs.Common.{refl}
 use Rattle.clap.proofs.OnLiterals.{clap_on_literals}
-use Rattle.govisd.proofs.PlainWords.{check_folder, check_folder_named, check_json, check_json_named, check_module, check_module_json, check_module_json_named, check_module_named, explain_word, explain_word_named, help_word, help_word_named, json_check, json_check_named, module_check, module_check_named, resolve_word}
+use Rattle.govisd.proofs.PlainWords.{check_folder, check_folder_named, check_json, check_json_named, check_module, check_module_json, check_module_json_named, check_module_named, explain_word, explain_word_named, help_word, help_word_named, json_check, json_check_named, module_check, module_check_named, resolve_word, script_workers, script_workers_named, serve_at, serve_at_named, serve_told, serve_told_named}
 use Rattle.govisd.proofs.words.forms.Goals as goal
 
 pub returns : goal.returns
@@ -29,6 +29,21 @@ returns c = λ program. record {
   json_check_named = json_check_named program;
   module_check = module_check program;
   module_check_named = module_check_named program;
+  script = refl;
+  script_named = refl;
+  script_workers = script_workers program;
+  script_workers_named = script_workers_named program;
+  no_workers = refl;
+  eight_workers = refl;
+  most_workers = refl;
+  too_many_workers = refl;
+  workers_in_words = refl;
+  serve = refl;
+  serve_at = serve_at program;
+  serve_at_named = serve_at_named program;
+  serve_told = serve_told program;
+  serve_told_named = serve_told_named program;
+  one_connection = refl;
   help_flag = refl;
   short_help_flag = refl;
   resolve_help_flag = refl;

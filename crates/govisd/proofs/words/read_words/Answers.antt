@@ -1,7 +1,7 @@
-use Rattle.std.proofs.Common.{◌∙◌, inl, inr, refl, ap}
+use Rattle.std.proofs.Common.{rules, ◌∙◌, inl, inr, refl, ap}
 use Rattle.clap.specs.declared.error.kind.ErrorKind.TheVariants.{DisplayHelp, DisplayVersion}
 use Rattle.govisd.specs.Asking.{ToHelp}
-use Rattle.govisd.proofs.WordLemmas.{chosen, refused_by, taken}
+use Rattle.govisd.proofs.WordLemmas.{chosen, refused_by, refused_other, taken}
 use Rattle.govisd.proofs.words.read_words.Goals as goal
 
 pub returns-in-Some : goal.returns-in-Some
@@ -15,3 +15,6 @@ returns-in-DisplayHelp g c =
 pub returns-in-DisplayVersion : goal.returns-in-DisplayVersion
 returns-in-DisplayVersion g c =
     inr (inr (refused_by _ _ c.in-Err.error DisplayVersion c.in_ok-command.ensures c.in-Err.ensures.kinds c.in-DisplayVersion.ensures (λ e. cc), refl))
+
+pub returns : goal.returns
+returns g c = refused_other _ _ c.in-Err.error c.in_ok-command.ensures c.in-Err.ensures.kinds (search rules) (search rules)

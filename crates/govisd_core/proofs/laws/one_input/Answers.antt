@@ -1,6 +1,6 @@
 use Rattle.std.proofs.Common.{ℕ, List}
-use Rattle.go_handle_core.specs.Declarations.{Declaration}
-use Rattle.go_report_core.proofs.Settled.{settled_are_one}
+use Rattle.govisd_lines.specs.handle_core.Declarations.{Declaration}
+use Rattle.go_part_core.specs.report_core.Settled.{settled_are_one}
 use Rattle.govisd_core.proofs.InputsAgree.{inputs_agree}
 use Rattle.govisd_core.proofs.OneFound.{found_agree}
 use Rattle.govisd_core.proofs.laws.one_input.Goals as goal

@@ -1,6 +1,6 @@
 use Rattle.std.proofs.Common.{◌≡◌, ℕ, ◌<◌, List, All, Option, length, map, slice_get, sym, ap, ap₂, subst, ◌∙◌}
 use Rattle.std.specs.List.{AllZip, filter_map}
-use Rattle.go_summary_core.specs.Summaries.{SummaryModel}
+use Rattle.go_whole_core.specs.summary_core.Summaries.{SummaryModel}
 use Rattle.go_make_core.specs.mirrors.Telling.{AreTold, IsToldAt, at_number, by_places}
 use Rattle.go_make_core.proofs.Telling.{found_below, found_told}
 use Rattle.go_make_core.proofs.told.Told.by.Goals as goal

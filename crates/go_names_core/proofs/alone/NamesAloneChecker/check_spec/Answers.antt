@@ -1,5 +1,5 @@
 use Rattle.go_tree_nodes.specs.TypeShapes.{shape_idents}
-use Rattle.go_local_core.specs.Outline.{idents}
+use Rattle.go_walk_core.specs.local_core.Outline.{idents}
 use Rattle.go_names_core.proofs.MeansLemmas.{means_by}
 use Rattle.go_names_core.proofs.alone.NamesAloneChecker.check_spec.Goals as goal
 

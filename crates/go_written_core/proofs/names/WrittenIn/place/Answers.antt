@@ -1,5 +1,5 @@
 use Rattle.std.proofs.Common.{MatchOption, subst}
-use Rattle.go_decl_core.specs.Table.{IsAt, IsNowhere}
+use Rattle.go_term_core.specs.decl_core.Table.{IsAt, IsNowhere}
 use Rattle.go_written_core.specs.Written.{in_file}
 use Rattle.go_written_core.proofs.Numbered.{place_at, place_nowhere}
 use Rattle.go_written_core.proofs.names.WrittenIn.place.Goals as goal

@@ -1,0 +1,2 @@
+-- What the crates above name of go_place_core.
+pub use Rattle.go_place_core.specs.Completions as Completions

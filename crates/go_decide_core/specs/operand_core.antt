@@ -1,0 +1,2 @@
+-- What the crates above name of go_operand_core.
+pub use Rattle.go_denote_core.specs.operand_core.declared as declared

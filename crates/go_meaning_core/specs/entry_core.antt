@@ -1,0 +1,2 @@
+-- What the crates above name of go_entry_core.
+pub use Rattle.go_part_core.specs.entry_core.Outlines as Outlines

@@ -1,0 +1,7 @@
+-- What the crates above name of go_local_core.
+pub use Rattle.go_walk_core.specs.local_core.Binding as Binding
+pub use Rattle.go_walk_core.specs.local_core.Outline as Outline
+pub use Rattle.go_walk_core.specs.local_core.Pieces as Pieces
+pub use Rattle.go_walk_core.specs.local_core.Steps as Steps
+pub use Rattle.go_walk_core.specs.local_core.Tables as Tables
+pub use Rattle.go_walk_core.specs.local_core.declared as declared

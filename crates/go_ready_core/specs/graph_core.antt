@@ -1,0 +1,3 @@
+-- What the crates above name of go_graph_core.
+pub use Rattle.go_fault_core.specs.graph_core.Packages as Packages
+pub use Rattle.go_fault_core.specs.graph_core.Sources as Sources

@@ -1,0 +1,2 @@
+-- What the crates above name of go_table_core.
+pub use Rattle.go_near_core.specs.table_core.Tables as Tables

@@ -1,0 +1,3 @@
+mod Many
+mod Zips
+mod Opening

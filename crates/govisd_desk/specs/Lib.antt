@@ -1,0 +1,4 @@
+pub mod Told
+pub mod Sessions
+pub mod Desks
+pub mod hall

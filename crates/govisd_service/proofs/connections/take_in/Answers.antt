@@ -1,0 +1,15 @@
+use denote.Param.{param}
+use denote.Param.Send.{sendable}
+use Rattle.std.proofs.Crossing as std
+use Rattle.std.proofs.sync.atomic.AtomicU64.TheSendSync as atomic
+use Rattle.go_crossing_core.proofs.Crossing.{hall_row_sync}
+use Rattle.govisd_service.proofs.connections.take_in.Goals as goal
+
+pub spawn-requires-send-F : goal.spawn-requires-send-F
+spawn-requires-send-F g c κs within =
+    let rt = c.type_bounds.sync-H in
+    let hall = hall_row_sync (param 1 g.row.L) g.L.Named g.L.Ledger in
+    let stream = c.type_bounds.send-S in
+    let open' = atomic.the_sync in
+    let alloc = std.send in
+    search sendable depth 30

@@ -1,0 +1,263 @@
+//! Connections: each has a session of its own.
+ghost use Rattle.std.specs.Prelude.{◌≡◌, ◌<◌, IfSome};
+ghost use Rattle.go_output_core.specs.Outputs.{IsWrittenOut};
+ghost use Rattle.govisd_service.specs.Ends.{IsConnection, turned_away};
+
+use crate::workers::start;
+use crate::{PARTS, TURNS};
+use go_output_core::write_out;
+use go_wire_core::{ServeEnd, serve};
+use govisd_desk::ConnectionDesk;
+use govisd_desk::hall::Hall;
+use govisd_desk::hall_core::Named;
+use std::alloc::Global;
+use std::io::{ErrorKind, Read, Write};
+use std::marker::Brand;
+use std::net::{OpenListener, OpenStream};
+use std::sync::Wait;
+use std::sync::atomic::{AtomicU64, Ordering};
+use std::sync::ledger::Blank;
+use std::thread;
+use std::thread::{Scope, Threads};
+use std::time::{Clock, Duration};
+
+/// The most connections that are served at once.
+const CONNECTIONS: u64 = 32;
+
+/// How many milliseconds pass before an accept for which something was wanting is made again.
+const PAUSE: u64 = 10;
+
+/// Serves a connection: the lines of one session, in order, each with its reply. At its end the session is closed.
+///
+/// The end is that of [`serve`], of 16,777,216 turns.
+#[tactic(auto, using(crate::proofs::Serving::connection_served))]
+pub fn serve_connection<L: Named, H: Wait, R: Read, W: Write>(
+    rt: &H,
+    alloc: Global,
+    hall: &Hall<L>,
+    reader: &mut R,
+    writer: &mut W,
+) -> ServeEnd
+    ensures { IfSome (R.remaining reader.old) (λ bytes. IsConnection result bytes (R.remaining reader.new) (W.contents writer.old) (W.contents writer.new)) }
+{
+    let mut desk = ConnectionDesk::new(alloc, hall);
+    let end = serve(rt, alloc, reader, writer, &mut desk, TURNS);
+    desk.close(rt);
+    end
+}
+
+// Tells a connection that there are too many.
+fn turn_away<W: Write>(writer: &mut W) -> Result<(), ErrorKind>
+    ensures { IsWrittenOut (W.contents writer.old) (W.contents writer.new) turned_away result }
+{
+    write_out(writer, b"{\"err\":\"O4\"}\n")
+}
+
+// Serves a stream, and counts it out.
+fn serve_stream<L: Named, H: Wait, S: Read + Write + OpenStream + Drop>(
+    rt: &H,
+    alloc: Global,
+    hall: &Hall<L>,
+    open: &AtomicU64,
+    stream: S,
+) {
+    let mut reader = stream;
+    let _set = reader.set_nodelay(true);
+    if let Ok(mut writer) = reader.try_clone() {
+        let _end = serve_connection(rt, alloc, hall, &mut reader, &mut writer);
+    }
+    drop(reader);
+    let _before = open.fetch_sub(1, Ordering::SeqCst);
+}
+
+// Takes a connection in, or turns it away where 32 are served.
+fn take_in<
+    's,
+    E,
+    L: Named + Send + Sync,
+    H: Threads + Wait + Sync,
+    S: Read + Write + OpenStream + Send + Drop + 's,
+>(
+    scope: &Scope<'s, E>,
+    rt: &'s H,
+    alloc: Global,
+    hall: &'s Hall<L>,
+    open: &'s AtomicU64,
+    stream: S,
+) {
+    if open.load(Ordering::SeqCst) >= CONNECTIONS {
+        let mut stream = stream;
+        let _told = turn_away(&mut stream);
+        return;
+    }
+    let _before = open.fetch_add(1, Ordering::SeqCst);
+    if scope
+        .spawn(move || serve_stream(rt, alloc, hall, open, stream))
+        .is_err()
+    {
+        let _before = open.fetch_sub(1, Ordering::SeqCst);
+    }
+}
+
+// Whether an accept that failed so found a connection that was gone before it was taken, or was interrupted.
+fn is_gone(kind: ErrorKind) -> bool {
+    match kind {
+        ErrorKind::ConnectionAborted => true,
+        ErrorKind::ConnectionReset => true,
+        ErrorKind::HostUnreachable => true,
+        ErrorKind::NetworkUnreachable => true,
+        ErrorKind::NetworkDown => true,
+        ErrorKind::Interrupted => true,
+        _ => false,
+    }
+}
+
+// Whether an accept that failed so wanted a file descriptor or memory. Of descriptors and of the system's buffers its numbers tell: ENFILE, EMFILE and
+// ENOBUFS.
+fn is_wanting(kind: ErrorKind, number: Option<i32>) -> bool {
+    match number {
+        Some(number) => {
+            kind == ErrorKind::OutOfMemory || number == 23 || number == 24 || number == 105
+        }
+        None => kind == ErrorKind::OutOfMemory,
+    }
+}
+
+// Accepts so many connections, or without end.
+fn accept_all<
+    's,
+    E,
+    L: Named + Send + Sync,
+    H: Threads + Wait + Clock + Sync,
+    A: OpenListener<Stream = S>,
+    S: Read + Write + OpenStream + Send + Drop + 's,
+>(
+    scope: &Scope<'s, E>,
+    rt: &'s H,
+    alloc: Global,
+    hall: &'s Hall<L>,
+    open: &'s AtomicU64,
+    listener: &A,
+    connections: Option<u64>,
+) -> ServeEnd {
+    let mut accepted = 0u64;
+    for _ in rt.forever() {
+        if connections == Some(accepted) {
+            return ServeEnd::Done;
+        }
+        match listener.accept() {
+            Ok((stream, _)) => {
+                accepted = accepted.wrapping_add(1);
+                take_in(scope, rt, alloc, hall, open, stream);
+            }
+            Err(error) if is_gone(error.kind()) => (),
+            Err(error) if is_wanting(error.kind(), error.raw_os_error()) => {
+                thread::sleep(rt, Duration::from_millis(PAUSE));
+            }
+            Err(_) => return ServeEnd::ReadFault,
+        }
+    }
+    unreachable!()
+}
+
+// Serves the connections of a listener in a hall that has workers, until the last has ended, and counts those that are open.
+fn serve_counted<
+    L: Named + Send + Sync,
+    H: Threads + Wait + Clock + Sync,
+    A: OpenListener<Stream = S>,
+    S: Read + Write + OpenStream + Send + Drop,
+>(
+    rt: &H,
+    alloc: Global,
+    hall: &Hall<L>,
+    open: &AtomicU64,
+    listener: &A,
+    connections: Option<u64>,
+) -> ServeEnd {
+    thread::scope(thread::scope_env(), rt, move |scope| {
+        accept_all(scope, rt, alloc, hall, open, listener, connections)
+    })
+}
+
+// Starts the workers of a hall, serves the connections of a listener and stops the hall.
+fn serve_in<
+    's,
+    E,
+    L: Named + Send + Sync,
+    H: Threads + Wait + Clock + Sync,
+    A: OpenListener<Stream = S>,
+    S: Read + Write + OpenStream + Send + Drop,
+>(
+    scope: &Scope<'s, E>,
+    rt: &'s H,
+    alloc: Global,
+    hall: &'s Hall<L>,
+    listener: &A,
+    workers: usize,
+    connections: Option<u64>,
+) -> ServeEnd {
+    let end = if start(scope, rt, hall, workers) {
+        let open = AtomicU64::new(0);
+        serve_counted(rt, alloc, hall, &open, listener, connections)
+    } else {
+        ServeEnd::Memory
+    };
+    hall.stop(rt);
+    end
+}
+
+// Serves the connections of a listener in a hall, with workers beside it.
+fn serve_beside<
+    L: Named + Send + Sync,
+    H: Threads + Wait + Clock + Sync,
+    A: OpenListener<Stream = S>,
+    S: Read + Write + OpenStream + Send + Drop,
+>(
+    rt: &H,
+    alloc: Global,
+    hall: &Hall<L>,
+    listener: &A,
+    workers: usize,
+    connections: Option<u64>,
+) -> ServeEnd {
+    thread::scope(thread::scope_env(), rt, move |scope| {
+        serve_in(scope, rt, alloc, hall, listener, workers, connections)
+    })
+}
+
+// Serves the connections of a listener in a hall of its own, under the name of a ledger.
+fn serve_named<
+    L: Named + Send + Sync,
+    H: Threads + Wait + Clock + Sync,
+    A: OpenListener<Stream = S>,
+    S: Read + Write + OpenStream + Send + Drop,
+>(
+    rt: &H,
+    alloc: Global,
+    blank: Blank,
+    listener: &A,
+    workers: usize,
+    connections: Option<u64>,
+) -> ServeEnd
+    requires { (blank.name ≡ L.name) × (blank.parts ≡ L.parts) × (L.all ≡ L.parts) × (1048576 < L.all) }
+{
+    match Hall::<L>::new(alloc, blank) {
+        Ok(hall) => serve_beside(rt, alloc, &hall, listener, workers, connections),
+        Err(_) => ServeEnd::Memory,
+    }
+}
+
+/// Serves the connections of a listener in a hall of its own, with so many workers. Each connection has lines without numbers and at most one session
+/// at a time, which is closed where the connection ends, for whatever cause. At most 32 are served at once; another is told `{"err":"O4"}` and closed.
+///
+/// [`ServeEnd::Done`] once so many connections came, where a number is given, those that were turned away among them; [`ServeEnd::ReadFault`] where an
+/// accept failed; [`ServeEnd::Memory`], with nothing accepted, where a hall or its workers cannot be made. At each end the connections that are served
+/// have ended, the hall is stopped and its workers have ended. An accept is made again where the connection was gone before it was taken, and, after
+/// 10 milliseconds, where a file descriptor or memory was wanting.
+pub fn run_serve<
+    H: Threads + Wait + Clock + Sync,
+    A: OpenListener<Stream = S>,
+    S: Read + Write + OpenStream + Send + Drop,
+>(rt: &H, alloc: Global, listener: &A, workers: usize, connections: Option<u64>) -> ServeEnd {
+    serve_named::<Brand, H, A, S>(rt, alloc, Blank::new(PARTS), listener, workers, connections)
+}

@@ -1,0 +1,15 @@
+//! The daemon: a hall with its workers, asked by one script of many sessions or by connections of one session each.
+#![tactic(auto)]
+
+mod connections;
+mod script;
+mod workers;
+
+pub use connections::{run_serve, serve_connection};
+pub use script::{Served, run_script};
+
+/// The turns of a script and of a connection: reads of at most 65,536 bytes each.
+const TURNS: u64 = 16_777_216;
+
+/// The parts of a hall's ledger of submits: more than sessions can be opened.
+const PARTS: u64 = 1_048_577;

@@ -1,0 +1,21 @@
+//! The workers of a hall.
+use govisd_desk::hall::{Hall, OpenGate, work};
+use govisd_desk::hall_core::Named;
+use std::sync::Wait;
+use std::thread::{Scope, Threads};
+use std::time::Clock;
+
+/// Starts so many workers in a scope. `false` where not all of them can be started.
+pub(crate) fn start<'s, E, L: Named + Send + Sync, H: Threads + Wait + Clock + Sync>(
+    scope: &Scope<'s, E>,
+    rt: &'s H,
+    hall: &'s Hall<L>,
+    workers: usize,
+) -> bool {
+    for _ in 0..workers {
+        if scope.spawn(move || work(rt, hall, &OpenGate)).is_err() {
+            return false;
+        }
+    }
+    true
+}
