@@ -12,6 +12,7 @@
 //	gopackages reduce MODULE FOLDER ROOT..   writes the packages below folders as a workspace of a module, without what is outside the grammar
 //	gopackages own MODULE FOLDER WHOLE       writes such a workspace again, without what only govisd refuses
 //	gopackages checked PROGRAM FOLDER MODULE what `govisd check` finds in it
+//	gopackages query [-list LISTING] [-every N] [-outside N] FILE..   what each identifier denotes and which names may stand in its place, for queries.py
 //	gopackages refused PROGRAM FOLDER MODULE WHOLE   whether `govisd check` refuses of the whole what is left out of the folder, and nothing else
 //
 // The status is 0 where nothing differs but in the ways that are named, 1 where something does, 2 where a run fails.
@@ -99,6 +100,8 @@ func tellAll(write func(out *bufio.Writer)) {
 func main() {
 	show := flag.Int("show", 40, "how many differences are printed")
 	listed := flag.String("list", "", "what the go command refuses, for workspaces of several packages")
+	every := flag.Int("every", 1, "each so many identifiers have all names put in their place")
+	outside := flag.Int("outside", 1, "outside functions each so many, of which also -every holds")
 	flag.BoolVar(&onlyRefusals, "refusals", false, "the answers tell no more than what is refused")
 	if len(os.Args) < 3 {
 		fail(fmt.Errorf("usage: gopackages generate FOLDER COUNT SEED | several FOLDER COUNT SEED | table FOLDER | ask PROGRAM FOLDER FILE.. | list GO FOLDER FILE.. | judge FILE.. | fake FILE.. | compare ANSWERS FILE.."))
@@ -125,6 +128,11 @@ func main() {
 			goList = readListing(*listed)
 		}
 		tell(words, true)
+	case mode == "query":
+		if *listed != "" {
+			goList = readListing(*listed)
+		}
+		queryAll(words, *every, *outside)
 	case mode == "reduce" && len(words) > 2:
 		reduceAll(words[0], words[1], false, words[2:])
 	case mode == "own" && len(words) == 3:
