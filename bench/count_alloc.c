@@ -5,6 +5,8 @@
 #include <malloc.h>
 #include <stdio.h>
 #include <stdlib.h>
+#include <sys/syscall.h>
+#include <unistd.h>
 
 static size_t held, blocks;
 /* what there was before the blocks that are given back now, and before the most of them; and how many these are */
@@ -82,11 +84,18 @@ void free(void *block) {
     next(block);
 }
 
-__attribute__((destructor)) static void tell(void) {
+static void tell(void) {
     const char *path = getenv("COUNT_ALLOC");
     FILE *file = path ? fopen(path, "w") : NULL;
     if (file) {
         fprintf(file, "%zu %zu\n", held_then, blocks_then);
         fclose(file);
     }
+}
+
+/* the way in which these programs end */
+void _exit(int status) {
+    tell();
+    for (;;)
+        syscall(SYS_exit_group, status);
 }

@@ -2,12 +2,16 @@
 # Makes each allocation of `govisd resolve` fail in turn, over the source of examples/shadowing.go (or the file that is
 # given), or of `govisd check` with what follows the word check: each run must end with the right report, or with none, a
 # message and status 1; never with another report. With the word internal it is `govisd check` of a workspace in which one
-# package may import an internal one and another may not, and what is right was worked out by hand from docs/RULES.md.
+# package may import an internal one and another may not, and what is right was worked out by hand from docs/RULES.md. With
+# the words script or serve it is the daemon, each of whose replies must be the right one, or M0, or none where it ends or
+# the connection does: fail_alloc.py says how.
 #
 #     bench/fail_alloc.sh
 #     bench/fail_alloc.sh FILE.go
 #     bench/fail_alloc.sh check examples/shop --module ex.com/shop
 #     bench/fail_alloc.sh internal
+#     bench/fail_alloc.sh [--every N] [--workers N] script FILE..
+#     bench/fail_alloc.sh [--every N] [--workers N] serve
 set -euo pipefail
 
 here=$(cd "$(dirname "$0")" && pwd)
@@ -37,6 +41,10 @@ run() {
 
 source=/dev/null
 case ${1:-} in
+--every | --workers | script | serve)
+    python3 "$here/fail_alloc.py" "$work/fail.so" "$govisd" "$@"
+    exit
+    ;;
 check)
     words=("$@")
     ;;
