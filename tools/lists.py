@@ -21,15 +21,31 @@ WHOLE = set(
     go_parse_stmts go_parse_core go_path_core go_cycle_core go_decl_core
     govisd govisd_show govisd_probe govisd_cases""".split()
 )
-# Crates that take all but small crates through one, also where they do not name that one: what stands above would else have two ways to most crates.
+# Crates that take all but small crates through one or two others, also where they do not name these: what stands above would else have several ways to
+# most crates. They stand in the order of crates.txt, which is that of what they take.
 SERIAL = {
-    "go_batch_core": "go_submit_core",
-    "go_sched_core": "go_batch_core",
-    "go_board_core": "go_sched_core",
-    "go_hall_core": "go_board_core",
-    "go_query_core": "go_complete_core",
-    "go_crossing_core": "go_hall",
-    "govisd_desk": "go_hall",
+    "go_ready_core": ["go_known_core"],
+    "go_package_core": ["go_used_core", "go_ready_core"],
+    "go_part_core": ["go_package_core"],
+    "go_near_core": ["go_part_core"],
+    "go_whole_core": ["go_near_core"],
+    "go_meaning_core": ["go_make_core"],
+    "go_snap_core": ["go_emit_core"],
+    "go_thread_core": ["go_snap_core"],
+    "go_submit_core": ["go_thread_core"],
+    "go_batch_core": ["go_submit_core"],
+    "go_sched_core": ["go_batch_core"],
+    "go_board_core": ["go_sched_core"],
+    "go_hall_core": ["go_board_core"],
+    "go_spelling_core": ["go_snap_core"],
+    "go_place_core": ["go_spelling_core"],
+    "go_complete_core": ["go_place_core"],
+    "go_query_core": ["go_complete_core"],
+    "go_hall": ["go_hall_core", "go_query_core"],
+    "go_crossing_core": ["go_hall"],
+    "govisd_desk": ["go_crossing_core"],
+    "govisd_service": ["govisd_desk"],
+    "govisd_folders": ["go_snap_core"],
 }
 # Modules that are named as a word of the library, which a reader would take them for: what they are passed on as.
 PASSED_AS = {"All": "AllPackages"}
@@ -167,8 +183,8 @@ class Names:
 
 
 # How many paths of crates.txt there may be in all: more than there are, so that a new crate does not move what others list. rattle-kit-13b reads a crate's
-# sources anew for each path, twice a gate: a million paths cost it some forty minutes.
-BUDGET = 1_600_000
+# sources anew for each path, twice a gate: half a million paths cost it some 23 minutes, of which those on the longest chain of crates count whole.
+BUDGET = 700_000
 
 
 def budgeted(repository, names, named):
@@ -188,8 +204,8 @@ def budgeted(repository, names, named):
         return 1 + sum(ways(d) for d in edges[k])
 
     for k, through in SERIAL.items():
-        below = reached(through)
-        edges[k] = {through} | {d for d in edges[k] if d in SMALL or d not in below or is_made(k, d) or ways(d) < 1000}
+        below = set().union(*[reached(it) for it in through])
+        edges[k] = {*through} | {d for d in edges[k] if d in SMALL or d not in below or is_made(k, d) or ways(d) < 1000}
     height = {}
 
     def high(k):
@@ -244,7 +260,7 @@ class Ways:
 
     def height(self, crate):
         if crate not in self.heights:
-            self.heights[crate] = 1 + max([self.height(it) for it in self.named[crate]], default=0)
+            self.heights[crate] = 1 + max([self.height(it) for it in {*self.named[crate], *self.kept_edges[crate]}], default=0)
         return self.heights[crate]
 
     def below(self, crate):

@@ -18,6 +18,11 @@ pub mod block_core {
     pub use go_face_core::block_core::{Blocks, Exports, Imported, blocks, import_names};
 }
 
+/// What the crates above name of `go_denote_core`.
+pub mod denote_core {
+    pub use go_face_core::denote_core::Outcome;
+}
+
 /// What the crates above name of `go_entry_core`.
 pub mod entry_core {
     pub use go_face_core::entry_core::ShownPackages;
@@ -25,7 +30,7 @@ pub mod entry_core {
 
 /// What the crates above name of `go_face_core`.
 pub mod face_core {
-    pub use go_face_core::{FaceTable, PackageFaces};
+    pub use go_face_core::{Face, FaceTable, PackageFaces, lend};
 }
 
 /// What the crates above name of `go_graph_core`.

@@ -8,7 +8,7 @@ pub mod block_core
 pub mod denote_core
 pub mod expr_core
 pub mod face_core
-pub mod fault_core
 pub mod handle_core
+pub mod literal_core
 pub mod local_core
 pub mod report_core

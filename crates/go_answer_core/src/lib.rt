@@ -33,12 +33,7 @@ pub mod denote_core {
 
 /// What the crates above name of `go_face_core`.
 pub mod face_core {
-    pub use go_face_core::{Face, FaceTable, PackageFaces, WrittenFaces, lend};
-}
-
-/// What the crates above name of `go_fault_core`.
-pub mod fault_core {
-    pub use go_fault_core::PackageFault;
+    pub use go_face_core::{Face, FaceTable, PackageFaces, WrittenFaces};
 }
 
 /// What the crates above name of `go_handle_core`.

@@ -4,4 +4,5 @@ pub mod mirrors
 pub mod part_core
 pub mod snap_core
 pub mod submit_core
+pub mod thread_core_lemmas
 pub mod whole_core

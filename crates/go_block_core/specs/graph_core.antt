@@ -5,7 +5,6 @@ pub use Rattle.go_graph_core.specs.Lists as Lists
 pub use Rattle.go_graph_core.proofs.OneTarget as OneTarget
 pub use Rattle.go_graph_core.proofs.OutcomeLaws as OutcomeLaws
 pub use Rattle.go_graph_core.specs.Packages as Packages
-pub use Rattle.go_graph_core.proofs.PlanEdges as PlanEdges
 pub use Rattle.go_graph_core.proofs.PlanLaws as PlanLaws
 pub use Rattle.go_graph_core.specs.Plans as Plans
 pub use Rattle.go_graph_core.specs.Sources as Sources

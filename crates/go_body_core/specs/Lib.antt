@@ -9,7 +9,6 @@ pub mod WellFormed
 pub mod codes
 pub mod mirrors
 pub mod block_core
-pub mod decide_core
 pub mod denote_core
 pub mod entry_core
 pub mod env_core
@@ -17,13 +16,11 @@ pub mod expr_core
 pub mod face_core
 pub mod handle_core
 pub mod inline_core
-pub mod level_core
 pub mod local_core
 pub mod names_core
 pub mod open_core
 pub mod piece_core
 pub mod scope_core
-pub mod select_core
 pub mod settle_core
 pub mod table_core
 pub mod tree_core

@@ -24,7 +24,7 @@ pub mod block_core {
 
 /// What the crates above name of `go_entry_core`.
 pub mod entry_core {
-    pub use go_env_core::entry_core::ImportedNames;
+    pub use go_env_core::entry_core::{ImportedNames, outlines};
 }
 
 /// What the crates above name of `go_env_core`.

@@ -6,3 +6,18 @@
 mod completing;
 
 pub use completing::names_there;
+
+/// What the crates above name of `go_answer_core`.
+pub mod answer_core {
+    pub use go_place_core::answer_core::{Answer, Site};
+}
+
+/// What the crates above name of `go_part_core`.
+pub mod part_core {
+    pub use go_place_core::part_core::{Part, part_has_occurrences};
+}
+
+/// What the crates above name of `go_snap_core`.
+pub mod snap_core {
+    pub use go_place_core::snap_core::{FileIn, PlacedFault, Snapshot};
+}

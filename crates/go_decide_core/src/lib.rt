@@ -15,7 +15,7 @@ pub use laws::{
 
 /// What the crates above name of `go_denote_core`.
 pub mod denote_core {
-    pub use go_denote_core::Selection;
+    pub use go_denote_core::{Outcome, Selection};
 }
 
 /// What the crates above name of `go_mset_core`.

@@ -22,9 +22,26 @@ pub mod answer_core {
     pub use go_meaning_core::answer_core::{Answer, Site};
 }
 
+/// What the crates above name of `go_face_core`.
+pub mod face_core {
+    pub use go_meaning_core::face_core::Face;
+}
+
+/// What the crates above name of `go_graph_core`.
+pub mod graph_core {
+    pub use go_meaning_core::graph_core::{PackageSource, SourceFile, Workspace, assemble};
+}
+
 /// What the crates above name of `go_local_core`.
 pub mod local_core {
     pub use go_local_core::Fault;
+}
+
+/// What the crates above name of `go_make_core`.
+pub mod make_core {
+    pub use go_meaning_core::make_core::{
+        Told, input_of, package_of, part_of, parts_again, parts_of,
+    };
 }
 
 /// What the crates above name of `go_package_core`.
@@ -32,7 +49,22 @@ pub mod package_core {
     pub use go_meaning_core::package_core::FileAnswers;
 }
 
+/// What the crates above name of `go_part_core`.
+pub mod part_core {
+    pub use go_meaning_core::part_core::{
+        Part, PartFile, PartInput, Parts, compile_part, one_part, part_has_occurrences,
+    };
+}
+
 /// What the crates above name of `go_tree_core`.
 pub mod tree_core {
     pub use go_tree_core::OccId;
+}
+
+/// What the crates above name of `go_whole_core`.
+pub mod whole_core {
+    pub use go_meaning_core::whole_core::{
+        check_is_local, imports_bind_theirs, inputs_stay, one_whole, parts_are_whole,
+        parts_come_in_order,
+    };
 }

@@ -12,4 +12,5 @@ pub mod block_core_lemmas
 pub mod graph_core
 pub mod open_core
 pub mod parse_core
+pub mod scope_core
 pub mod written_core

@@ -5,15 +5,12 @@ pub mod Looks
 pub mod Scenes
 pub mod mirrors
 pub mod block_core
-pub mod decide_core
 pub mod entry_core
 pub mod face_core
 pub mod handle_core
 pub mod inline_core
-pub mod level_core
 pub mod names_core
 pub mod scope_core
-pub mod select_core
 pub mod settle_core
 pub mod table_core
 pub mod written_core

@@ -34,6 +34,11 @@ pub mod block_core {
     };
 }
 
+/// What the crates above name of `go_denote_core`.
+pub mod denote_core {
+    pub use go_handle_core::denote_core::Outcome;
+}
+
 /// What the crates above name of `go_entry_core`.
 pub mod entry_core {
     pub use go_entry_core::ShownPackages;

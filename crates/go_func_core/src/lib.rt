@@ -23,7 +23,7 @@ pub mod body_core {
 
 /// What the crates above name of `go_entry_core`.
 pub mod entry_core {
-    pub use go_body_core::entry_core::ImportedNames;
+    pub use go_body_core::entry_core::{ImportedNames, outlines};
 }
 
 /// What the crates above name of `go_env_core`.

@@ -4,5 +4,6 @@ pub mod Insides
 pub mod Lasts
 pub mod Listed
 pub mod Prefixes
+pub mod Refused
 pub mod Texts
 pub mod Walks

@@ -4,6 +4,7 @@ pub mod Coding
 pub mod Edits
 pub mod Laws
 pub mod Queries
+pub mod Refusals
 pub mod Seat
 pub mod mirrors
 pub mod batch_core
@@ -15,3 +16,4 @@ pub mod shown_core
 pub mod snap_core
 pub mod submit_core
 pub mod symbol_core
+pub mod thread_core_lemmas

@@ -1,10 +1,11 @@
 //! The hall.
-ghost use Rattle.std.specs.Prelude.{◌≡◌, ◌+◌, ◌<◌, [], IfOk, OnErr, OnOk, length};
+ghost use Rattle.std.specs.Prelude.{◌≡◌, ◌⊎◌, ◌+◌, ◌<◌, [], IfErr, IfOk, OnErr, OnOk, length};
 ghost use Rattle.std.specs.List.{sum_by};
 ghost use Rattle.go_hall_core.specs.sched_core.Service.{Service, empty};
 ghost use Rattle.go_hall_core.specs.submit_core.Trees.{tree_with};
 ghost use Rattle.go_hall_core.specs.Counts.{opens_in, submits_in};
 ghost use Rattle.go_hall_core.specs.sched_core.Steps.{Replay};
+ghost use Rattle.go_hall.specs.Refusals.{IsOpenRefusal, IsSubmitRefusal};
 
 use crate::session::Session;
 use go_graph_core::Workspace;
@@ -60,9 +61,13 @@ impl<L: Named> Hall<L> {
     ///
     /// # Errors
     ///
-    /// What `HallState::open` answers.
+    /// What `HallState::open` answers. Meanwhile others may open and close, so the rule is one that some state of the hall gives: `Rule::O1` where a session
+    /// holds the module, `Rule::O3` where it overlaps another one, `Rule::O4` where no place is left, `Rule::H1` where the history is full, `Rule::H2` where
+    /// the hall is stopped, and `Rule::M0` where memory is wanting.
+    #[tactic(auto, using(crate::proofs::Refused::open_refused, crate::proofs::Refused::empty_refused))]
     pub fn open<R: Wait>(&self, rt: &R, own: Module) -> Result<Session<'_, L>, Rule>
-        ensures { IfOk result (λ s. (s.draft ≡ tree_with own []) × (s.submits ≡ 0)) }
+        ensures ok { IfOk result (λ s. (s.draft ≡ tree_with own []) × (s.submits ≡ 0)) }
+        ensures err { IfErr result (λ rule. IsOpenRefusal own rule) }
     {
         let Ok(again) = own.share() else {
             return Err(Rule::M0);
@@ -95,6 +100,7 @@ impl<L: Named> Hall<L> {
     }
 
     // Submits a tree, and wakes the workers.
+    #[tactic(auto, using(crate::proofs::Refused::submit_refused))]
     pub(crate) fn submit<R: Wait>(
         &self,
         rt: &R,
@@ -104,6 +110,7 @@ impl<L: Named> Hall<L> {
     ) -> Result<Ticket, Rule>
         ensures counted { OnOk result (mine.new.count ≡ mine.old.count + 1) }
         ensures refused { OnErr result (mine.new.count ≡ mine.old.count) }
+        ensures err { IfErr result (λ rule. IsSubmitRefusal id tree rule) }
     {
         let answer = self.state.lock(rt).submit(mine, id, tree);
         self.work.notify_all();
@@ -116,7 +123,9 @@ impl<L: Named> Hall<L> {
     }
 
     // Waits until a submission is published or given back, or the hall is stopped. The number of its batch.
-    pub(crate) fn published<R: Wait>(&self, rt: &R, ticket: Ticket) -> Result<u64, Rule> {
+    pub(crate) fn published<R: Wait>(&self, rt: &R, ticket: Ticket) -> Result<u64, Rule>
+        ensures { IfErr result (λ rule. (rule ≡ Rule.M0) ⊎ (rule ≡ Rule.H2)) }
+    {
         let state = self
             .built
             .wait_while(rt, self.state.lock(rt), |state| is_pending(state, ticket));

@@ -4,6 +4,7 @@ ghost use Rattle.go_hall_core.specs.submit_core.Published.{BeginsWith};
 ghost use Rattle.go_hall.specs.Asked.{BeginsTold, IsAnswer, IsPartAnswer};
 ghost use Rattle.go_hall.specs.Built.{IsBuilt};
 ghost use Rattle.go_hall.specs.Edits.{IsEditOf, IsEditRefusal};
+ghost use Rattle.go_hall.specs.Refusals.{IsBuildRefusal};
 ghost use Rattle.go_hall.specs.Seat.{looked_with};
 
 use crate::asked::Look;
@@ -163,6 +164,7 @@ impl<'a, L: Named> Session<'a, L> {
         ensures told { OnOk result (BeginsWith self.new.seen self.old.told) }
         ensures same { self.new ≡ record self.old { seen = self.new.seen } }
         ensures answer { IfOk result (λ b. IsBuilt self.new.seen self.old.draft b.batch b.faults.items) }
+        ensures err { IfErr result (λ rule. rule ≡ Rule.M0) }
     {
         let board = self.enter()?;
         let faults = faults_built(self.alloc, &board, number, &self.draft)?;
@@ -184,6 +186,7 @@ impl<'a, L: Named> Session<'a, L> {
         ensures same { self.new ≡ record self.old { seen = self.new.seen; submits = self.new.submits } }
         ensures built { IfOk result (λ b. IsBuilt self.new.seen self.old.draft b.batch b.faults.items) }
         ensures counted { OnOk result (self.new.submits ≡ self.old.submits + 1) }
+        ensures err { IfErr result (λ rule. IsBuildRefusal self.old.id self.old.draft rule) }
     {
         let Ok(tree) = self.draft.share() else {
             return Err(Rule::M0);

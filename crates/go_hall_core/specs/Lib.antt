@@ -6,3 +6,4 @@ pub mod board_core
 pub mod board_core_lemmas
 pub mod sched_core
 pub mod submit_core
+pub mod thread_core_lemmas

@@ -1,5 +1,5 @@
 //! The lock's value, with the ledger of the submits.
-ghost use Rattle.std.specs.Prelude.{◌≡◌, ℕ, ◌<◌, ◌+◌, [], false, true, IfErr, IfOk, OnErr, OnOk, length};
+ghost use Rattle.std.specs.Prelude.{◌≡◌, ◌⊎◌, ℕ, ◌<◌, ◌+◌, [], false, true, IfErr, IfOk, OnErr, OnOk, length};
 ghost use Rattle.std.specs.List.{sum_by};
 ghost use Rattle.go_board_core.specs.sched_core.Service.{Service, empty, open_rule, submit_rule};
 ghost use Rattle.go_board_core.specs.sched_core.Steps.{Replay};
@@ -78,6 +78,7 @@ impl<L: Named> Counted<L> {
     ///
     /// As `HallState::open`.
     pub fn open(&mut self, own: Module) -> Result<(SessionId, BoardReader, Submits<L>), Rule>
+        ensures replays { Replay empty self.old.history self.old.service }
         ensures ok { IfOk result (λ p. (self.old.stopped ≡ false) × Recorded self.old (Event.Open own) (Reply.Opened p.0) self.new × (p.2.count ≡ 0)) }
         ensures err { IfErr result (λ rule. (self.new ≡ self.old) × IsRefusal self.old.stopped (open_rule self.old.service own) rule) }
     {
@@ -95,6 +96,7 @@ impl<L: Named> Counted<L> {
         tree: ModuleTree,
     ) -> Result<Ticket, Rule>
         requires { 0 < share.old.parts }
+        ensures replays { Replay empty self.old.history self.old.service }
         ensures parts { share.new.parts ≡ share.old.parts }
         ensures counted { OnOk result (share.new.amount ≡ share.old.amount + 1) }
         ensures refused { OnErr result (share.new.amount ≡ share.old.amount) }
@@ -117,6 +119,7 @@ impl<L: Named> Counted<L> {
         id: SessionId,
         tree: ModuleTree,
     ) -> Result<Ticket, Rule>
+        ensures replays { IfErr result (λ rule. (rule ≡ Rule.M0) ⊎ Replay empty self.old.history self.old.service) }
         ensures counted { OnOk result (mine.new.count ≡ mine.old.count + 1) }
         ensures refused { OnErr result (mine.new.count ≡ mine.old.count) }
         ensures ok { IfOk result (λ ticket. (self.old.stopped ≡ false) × Recorded self.old (Event.Submit id tree) (Reply.Submitted ticket) self.new) }

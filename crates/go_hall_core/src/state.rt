@@ -183,6 +183,7 @@ impl HallState {
     #[tactic(auto, using(crate::proofs::Lengths::opened_few))]
     pub fn open(&mut self, own: Module) -> Result<(SessionId, BoardReader), Rule>
         ensures ok { IfOk result (λ p. (self.old.stopped ≡ false) × Recorded self.old (Event.Open own) (Reply.Opened p.0) self.new) }
+        ensures replays { Replay empty self.old.history self.old.service }
         ensures few { OnOk result (length self.new.history ≤ 1048576) }
         ensures err { IfErr result (λ rule. (self.new ≡ self.old) × IsRefusal self.old.stopped (open_rule self.old.service own) rule) }
     {
@@ -212,6 +213,7 @@ impl HallState {
     ///
     /// The first rule that the submission breaks: once the hall is stopped, `Rule::H2` where none but `Rule::H1` is. `Rule::M0` where memory is wanting.
     pub fn submit(&mut self, id: SessionId, tree: ModuleTree) -> Result<Ticket, Rule>
+        ensures replays { Replay empty self.old.history self.old.service }
         ensures ok { IfOk result (λ ticket. (self.old.stopped ≡ false) × Recorded self.old (Event.Submit id tree) (Reply.Submitted ticket) self.new) }
         ensures err { IfErr result (λ rule. (self.new ≡ self.old) × IsRefusal self.old.stopped (submit_rule self.old.service id tree) rule) }
     {

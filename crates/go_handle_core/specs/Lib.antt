@@ -5,6 +5,8 @@ pub mod Names
 pub mod mirrors
 pub mod constant_core
 pub mod decide_core
+pub mod denote_core
+pub mod embed_core
 pub mod level_core
 pub mod operand_core
 pub mod select_core

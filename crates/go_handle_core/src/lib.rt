@@ -26,6 +26,11 @@ pub use selecting::selection;
 pub use signatures::{SignatureRef, typed};
 pub use types::{TypeParts, TypeRef};
 
+/// What the crates above name of `go_denote_core`.
+pub mod denote_core {
+    pub use go_decide_core::denote_core::Outcome;
+}
+
 /// What the crates above name of `go_operand_core`.
 pub mod operand_core {
     pub use go_decide_core::operand_core::{Operand, ValueType};

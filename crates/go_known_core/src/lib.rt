@@ -11,21 +11,6 @@ mod stage;
 pub use laws::places_agree;
 pub use package::package_values;
 
-/// What the crates above name of `go_entry_core`.
-pub mod entry_core {
-    pub use go_value_core::entry_core::{ImportedNames, outlines};
-}
-
-/// What the crates above name of `go_env_core`.
-pub mod env_core {
-    pub use go_value_core::env_core::Scene;
-}
-
-/// What the crates above name of `go_inline_core`.
-pub mod inline_core {
-    pub use go_value_core::inline_core::InlineTypes;
-}
-
 /// What the crates above name of `go_value_core`.
 pub mod value_core {
     pub use go_value_core::through_itself;

@@ -2,8 +2,10 @@
 pub use Rattle.go_graph_core.proofs.Assemblies as Assemblies
 pub use Rattle.go_graph_core.proofs.AssemblyLaws as AssemblyLaws
 pub use Rattle.go_graph_core.specs.Imports as Imports
+pub use Rattle.go_graph_core.specs.Lists as Lists
 pub use Rattle.go_graph_core.specs.Packages as Packages
 pub use Rattle.go_graph_core.proofs.Places as Places
+pub use Rattle.go_graph_core.proofs.PlanEdges as PlanEdges
 pub use Rattle.go_graph_core.proofs.PlanLaws as PlanLaws
 pub use Rattle.go_graph_core.specs.Sources as Sources
 pub use Rattle.go_graph_core.specs.Workspaces as Workspaces

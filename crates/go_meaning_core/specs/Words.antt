@@ -9,8 +9,8 @@ use Rattle.go_operand_core.specs.declared.types.TypeForm.{TypeForm}
 use Rattle.go_operand_core.specs.declared.types.TypeForm.TheVariants as forms
 use Rattle.go_operand_core.specs.declared.types.ValueType.{ValueType}
 use Rattle.go_operand_core.specs.declared.types.ValueType.TheVariants as value_types
-use Rattle.go_part_core.specs.table_core.Entries.{Entry, find_entry}
-use Rattle.go_part_core.specs.decide_core.Rules.{form_of, results_of}
+use Rattle.go_make_core.specs.table_core.Entries.{Entry, find_entry}
+use Rattle.go_make_core.specs.decide_core.Rules.{form_of, results_of}
 use Rattle.go_instruction_core.specs.declared.letters.Word.{Word}
 use Rattle.go_instruction_core.specs.declared.letters.Word.TheVariants as words
 use Rattle.go_fragment_core.specs.declared.names.Gives.{Gives}

@@ -1,2 +1,2 @@
 -- What the crates above name of go_expr_core.
-pub use Rattle.go_part_core.specs.expr_core.Laws as Laws
+pub use Rattle.go_make_core.specs.expr_core.Laws as Laws

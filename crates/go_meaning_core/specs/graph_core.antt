@@ -1,5 +1,13 @@
 -- What the crates above name of go_graph_core.
-pub use Rattle.go_part_core.specs.graph_core.Lists as Lists
-pub use Rattle.go_part_core.specs.graph_core.Packages as Packages
-pub use Rattle.go_part_core.specs.graph_core.PlanEdges as PlanEdges
-pub use Rattle.go_part_core.specs.graph_core.Workspaces as Workspaces
+pub use Rattle.go_make_core.specs.graph_core.Assemblies as Assemblies
+pub use Rattle.go_make_core.specs.graph_core.AssemblyLaws as AssemblyLaws
+pub use Rattle.go_make_core.specs.graph_core.Imports as Imports
+pub use Rattle.go_make_core.specs.graph_core.Lists as Lists
+pub use Rattle.go_make_core.specs.graph_core.Packages as Packages
+pub use Rattle.go_make_core.specs.graph_core.Places as Places
+pub use Rattle.go_make_core.specs.graph_core.PlanEdges as PlanEdges
+pub use Rattle.go_make_core.specs.graph_core.PlanLaws as PlanLaws
+pub use Rattle.go_make_core.specs.graph_core.Sources as Sources
+pub use Rattle.go_make_core.specs.graph_core.Workspaces as Workspaces
+pub use Rattle.go_make_core.specs.graph_core.Zips as Zips
+pub use Rattle.go_make_core.specs.graph_core.declared as declared

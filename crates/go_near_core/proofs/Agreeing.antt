@@ -22,38 +22,38 @@ use Rattle.go_operand_core.specs.Values.{is_over, form_basic, basic_under, defau
 use Rattle.go_operand_core.specs.Assign.{takes_nil, takes_untyped, untyped_assignable, assignable, taken, common_typed, common_untyped, common_nil, common, comparable_typed, comparable_untyped, comparable_nil, comparable}
 use Rattle.go_operand_core.specs.Operators.{group, divides, takes, is_some_zero, with_constants, value, arithmetic, ordered, equated, binary_in, binary_operand}
 use Rattle.go_operand_core.specs.Prefixes.{prefix, refused_unary, signed, pointed, indirection, address, signed_over, unary_in, unary_operand}
-use Rattle.go_file_core.specs.denote_core.declared.things.Stand.{Stand}
-use Rattle.go_file_core.specs.denote_core.declared.things.Builtin.TheVariants as builtins
-use Rattle.go_file_core.specs.denote_core.declared.things.Dot.{Dot}
-use Rattle.go_file_core.specs.denote_core.declared.things.Dot.TheVariants as dots
-use Rattle.go_file_core.specs.denote_core.declared.things.Argument.{Argument}
-use Rattle.go_file_core.specs.denote_core.declared.things.Argument.TheVariants as arguments
-use Rattle.go_file_core.specs.denote_core.declared.things.Denoted.{Denoted}
-use Rattle.go_file_core.specs.denote_core.declared.things.Denoted.TheVariants as denotes
-use Rattle.go_file_core.specs.denote_core.Answers.{refused, found_answer, name_answer}
-use Rattle.go_file_core.specs.denote_core.Selectors.{selector_answer}
-use Rattle.go_file_core.specs.denote_core.Arguments.{argument_of_result, arguments_of}
-use Rattle.go_file_core.specs.denote_core.Calls.{call_answer}
-use Rattle.go_file_core.specs.denote_core.Laws.{SaysAlike, ValueAlike, GivenAlike, EachAlike, ArgumentAlike, ArgumentsAlike, CallsAlike}
-use Rattle.go_file_core.specs.denote_core.Locality.{selectors_local, calls_local}
-use Rattle.go_file_core.specs.literal_core.declared.things.KeyAnswer.{KeyAnswer}
-use Rattle.go_file_core.specs.literal_core.declared.things.Keys.{Keys}
-use Rattle.go_file_core.specs.literal_core.declared.things.Mode.{Mode}
-use Rattle.go_file_core.specs.literal_core.declared.things.Mode.TheVariants as modes
-use Rattle.go_file_core.specs.literal_core.declared.things.NamedField.{NamedField}
-use Rattle.go_file_core.specs.literal_core.declared.things.NamedField.TheVariants as nameds
-use Rattle.go_file_core.specs.literal_core.Look.{FieldOf}
-use Rattle.go_file_core.specs.literal_core.Fields.{shown_field, named_field}
-use Rattle.go_file_core.specs.literal_core.Literals.{is_struct, struct_rule, struct_mode, field_type_at, literal_rule, literal_mode, element_target}
-use Rattle.go_file_core.specs.literal_core.Keys.{refused_key, missing_rule, found_key, key_answer}
-use Rattle.go_file_core.specs.expr_core.declared.things.Judged.{Judged}
-use Rattle.go_file_core.specs.expr_core.Looks.{Looks, look_of_place, literals_at}
-use Rattle.go_file_core.specs.expr_core.Operators.{of_operand, pointer_type, is_star, passed, unary_of, operand_of, binary_operands, binary_of}
-use Rattle.go_file_core.specs.expr_core.Elements.{key_target_by, is_again, element_type, misfit_rule, element_rule}
+use Rattle.go_part_core.specs.denote_core.declared.things.Stand.{Stand}
+use Rattle.go_part_core.specs.denote_core.declared.things.Builtin.TheVariants as builtins
+use Rattle.go_part_core.specs.denote_core.declared.things.Dot.{Dot}
+use Rattle.go_part_core.specs.denote_core.declared.things.Dot.TheVariants as dots
+use Rattle.go_part_core.specs.denote_core.declared.things.Argument.{Argument}
+use Rattle.go_part_core.specs.denote_core.declared.things.Argument.TheVariants as arguments
+use Rattle.go_part_core.specs.denote_core.declared.things.Denoted.{Denoted}
+use Rattle.go_part_core.specs.denote_core.declared.things.Denoted.TheVariants as denotes
+use Rattle.go_part_core.specs.denote_core.Answers.{refused, found_answer, name_answer}
+use Rattle.go_part_core.specs.denote_core.Selectors.{selector_answer}
+use Rattle.go_part_core.specs.denote_core.Arguments.{argument_of_result, arguments_of}
+use Rattle.go_part_core.specs.denote_core.Calls.{call_answer}
+use Rattle.go_part_core.specs.denote_core.Laws.{SaysAlike, ValueAlike, GivenAlike, EachAlike, ArgumentAlike, ArgumentsAlike, CallsAlike}
+use Rattle.go_part_core.specs.denote_core.Locality.{selectors_local, calls_local}
+use Rattle.go_part_core.specs.literal_core.declared.things.KeyAnswer.{KeyAnswer}
+use Rattle.go_part_core.specs.literal_core.declared.things.Keys.{Keys}
+use Rattle.go_part_core.specs.literal_core.declared.things.Mode.{Mode}
+use Rattle.go_part_core.specs.literal_core.declared.things.Mode.TheVariants as modes
+use Rattle.go_part_core.specs.literal_core.declared.things.NamedField.{NamedField}
+use Rattle.go_part_core.specs.literal_core.declared.things.NamedField.TheVariants as nameds
+use Rattle.go_part_core.specs.literal_core.Look.{FieldOf}
+use Rattle.go_part_core.specs.literal_core.Fields.{shown_field, named_field}
+use Rattle.go_part_core.specs.literal_core.Literals.{is_struct, struct_rule, struct_mode, field_type_at, literal_rule, literal_mode, element_target}
+use Rattle.go_part_core.specs.literal_core.Keys.{refused_key, missing_rule, found_key, key_answer}
+use Rattle.go_part_core.specs.expr_core.declared.things.Judged.{Judged}
+use Rattle.go_part_core.specs.expr_core.Looks.{Looks, look_of_place, literals_at}
+use Rattle.go_part_core.specs.expr_core.Operators.{of_operand, pointer_type, is_star, passed, unary_of, operand_of, binary_operands, binary_of}
+use Rattle.go_part_core.specs.expr_core.Elements.{key_target_by, is_again, element_type, misfit_rule, element_rule}
 use Rattle.go_near_core.specs.Near.{NearRest, IfAny, IfFine, NearValue, NearOperand, NearArgument, NearDot, NearField, NearDenoted}
 use Rattle.go_near_core.specs.Looks.{AreRulesClosed, AreClosed, RulesAgree, LooksAgree}
 use Rattle.go_near_core.proofs.Closing.{either, common_near, unary_near, binary_near}
-use Rattle.go_file_core.specs.statement_core.Locality.{Each}
+use Rattle.go_part_core.specs.statement_core.Locality.{Each}
 
 -- operands
 

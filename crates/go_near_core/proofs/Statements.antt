@@ -17,18 +17,18 @@ use Rattle.go_operand_core.specs.Values.{form_basic}
 use Rattle.go_operand_core.specs.Assign.{assignable_to}
 use Rattle.go_operand_core.specs.Updates.{broken, update_with, operator_of}
 use Rattle.go_operand_core.specs.Operators.{refused_binary, value}
-use Rattle.go_file_core.specs.denote_core.declared.things.Argument.{Argument}
-use Rattle.go_file_core.specs.denote_core.declared.things.Argument.TheVariants as arguments
-use Rattle.go_file_core.specs.denote_core.declared.things.Denoted.{Denoted}
-use Rattle.go_file_core.specs.denote_core.declared.things.Denoted.TheVariants as denotes
-use Rattle.go_file_core.specs.statement_core.declared.targets.Target.{Target}
-use Rattle.go_file_core.specs.statement_core.declared.targets.Target.TheVariants as targets
-use Rattle.go_file_core.specs.statement_core.declared.constants.ConstantAnswer.{ConstantAnswer}
-use Rattle.go_file_core.specs.statement_core.Targets.{target_of_value, no_single_value, target_of}
-use Rattle.go_file_core.specs.statement_core.Updates.{update_rule, increment_rule}
-use Rattle.go_file_core.specs.statement_core.Declarations.{given_type, declared_types, type_after, paired_types, short_types}
-use Rattle.go_file_core.specs.statement_core.Constants.{is_constant, constants_rule, operand_constant, own_value, of_own_type, of_no_type, assigned_value, answer_of_value, of_basic_type, of_type, constant_answer}
-use Rattle.go_file_core.specs.statement_core.Locality.{FitsAlike, ArgumentGivenAlike, target_wanted, EachPair, Each, TypeAlike, UnderAlike, FormAlike, ConditionAlike}
+use Rattle.go_part_core.specs.denote_core.declared.things.Argument.{Argument}
+use Rattle.go_part_core.specs.denote_core.declared.things.Argument.TheVariants as arguments
+use Rattle.go_part_core.specs.denote_core.declared.things.Denoted.{Denoted}
+use Rattle.go_part_core.specs.denote_core.declared.things.Denoted.TheVariants as denotes
+use Rattle.go_part_core.specs.statement_core.declared.targets.Target.{Target}
+use Rattle.go_part_core.specs.statement_core.declared.targets.Target.TheVariants as targets
+use Rattle.go_part_core.specs.statement_core.declared.constants.ConstantAnswer.{ConstantAnswer}
+use Rattle.go_part_core.specs.statement_core.Targets.{target_of_value, no_single_value, target_of}
+use Rattle.go_part_core.specs.statement_core.Updates.{update_rule, increment_rule}
+use Rattle.go_part_core.specs.statement_core.Declarations.{given_type, declared_types, type_after, paired_types, short_types}
+use Rattle.go_part_core.specs.statement_core.Constants.{is_constant, constants_rule, operand_constant, own_value, of_own_type, of_no_type, assigned_value, answer_of_value, of_basic_type, of_type, constant_answer}
+use Rattle.go_part_core.specs.statement_core.Locality.{FitsAlike, ArgumentGivenAlike, target_wanted, EachPair, Each, TypeAlike, UnderAlike, FormAlike, ConditionAlike}
 use Rattle.go_near_core.specs.Near.{NearRest, IfAny, NearValue, NearOperand, NearArgument, NearDenoted}
 use Rattle.go_near_core.specs.Looks.{AreRulesClosed, RulesAgree}
 use Rattle.go_near_core.proofs.Closing.{either, default_near}

@@ -2,8 +2,8 @@
 use Rattle.std.specs.Prelude.{◌≡◌, ℕ, Bool, true, List, Some, Contains, ⊤}
 use Rattle.go_term_core.specs.decl_core.declared.keys.DeclKey.{DeclKey}
 use Rattle.go_term_core.specs.Terms.{Term, Sign, term_keys, sign_keys}
-use Rattle.go_file_core.specs.table_core.Entries.{Entry, find_entry, entry_keys}
-use Rattle.go_file_core.specs.handle_core.Declarations.{Declaration, Universe, OfError, Package, InFile}
+use Rattle.go_part_core.specs.table_core.Entries.{Entry, find_entry, entry_keys}
+use Rattle.go_part_core.specs.handle_core.Declarations.{Declaration, Universe, OfError, Package, InFile}
 use Rattle.go_near_core.specs.Near.{NearRest}
 
 -- any declared types, by their keys, and any packages, by their paths

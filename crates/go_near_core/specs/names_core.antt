@@ -1,2 +1,2 @@
 -- What the crates above name of go_names_core.
-pub use Rattle.go_file_core.specs.names_core.declared as declared
+pub use Rattle.go_part_core.specs.names_core.declared as declared

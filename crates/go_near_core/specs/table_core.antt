@@ -1,5 +1,6 @@
 -- What the crates above name of go_table_core.
-pub use Rattle.go_file_core.specs.table_core.ByRule as ByRule
-pub use Rattle.go_file_core.specs.table_core.Entries as Entries
-pub use Rattle.go_file_core.specs.table_core.Methods as Methods
-pub use Rattle.go_file_core.specs.table_core.Tables as Tables
+pub use Rattle.go_part_core.specs.table_core.ByRule as ByRule
+pub use Rattle.go_part_core.specs.table_core.Entries as Entries
+pub use Rattle.go_part_core.specs.table_core.Methods as Methods
+pub use Rattle.go_part_core.specs.table_core.Shown as Shown
+pub use Rattle.go_part_core.specs.table_core.Tables as Tables

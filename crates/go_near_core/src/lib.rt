@@ -10,7 +10,57 @@ pub use laws::{
     packages_look_nearby, pieces_look_nearby, scenes_look_nearby, tables_look_nearby,
 };
 
+/// What the crates above name of `go_answer_core`.
+pub mod answer_core {
+    pub use go_part_core::answer_core::{Answer, HeldLocal, Site};
+}
+
+/// What the crates above name of `go_denote_core`.
+pub mod denote_core {
+    pub use go_part_core::denote_core::Outcome;
+}
+
+/// What the crates above name of `go_entry_core`.
+pub mod entry_core {
+    pub use go_part_core::entry_core::outlines;
+}
+
 /// What the crates above name of `go_face_core`.
 pub mod face_core {
-    pub use go_file_core::face_core::Face;
+    pub use go_part_core::face_core::{Face, FaceTable, lend};
+}
+
+/// What the crates above name of `go_handle_core`.
+pub mod handle_core {
+    pub use go_part_core::handle_core::{Decl, DeclSite, SignatureRef, TypeRef};
+}
+
+/// What the crates above name of `go_package_core`.
+pub mod package_core {
+    pub use go_part_core::package_core::FileAnswers;
+}
+
+/// What the crates above name of `go_part_core`.
+pub mod part_core {
+    pub use go_part_core::{
+        Part, PartFile, PartInput, Parts, compile_over, compile_part, one_part,
+        part_has_occurrences, same_imports,
+    };
+}
+
+/// What the crates above name of `go_select_core`.
+pub mod select_core {
+    pub use go_part_core::select_core::EmbedPath;
+}
+
+/// What the crates above name of `go_summary_core`.
+pub mod summary_core {
+    pub use go_part_core::summary_core::{
+        ReachedSummaries, Summary, SummaryList, View, import_view, view_of,
+    };
+}
+
+/// What the crates above name of `go_table_core`.
+pub mod table_core {
+    pub use go_part_core::table_core::{DeclaredMethod, DefinedType, TypeTable};
 }

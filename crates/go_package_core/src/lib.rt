@@ -15,9 +15,14 @@ pub use go_ready_core::PackageAt;
 pub use laws::{one_check, package_has_occurrences};
 pub use package::check_package;
 
+/// What the crates above name of `go_answer_core`.
+pub mod answer_core {
+    pub use go_used_core::answer_core::{Answer, HeldLocal, Site};
+}
+
 /// What the crates above name of `go_entry_core`.
 pub mod entry_core {
-    pub use go_known_core::entry_core::outlines;
+    pub use go_file_core::entry_core::outlines;
 }
 
 /// What the crates above name of `go_file_core`.
@@ -28,4 +33,24 @@ pub mod file_core {
 /// What the crates above name of `go_func_core`.
 pub mod func_core {
     pub use go_file_core::func_core::{functions_have_one_table, locals_are_declarations};
+}
+
+/// What the crates above name of `go_handle_core`.
+pub mod handle_core {
+    pub use go_used_core::handle_core::{Decl, DeclSite, SignatureRef, TypeRef};
+}
+
+/// What the crates above name of `go_local_core`.
+pub mod local_core {
+    pub use go_used_core::local_core::Fault;
+}
+
+/// What the crates above name of `go_report_core`.
+pub mod report_core {
+    pub use go_used_core::report_core::settle_faults;
+}
+
+/// What the crates above name of `go_used_core`.
+pub mod used_core {
+    pub use go_used_core::{refuse_unused, report, reports_are_one};
 }

@@ -1,12 +1,12 @@
 //! The check of a package.
 ghost use Rattle.std.specs.Prelude.{◌≡◌, ◌++◌, All, List, IfOk, length, map};
 ghost use Rattle.std.specs.List.{AllByRecursion};
-ghost use Rattle.go_known_core.specs.table_core.Entries.{Entry};
-ghost use Rattle.go_known_core.specs.table_core.Tables.{AreOthers};
-ghost use Rattle.go_known_core.specs.entry_core.Outlines.{outline_shown};
-ghost use Rattle.go_known_core.specs.env_core.Scenes.{scene_shown};
-ghost use Rattle.go_known_core.specs.value_core.Laws.{AreFaces};
-ghost use Rattle.go_known_core.specs.value_core.Package.{AreThroughThemselves, placed_decls};
+ghost use Rattle.go_ready_core.specs.table_core.Entries.{Entry};
+ghost use Rattle.go_ready_core.specs.table_core.Tables.{AreOthers};
+ghost use Rattle.go_file_core.specs.entry_core.Outlines.{outline_shown};
+ghost use Rattle.go_file_core.specs.env_core.Scenes.{scene_shown};
+ghost use Rattle.go_ready_core.specs.value_core.Laws.{AreFaces};
+ghost use Rattle.go_ready_core.specs.value_core.Package.{AreThroughThemselves, placed_decls};
 ghost use Rattle.go_ready_core.specs.Inlines.{IsPlacedOutline};
 ghost use Rattle.go_ready_core.specs.Packages.{outlines_in, package_in_shown};
 ghost use Rattle.go_ready_core.specs.Types.{AreTypes};
@@ -16,18 +16,18 @@ ghost use Rattle.go_tree_nodes.specs.Spelling.{IsPlaced};
 
 use crate::checked::CheckedPackage;
 use crate::files::{Declared, check_files};
-use go_answer_core::block_core::Blocks;
-use go_answer_core::face_core::{FaceTable, WrittenFaces};
-use go_answer_core::handle_core::Home;
-use go_answer_core::{held_faces, shown_faces};
+use go_file_core::entry_core::ImportedNames;
+use go_file_core::env_core::Scene;
+use go_file_core::inline_core::InlineTypes;
 use go_file_core::type_core::TypeTable;
-use go_known_core::entry_core::ImportedNames;
-use go_known_core::env_core::Scene;
-use go_known_core::inline_core::InlineTypes;
-use go_known_core::package_values;
-use go_known_core::value_core::through_itself;
+use go_ready_core::known_core::package_values;
+use go_ready_core::value_core::through_itself;
 use go_ready_core::{OwnTypes, PackageAt, Ready, make_ready, package_outlines, package_types};
 use go_term_core::decl_core::Outline;
+use go_used_core::answer_core::{held_faces, shown_faces};
+use go_used_core::block_core::Blocks;
+use go_used_core::face_core::{FaceTable, WrittenFaces};
+use go_used_core::handle_core::Home;
 use std::alloc::{AllocError, Global};
 
 // What is known of a package where its expressions are judged.

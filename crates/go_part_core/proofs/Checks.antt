@@ -14,7 +14,7 @@ use Rattle.go_summary_core.specs.block_core.Exports.{ExportsModel}
 use Rattle.go_summary_core.specs.table_core.Entries.{Entry}
 use Rattle.go_summary_core.specs.table_core.Tables.{AreOthers}
 use Rattle.go_package_core.specs.entry_core.Showing.{shown_in}
-use Rattle.go_used_core.specs.face_core.Packages.{PackageFacesModel}
+use Rattle.go_summary_core.specs.face_core.Packages.{PackageFacesModel}
 use Rattle.go_package_core.specs.ready_core.Packages.{PackageIn, trees_in}
 use Rattle.go_package_core.specs.Checked.{CheckedOf, IsChecked, answers_shown, checked_shown}
 use Rattle.go_package_core.specs.declared.checked.CheckedPackage.{CheckedPackage}

@@ -7,12 +7,12 @@ use Rattle.go_summary_core.specs.graph_core.Packages.{trees_of}
 use Rattle.go_summary_core.specs.block_core.Blocks.{BlocksModel}
 use Rattle.go_summary_core.specs.block_core.Naming.{package_named}
 use Rattle.go_summary_core.specs.block_core.OneBlocks.{one_blocks_alone}
-use Rattle.go_used_core.specs.handle_core.Declarations.{Declaration}
-use Rattle.go_used_core.specs.local_core.declared.Fault.{Fault}
-use Rattle.go_used_core.specs.report_core.Faults.{ComesBefore, IsSettled}
-use Rattle.go_used_core.specs.report_core.Settled.{settled_are_one}
-use Rattle.go_used_core.specs.Reported.{IsReported}
-use Rattle.go_used_core.specs.Used.{FileUse}
+use Rattle.go_package_core.specs.handle_core.Declarations.{Declaration}
+use Rattle.go_package_core.specs.local_core.declared.Fault.{Fault}
+use Rattle.go_package_core.specs.report_core.Faults.{ComesBefore, IsSettled}
+use Rattle.go_package_core.specs.report_core.Settled.{settled_are_one}
+use Rattle.go_package_core.specs.used_core.Reported.{IsReported}
+use Rattle.go_package_core.specs.used_core.Used.{FileUse}
 use Rattle.go_package_core.specs.ready_core.Packages.{trees_in}
 use Rattle.go_package_core.specs.Checked.{AnswersOf, CheckedOf, IsChecked}
 use Rattle.go_package_core.proofs.Meanings.{one_check}

@@ -3,7 +3,7 @@ use Rattle.std.proofs.Common.{◌≡◌, ℕ, suc, List, [], ◌∷◌, All, sym
 use Rattle.go_summary_core.specs.block_core.Exports.{ExportsModel}
 use Rattle.go_summary_core.specs.table_core.Entries.{Entry}
 use Rattle.go_package_core.specs.entry_core.Showing.{shown_in}
-use Rattle.go_used_core.specs.face_core.Packages.{PackageFacesModel}
+use Rattle.go_summary_core.specs.face_core.Packages.{PackageFacesModel}
 use Rattle.go_summary_core.specs.table_core.Tables.{AreOthers}
 use Rattle.go_summary_core.specs.Summaries.{SummaryModel, path_of}
 use Rattle.go_summary_core.specs.Views.{exports_told, faces_told, types_told}

@@ -12,13 +12,13 @@ use Rattle.go_summary_core.specs.table_core.Entries.{Entry}
 use Rattle.go_summary_core.specs.table_core.Tables.{package_types}
 use Rattle.go_package_core.specs.entry_core.Meanings.{Shows}
 use Rattle.go_package_core.specs.entry_core.Showing.{shown_in}
-use Rattle.go_used_core.specs.handle_core.Declarations.{Declaration}
-use Rattle.go_used_core.specs.local_core.declared.Fault.{Fault}
-use Rattle.go_used_core.specs.report_core.Faults.{IsSettled}
-use Rattle.go_used_core.specs.face_core.Faces.{TheFace, face_shown}
-use Rattle.go_used_core.specs.face_core.Packages.{PackageFacesModel}
-use Rattle.go_used_core.specs.Used.{without_unused}
-use Rattle.go_used_core.specs.Reported.{IsReported}
+use Rattle.go_package_core.specs.handle_core.Declarations.{Declaration}
+use Rattle.go_package_core.specs.local_core.declared.Fault.{Fault}
+use Rattle.go_package_core.specs.report_core.Faults.{IsSettled}
+use Rattle.go_summary_core.specs.face_core.Faces.{TheFace, face_shown}
+use Rattle.go_summary_core.specs.face_core.Packages.{PackageFacesModel}
+use Rattle.go_package_core.specs.used_core.Used.{without_unused}
+use Rattle.go_package_core.specs.used_core.Reported.{IsReported}
 use Rattle.go_package_core.specs.ready_core.Packages.{PackageIn, trees_in}
 use Rattle.go_package_core.specs.Checked.{AnswersOf, CheckedOf, IsChecked, answers_shown}
 use Rattle.go_summary_core.specs.Summaries.{SummaryModel, summary_of}

@@ -1,3 +1,3 @@
 -- What the crates above name of go_used_core.
-pub use Rattle.go_used_core.specs.Laws as Laws
-pub use Rattle.go_used_core.specs.Used as Used
+pub use Rattle.go_package_core.specs.used_core.Laws as Laws
+pub use Rattle.go_package_core.specs.used_core.Used as Used

@@ -15,9 +15,9 @@ use crate::files::{PartFile, files_made};
 use crate::input::PartInput;
 use go_package_core::{CheckedPackage, PackageAt, check_package};
 use go_summary_core::block_core::{Blocks, blocks, import_names};
+use go_summary_core::face_core::Face;
 use go_summary_core::{Summary, View, summarize};
 use go_term_core::{Signature, TypeTerm};
-use go_used_core::face_core::Face;
 use std::alloc::{AllocError, Global};
 
 /// What a package has.

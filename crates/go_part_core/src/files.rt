@@ -6,13 +6,13 @@ ghost use Rattle.go_package_core.specs.Checked.{answers_shown};
 ghost use Rattle.go_part_core.specs.Parts.{AreFilesMade, IsFileMade, file_shown};
 
 use go_package_core::FileAnswers;
+use go_package_core::local_core::Fault;
+use go_package_core::report_core::settle_faults;
+use go_package_core::used_core::{refuse_unused, report};
 use go_summary_core::block_core::Blocks;
 use go_summary_core::graph_core::Package;
 use go_text_core::add;
 use go_tree_nodes::File;
-use go_used_core::local_core::Fault;
-use go_used_core::report_core::settle_faults;
-use go_used_core::{refuse_unused, report};
 use std::alloc::{AllocError, Global};
 
 /// What stands in a file.

@@ -23,17 +23,12 @@ pub use same::same_imports;
 
 /// What the crates above name of `go_answer_core`.
 pub mod answer_core {
-    pub use go_used_core::answer_core::{Answer, HeldLocal, Site};
-}
-
-/// What the crates above name of `go_block_core`.
-pub mod block_core {
-    pub use go_summary_core::block_core::Imported;
+    pub use go_package_core::answer_core::{Answer, HeldLocal, Site};
 }
 
 /// What the crates above name of `go_denote_core`.
 pub mod denote_core {
-    pub use go_used_core::denote_core::Outcome;
+    pub use go_summary_core::denote_core::Outcome;
 }
 
 /// What the crates above name of `go_entry_core`.
@@ -43,7 +38,7 @@ pub mod entry_core {
 
 /// What the crates above name of `go_face_core`.
 pub mod face_core {
-    pub use go_used_core::face_core::{Face, FaceTable, lend};
+    pub use go_summary_core::face_core::{Face, FaceTable, lend};
 }
 
 /// What the crates above name of `go_file_core`.
@@ -58,7 +53,7 @@ pub mod func_core {
 
 /// What the crates above name of `go_handle_core`.
 pub mod handle_core {
-    pub use go_used_core::handle_core::{Decl, DeclSite, SignatureRef, TypeRef};
+    pub use go_package_core::handle_core::{Decl, DeclSite, SignatureRef, TypeRef};
 }
 
 /// What the crates above name of `go_package_core`.
@@ -83,5 +78,5 @@ pub mod table_core {
 
 /// What the crates above name of `go_used_core`.
 pub mod used_core {
-    pub use go_used_core::reports_are_one;
+    pub use go_package_core::used_core::reports_are_one;
 }

@@ -35,7 +35,7 @@ impl Model for Part {
     ghost use Rattle.std.specs.Arc.{arc_value};
     ghost use Rattle.std.specs.Coded.{codes};
     ghost use Rattle.go_summary_core.specs.block_core.Blocks.{coded_blocks};
-    ghost use Rattle.go_used_core.specs.face_core.codes.FaceCodes.{coded_face, coded_operand};
+    ghost use Rattle.go_summary_core.specs.face_core.codes.FaceCodes.{coded_face, coded_operand};
     ghost use Rattle.go_summary_core.specs.codes.SummaryCodes.{coded_summary};
     ghost use Rattle.go_part_core.specs.Inputs.{coded_input};
     ghost use Rattle.go_part_core.specs.Parts.{IsPart, PartModel, part_content_shown, part_with};

@@ -11,7 +11,6 @@ pub mod mirrors
 pub mod constant_core
 pub mod denote_core
 pub mod expr_core
-pub mod literal_core
 pub mod local_core
 pub mod operand_core
 pub mod statement_core

@@ -16,7 +16,7 @@ use Rattle.go_spot_core.specs.denote_core.declared.things.Dot.TheVariants as dot
 use Rattle.go_spot_core.specs.expr_core.Uses.{Context, NameAt, SelectorBehind, KeyAmong, Identifier, rule}
 use Rattle.go_spelling_core.specs.env_core.declared.meaning.Meaning.{Meaning}
 use Rattle.go_spelling_core.specs.func_core.Stands.{FileStand, looks_where}
-use Rattle.go_part_core.specs.Parts.{IsPart, PartModel, package_seen, seen_by}
+use Rattle.go_spelling_core.specs.part_core.Parts.{IsPart, PartModel, package_seen, seen_by}
 use Rattle.go_context_core.specs.Laws.{is_declared}
 use Rattle.go_spot_core.specs.Used.{Used}
 use Rattle.go_spot_core.specs.Contexts.{context_of_spot}

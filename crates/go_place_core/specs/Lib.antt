@@ -5,4 +5,7 @@ pub mod env_core
 pub mod func_core
 pub mod part_core
 pub mod ready_core
+pub mod snap_core
+pub mod used_core
 pub mod value_core
+pub mod whole_core

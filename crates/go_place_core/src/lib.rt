@@ -7,7 +7,17 @@ mod laws;
 
 pub use laws::spots_are_places;
 
+/// What the crates above name of `go_answer_core`.
+pub mod answer_core {
+    pub use go_spelling_core::answer_core::{Answer, Site};
+}
+
 /// What the crates above name of `go_part_core`.
 pub mod part_core {
-    pub use go_part_core::Part;
+    pub use go_spelling_core::part_core::{Part, part_has_occurrences};
+}
+
+/// What the crates above name of `go_snap_core`.
+pub mod snap_core {
+    pub use go_spelling_core::snap_core::{FileIn, PlacedFault, Snapshot};
 }

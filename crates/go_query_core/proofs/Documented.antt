@@ -12,10 +12,10 @@ use Rattle.go_block_core.specs.Exports.{exported_names}
 use Rattle.go_block_core.specs.Holding.{package_block}
 use Rattle.go_symbol_core.specs.Symbols.{AreSymbols, SymbolOf}
 use Rattle.go_list_core.specs.Importing.{IsJudgedAt}
-use Rattle.go_snap_core.specs.part_core.Inputs.{InputModel, path_in}
-use Rattle.go_snap_core.specs.part_core.Parts.{ContentOf, IsPart, PartModel}
+use Rattle.go_complete_core.specs.part_core.Inputs.{InputModel, path_in}
+use Rattle.go_complete_core.specs.part_core.Parts.{ContentOf, IsPart, PartModel}
 use Rattle.go_shown_core.specs.summary_core.Summaries.{SummaryModel}
-use Rattle.go_snap_core.specs.Snapshots.{SnapshotModel}
+use Rattle.go_complete_core.specs.snap_core.Snapshots.{SnapshotModel}
 use Rattle.go_query_core.specs.Documenting.{DocOf, IsDoc, IsDocRefusal, IsExportedDoc, IsImportRefused, IsImportedDoc, IsImportedPart, IsOwnDoc}
 use Rattle.go_query_core.specs.Parts.{IsPartOf}
 

@@ -15,11 +15,11 @@ use Rattle.go_graph_core.proofs.Numbers.{has_one_number}
 use Rattle.go_graph_core.specs.Workspaces.{IsWorkspace, PackageModel}
 use Rattle.go_graph_core.proofs.Zips.{numbered_at, zip_at, zip_back}
 use Rattle.go_list_core.specs.Importing.{IsImportable, IsJudgedAt}
-use Rattle.go_snap_core.specs.part_core.Inputs.{path_in}
-use Rattle.go_snap_core.specs.part_core.Parts.{PartModel}
-use Rattle.go_snap_core.specs.whole_core.Inputs as inputs
-use Rattle.go_snap_core.specs.whole_core.PartsWhole.{all_right}
-use Rattle.go_snap_core.specs.Snapshots.{IsPartAt, IsSnapshot, SnapshotModel}
+use Rattle.go_complete_core.specs.part_core.Inputs.{path_in}
+use Rattle.go_complete_core.specs.part_core.Parts.{PartModel}
+use Rattle.go_complete_core.specs.whole_core.Inputs as inputs
+use Rattle.go_complete_core.specs.whole_core.PartsWhole.{all_right}
+use Rattle.go_complete_core.specs.snap_core.Snapshots.{IsPartAt, IsSnapshot, SnapshotModel}
 use Rattle.go_query_core.specs.Entries.{EntryOf, entry_with}
 use Rattle.go_query_core.specs.Listing.{AreEntries, IsEntryOf, IsListing}
 use Rattle.go_query_core.specs.Parts.{HasPart, IsPartOf}

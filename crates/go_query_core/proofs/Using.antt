@@ -20,13 +20,13 @@ use Rattle.go_graph_core.specs.Packages.{tree_shown, trees_of}
 use Rattle.go_graph_core.specs.Sources.{IsContent, IsRead, SourceModel}
 use Rattle.go_graph_core.specs.Workspaces.{IsWorkspace}
 use Rattle.go_graph_core.proofs.Assemblies.{tree_at}
-use Rattle.go_snap_core.specs.ready_core.Packages.{trees_in}
-use Rattle.go_snap_core.specs.used_core.Used.{FileUse}
-use Rattle.go_snap_core.specs.part_core.Inputs.{IsInput}
-use Rattle.go_snap_core.specs.whole_core.PartsWhole.{all_right}
-use Rattle.go_snap_core.specs.part_core.Laws.{PartHasOccurrences}
-use Rattle.go_snap_core.specs.Snapshots.{FoundFile, HasNoFile, IsFileAt, IsSnapshot, SnapshotModel}
-use Rattle.go_snap_core.proofs.Faulty.{read_there}
+use Rattle.go_complete_core.specs.ready_core.Packages.{trees_in}
+use Rattle.go_complete_core.specs.used_core.Used.{FileUse}
+use Rattle.go_complete_core.specs.part_core.Inputs.{IsInput}
+use Rattle.go_complete_core.specs.whole_core.PartsWhole.{all_right}
+use Rattle.go_complete_core.specs.part_core.Laws.{PartHasOccurrences}
+use Rattle.go_complete_core.specs.snap_core.Snapshots.{FoundFile, HasNoFile, IsFileAt, IsSnapshot, SnapshotModel}
+use Rattle.go_complete_core.specs.snap_core.Faulty.{read_there}
 use Rattle.go_query_core.specs.Defining.{Declares, IsDefinition, IsDefinitionIn, IsIdentifierAt, IsLacking, IsRefusal, IsRefusalIn, IsUnused, IsUseIn, is_over}
 use Rattle.go_query_core.specs.mirrors.Uses.{HasOccurrences}
 

@@ -9,9 +9,9 @@ use Rattle.go_graph_core.specs.declared.imports.ImportOutcome.TheVariants.{Packa
 use Rattle.go_graph_core.specs.Imports.{IsNumbered, IsOutcome}
 use Rattle.go_graph_core.specs.Sources.{SourceModel}
 use Rattle.go_graph_core.specs.Workspaces.{IsWorkspace, PackageModel, by_bytes}
-use Rattle.go_snap_core.specs.part_core.Parts.{PartModel}
-use Rattle.go_snap_core.specs.whole_core.Inputs.{ReachesPackage}
-use Rattle.go_snap_core.specs.Snapshots.{IsSnapshot, SnapshotModel}
+use Rattle.go_complete_core.specs.part_core.Parts.{PartModel}
+use Rattle.go_complete_core.specs.whole_core.Inputs.{ReachesPackage}
+use Rattle.go_complete_core.specs.snap_core.Snapshots.{IsSnapshot, SnapshotModel}
 
 -- a package of a snapshot by its number and its part, as the package of a path sees it
 pub record EntryOf : Type 0 where

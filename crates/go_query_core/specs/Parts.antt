@@ -2,8 +2,8 @@
 use Rattle.std.specs.Prelude.{◌≡◌, ℕ, List, Some, slice_get}
 use Rattle.go_graph_core.specs.Imports.{IsNumbered}
 use Rattle.go_graph_core.specs.Sources.{SourceModel}
-use Rattle.go_snap_core.specs.part_core.Parts.{PartModel}
-use Rattle.go_snap_core.specs.Snapshots.{SnapshotModel}
+use Rattle.go_complete_core.specs.part_core.Parts.{PartModel}
+use Rattle.go_complete_core.specs.snap_core.Snapshots.{SnapshotModel}
 
 -- the package of a path has this number and this part
 pub record IsPartOf (s : SnapshotModel) (path : List ℕ) (number : ℕ) (p : PartModel) : Type 0 where

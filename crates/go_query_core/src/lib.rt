@@ -19,12 +19,12 @@ pub use listing::{Listing, list};
 
 /// What the crates above name of `go_part_core`.
 pub mod part_core {
-    pub use go_snap_core::part_core::Part;
+    pub use go_complete_core::part_core::Part;
 }
 
 /// What the crates above name of `go_snap_core`.
 pub mod snap_core {
-    pub use go_snap_core::{PlacedFault, Snapshot};
+    pub use go_complete_core::snap_core::{PlacedFault, Snapshot};
 }
 
 /// What the crates above name of `go_symbol_core`.

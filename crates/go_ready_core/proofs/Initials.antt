@@ -14,7 +14,7 @@ use Rattle.go_func_core.specs.expr_core.Lists.{denoted_exprs}
 use Rattle.go_func_core.specs.expr_core.Laws.{AgreeOnIdents}
 use Rattle.go_func_core.specs.expr_core.Locality.{SameWritten, seeing}
 use Rattle.go_func_core.specs.expr_core.Alike.{expressions_seen}
-use Rattle.go_value_core.specs.Initial.{spec_name_count, initial, list_start, some_written_type, values_given, values_of}
+use Rattle.go_known_core.specs.value_core.Initial.{spec_name_count, initial, list_start, some_written_type, values_given, values_of}
 use Rattle.go_tree_nodes.specs.Idents.{expr_idents}
 
 module _ {T S D P : Type 0} (looks : Looks T S D P) (written : WrittenRules T) where

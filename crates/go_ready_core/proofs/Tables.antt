@@ -9,11 +9,11 @@ use Rattle.go_needs_core.specs.Needs.{AreValues, EndsWithin, IsEndless, LooksAtN
 use Rattle.go_needs_core.proofs.Needed.{one_table}
 use Rattle.go_func_core.specs.face_core.Faces.{TheFace}
 use Rattle.go_func_core.specs.face_core.Laws.{FileDecl}
-use Rattle.go_value_core.specs.Around.{LeadsBack}
-use Rattle.go_value_core.specs.Laws.{AreFaces}
-use Rattle.go_value_core.specs.Package as values
-use Rattle.go_value_core.specs.Package.{AreThroughThemselves, IsThroughItself, placed_decls}
-use Rattle.go_value_core.proofs.Seeing.{looks_at_needs}
+use Rattle.go_known_core.specs.value_core.Around.{LeadsBack}
+use Rattle.go_known_core.specs.value_core.Laws.{AreFaces}
+use Rattle.go_known_core.specs.value_core.Package as values
+use Rattle.go_known_core.specs.value_core.Package.{AreThroughThemselves, IsThroughItself, placed_decls}
+use Rattle.go_known_core.specs.value_core.Seeing.{looks_at_needs}
 use Rattle.go_ready_core.specs.Inlines.{initial_in}
 use Rattle.go_ready_core.specs.Laws.{DeclarationsHaveOneTable, ValuesAreAsWritten, package_placed}
 use Rattle.go_ready_core.specs.Packages.{PackageIn, outlines_in, scene_in}

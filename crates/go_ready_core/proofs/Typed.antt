@@ -20,7 +20,7 @@ use Rattle.go_func_core.specs.inline_core.Found.{types_are_found}
 use Rattle.go_func_core.specs.face_core.Faces.{TheFace}
 use Rattle.go_func_core.specs.face_core.declared.face.Face.TheVariants as faces
 use Rattle.go_func_core.specs.env_core.Looks.{TheLooks, looks_in, inline_rules, inline_type, inline_faults}
-use Rattle.go_value_core.specs.Package.{value_face, form_face}
+use Rattle.go_known_core.specs.value_core.Package.{value_face, form_face}
 use Rattle.go_func_core.specs.Types.{named_where}
 use Rattle.go_func_core.specs.Stands.{FileStand, kinds_in_scene, types_where, outer_look, outer_looks}
 use Rattle.go_func_core.proofs.Seen.{outside}

@@ -21,8 +21,8 @@ use Rattle.go_func_core.specs.face_core.Faces.{TheFace}
 use Rattle.go_func_core.specs.face_core.Laws.{FileDecl, file_decl, package_decls}
 use Rattle.go_func_core.specs.face_core.Written.{written_at}
 use Rattle.go_func_core.specs.face_core.Places.{among_at}
-use Rattle.go_value_core.specs.Package as values
-use Rattle.go_value_core.specs.Package.{PlacedOf, placed, placed_decls, package_needs, top_looks, first_values, form_face}
+use Rattle.go_known_core.specs.value_core.Package as values
+use Rattle.go_known_core.specs.value_core.Package.{PlacedOf, placed, placed_decls, package_needs, top_looks, first_values, form_face}
 use Rattle.go_func_core.specs.Stands.{kinds_in_scene}
 use Rattle.go_ready_core.specs.Inlines.{initial_in, initial_types, types_stand}
 use Rattle.go_ready_core.specs.Laws.{package_placed}

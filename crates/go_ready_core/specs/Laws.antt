@@ -2,8 +2,8 @@
 use Rattle.std.specs.Prelude.{◌≡◌, ◌↔◌, Bool, List, Option, All}
 use Rattle.go_fault_core.specs.table_core.Entries.{Entry}
 use Rattle.go_func_core.specs.face_core.Faces.{TheFace}
-use Rattle.go_value_core.specs.Laws.{AreFaces}
-use Rattle.go_value_core.specs.Package.{PlacedOf, placed_decls, AreThroughThemselves}
+use Rattle.go_known_core.specs.value_core.Laws.{AreFaces}
+use Rattle.go_known_core.specs.value_core.Package.{PlacedOf, placed_decls, AreThroughThemselves}
 use Rattle.go_ready_core.specs.Packages.{PackageIn, outlines_in, scene_in}
 use Rattle.go_ready_core.specs.Inlines.{initial_in}
 use Rattle.go_ready_core.specs.Values.{AreDeclared, AreLooped}

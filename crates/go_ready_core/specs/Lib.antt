@@ -4,5 +4,9 @@ pub mod Packages
 pub mod Types
 pub mod Values
 pub mod mirrors
+pub mod fault_core
 pub mod graph_core
+pub mod known_core
 pub mod parse_core
+pub mod table_core
+pub mod value_core

@@ -9,8 +9,8 @@ use Rattle.go_func_core.specs.face_core.Faces.{TheFace}
 use Rattle.go_func_core.specs.face_core.Written.{written_at}
 use Rattle.go_func_core.specs.face_core.Laws.{FileDecl, package_decls}
 use Rattle.go_func_core.specs.env_core.Scenes.{SceneModel}
-use Rattle.go_value_core.specs.Around.{LeadsBack}
-use Rattle.go_value_core.specs.Package.{first_values, form_face, form_idents, idents_need, declares_constant, written_face}
+use Rattle.go_known_core.specs.value_core.Around.{LeadsBack}
+use Rattle.go_known_core.specs.value_core.Package.{first_values, form_face, form_idents, idents_need, declares_constant, written_face}
 use Rattle.go_func_core.specs.Stands.{outer_looks}
 use Rattle.go_ready_core.specs.Packages.{PackageIn, outlines_in, scene_in, stand_in}
 

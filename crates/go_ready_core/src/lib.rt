@@ -15,3 +15,18 @@ pub use laws::{declarations_have_one_table, values_are_as_written};
 pub use package_at::{PackageAt, package_outlines};
 pub use ready::{Ready, make_ready};
 pub use types::{OwnTypes, package_types};
+
+/// What the crates above name of `go_fault_core`.
+pub mod fault_core {
+    pub use go_fault_core::PackageFault;
+}
+
+/// What the crates above name of `go_known_core`.
+pub mod known_core {
+    pub use go_known_core::package_values;
+}
+
+/// What the crates above name of `go_value_core`.
+pub mod value_core {
+    pub use go_known_core::value_core::through_itself;
+}

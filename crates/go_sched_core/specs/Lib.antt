@@ -7,3 +7,4 @@ pub mod mirrors
 pub mod batch_core
 pub mod part_core
 pub mod submit_core
+pub mod thread_core_lemmas

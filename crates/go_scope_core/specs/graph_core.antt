@@ -2,7 +2,6 @@
 pub use Rattle.go_block_core.specs.graph_core.Assemblies as Assemblies
 pub use Rattle.go_block_core.specs.graph_core.Lists as Lists
 pub use Rattle.go_block_core.specs.graph_core.Packages as Packages
-pub use Rattle.go_block_core.specs.graph_core.PlanEdges as PlanEdges
 pub use Rattle.go_block_core.specs.graph_core.Sources as Sources
 pub use Rattle.go_block_core.specs.graph_core.ToldApart as ToldApart
 pub use Rattle.go_block_core.specs.graph_core.Workspaces as Workspaces

@@ -31,12 +31,12 @@ pub mod emit_core {
 
 /// What the crates above name of `go_face_core`.
 pub mod face_core {
-    pub use go_make_core::face_core::Face;
+    pub use go_emit_core::face_core::Face;
 }
 
 /// What the crates above name of `go_make_core`.
 pub mod make_core {
-    pub use go_make_core::{Told, input_of, package_of};
+    pub use go_emit_core::make_core::{Told, input_of, package_of};
 }
 
 /// What the crates above name of `go_package_core`.
@@ -46,14 +46,14 @@ pub mod package_core {
 
 /// What the crates above name of `go_part_core`.
 pub mod part_core {
-    pub use go_make_core::part_core::{
+    pub use go_emit_core::part_core::{
         Part, PartInput, Parts, compile_part, one_part, part_has_occurrences,
     };
 }
 
 /// What the crates above name of `go_whole_core`.
 pub mod whole_core {
-    pub use go_make_core::whole_core::{
+    pub use go_emit_core::whole_core::{
         check_is_local, imports_bind_theirs, inputs_stay, one_whole, parts_are_whole,
         parts_come_in_order,
     };

@@ -9,13 +9,13 @@ use Rattle.go_decl_core.specs.Outer.{decl_outers, tops_outers, places_of, place_
 use Rattle.go_decl_core.specs.TopDecls.{decl_decls, tops_decls}
 use Rattle.go_block_core.specs.Blocks.{BlocksModel}
 use Rattle.go_written_core.specs.Written.{InFile}
-use Rattle.go_package_core.specs.entry_core.Meanings.{Shows, file_meaning}
-use Rattle.go_package_core.specs.entry_core.Outlines.{FileOutline, outline_of}
+use Rattle.go_snap_core.specs.entry_core.Meanings.{Shows, file_meaning}
+use Rattle.go_snap_core.specs.entry_core.Outlines.{FileOutline, outline_of}
 use Rattle.go_type_core.specs.table_core.Entries.{Entry}
-use Rattle.go_package_core.specs.face_core.Faces.{TheFace}
-use Rattle.go_package_core.specs.face_core.Written.{WrittenOf, written_of, file_written, package_written}
-use Rattle.go_package_core.specs.func_core.Stands.{FileStand}
-use Rattle.go_package_core.specs.ready_core.Packages.{PackageIn, stand_in}
+use Rattle.go_snap_core.specs.face_core.Faces.{TheFace}
+use Rattle.go_snap_core.specs.face_core.Written.{WrittenOf, written_of, file_written, package_written}
+use Rattle.go_snap_core.specs.func_core.Stands.{FileStand}
+use Rattle.go_snap_core.specs.ready_core.Packages.{PackageIn, stand_in}
 use Rattle.go_spelling_core.specs.Files.{WritesBody, InFunc, BehindTop, with_decls, with_trees}
 
 module _ (f : FuncTree) (body : Lines) where

@@ -6,14 +6,14 @@ use Rattle.go_local_core.specs.Outline.{func_steps, func_opens, func_closes}
 use Rattle.go_local_core.specs.Steps.{Steps, Done, Check, Declare, Inner}
 use Rattle.go_local_core.specs.mirrors.Walk.{Names, look_in, with_names, news, names_of, walk_out}
 use Rattle.go_term_core.specs.Terms.{Term, Sign}
-use Rattle.go_package_core.specs.handle_core.Declarations.{Declaration}
+use Rattle.go_snap_core.specs.handle_core.Declarations.{Declaration}
 use Rattle.go_piece_core.specs.Headers.{returned_types, returned_names}
 use Rattle.go_piece_core.specs.Pieces.{piece_uses, piece_values}
-use Rattle.go_package_core.specs.env_core.declared.meaning.Meaning.{Meaning}
-use Rattle.go_package_core.specs.body_core.Notes.{NoteOf, all_uses}
-use Rattle.go_package_core.specs.body_core.Rules.{local_at}
-use Rattle.go_package_core.specs.func_core.Stands.{FileStand, looks_where, outer_meanings, outer_looks}
-use Rattle.go_package_core.specs.func_core.Functions.{own_rules, checked_func}
+use Rattle.go_snap_core.specs.env_core.declared.meaning.Meaning.{Meaning}
+use Rattle.go_snap_core.specs.body_core.Notes.{NoteOf, all_uses}
+use Rattle.go_snap_core.specs.body_core.Rules.{local_at}
+use Rattle.go_snap_core.specs.func_core.Stands.{FileStand, looks_where, outer_meanings, outer_looks}
+use Rattle.go_snap_core.specs.func_core.Functions.{own_rules, checked_func}
 use Rattle.go_spelling_core.specs.Contexts.{ContextStays}
 use Rattle.go_spelling_core.specs.PieceContexts.{use_rules}
 use Rattle.go_spelling_core.proofs.Walks.{functions_stay}

@@ -6,17 +6,17 @@ use Rattle.go_tree_nodes.specs.Trees.{ValueSpecTree, FuncTree, Lines, FileTree}
 use Rattle.go_decl_core.specs.declared.places.Place.{Place}
 use Rattle.go_decl_core.specs.TopDecls.{TopDeclTree, FormTree, FuncForm}
 use Rattle.go_type_core.specs.table_core.Entries.{Entry, find_entry}
-use Rattle.go_package_core.specs.fault_core.declared.places.PackageFault.{PackageFault}
+use Rattle.go_snap_core.specs.fault_core.declared.places.PackageFault.{PackageFault}
 use Rattle.go_type_core.specs.Built.{IsBuilt}
 use Rattle.go_type_core.proofs.Meanings.{one_settled}
 use Rattle.go_written_core.specs.Written.{InFile}
-use Rattle.go_package_core.specs.entry_core.Entries.{Received, Meanings, file_at, decl_methods, package_methods, entry_of, entries_with, package_meanings}
-use Rattle.go_package_core.specs.entry_core.Outlines.{FileOutline}
-use Rattle.go_package_core.specs.entry_core.Numbered.{flat_map-append}
-use Rattle.go_package_core.specs.face_core.Laws.{FileDecl, file_decl, package_decls}
-use Rattle.go_package_core.specs.ready_core.Packages.{PackageIn, outlines_in, entries_in}
-use Rattle.go_package_core.specs.ready_core.Types.{AreTypes}
-use Rattle.go_package_core.specs.ready_core.Values.{decls_in}
+use Rattle.go_snap_core.specs.entry_core.Entries.{Received, Meanings, file_at, decl_methods, package_methods, entry_of, entries_with, package_meanings}
+use Rattle.go_snap_core.specs.entry_core.Outlines.{FileOutline}
+use Rattle.go_snap_core.specs.entry_core.Numbered.{flat_map-append}
+use Rattle.go_snap_core.specs.face_core.Laws.{FileDecl, file_decl, package_decls}
+use Rattle.go_snap_core.specs.ready_core.Packages.{PackageIn, outlines_in, entries_in}
+use Rattle.go_snap_core.specs.ready_core.Types.{AreTypes}
+use Rattle.go_snap_core.specs.ready_core.Values.{decls_in}
 use Rattle.go_spelling_core.specs.Files.{with_decls, with_trees}
 use Rattle.go_spelling_core.specs.Packages.{TypesStay}
 use Rattle.go_spelling_core.proofs.FileBodies.{IsOther, AllOther, files_other}

@@ -10,26 +10,26 @@ use Rattle.go_decl_core.specs.TopDecls.{TopDeclTree, FormTree, FuncForm, kind_of
 use Rattle.go_block_core.specs.Blocks.{BlocksModel}
 use Rattle.go_type_core.specs.table_core.Entries.{Entry}
 use Rattle.go_term_core.specs.Terms.{Term, Sign}
-use Rattle.go_package_core.specs.entry_core.Meanings.{Shows, file_meaning}
+use Rattle.go_snap_core.specs.entry_core.Meanings.{Shows, file_meaning}
 use Rattle.go_written_core.specs.Written.{InFile}
-use Rattle.go_package_core.specs.entry_core.Outlines.{FileOutline, outline_of}
-use Rattle.go_package_core.specs.handle_core.Declarations.{Declaration}
-use Rattle.go_package_core.specs.face_core.Faces.{TheFace}
-use Rattle.go_package_core.specs.face_core.Laws.{FileDecl, file_decl, written_there}
-use Rattle.go_package_core.specs.face_core.Written.{WrittenOf, form_as_written, package_written}
-use Rattle.go_package_core.specs.face_core.Places.{positions_are_exact}
-use Rattle.go_package_core.specs.env_core.Scenes.{SceneModel}
+use Rattle.go_snap_core.specs.entry_core.Outlines.{FileOutline, outline_of}
+use Rattle.go_snap_core.specs.handle_core.Declarations.{Declaration}
+use Rattle.go_snap_core.specs.face_core.Faces.{TheFace}
+use Rattle.go_snap_core.specs.face_core.Laws.{FileDecl, file_decl, written_there}
+use Rattle.go_snap_core.specs.face_core.Written.{WrittenOf, form_as_written, package_written}
+use Rattle.go_snap_core.specs.face_core.Places.{positions_are_exact}
+use Rattle.go_snap_core.specs.env_core.Scenes.{SceneModel}
 use Rattle.go_needs_core.specs.Needs.{AreValues, known_in}
 use Rattle.go_needs_core.proofs.Needed.{one_table}
-use Rattle.go_package_core.specs.func_core.Stands.{FileStand, looks_where}
-use Rattle.go_package_core.specs.func_core.Functions.{checked_func}
-use Rattle.go_package_core.specs.ready_core.Packages.{PackageIn, outlines_in, scene_in, stand_in}
-use Rattle.go_package_core.specs.ready_core.Values.{decls_in, AreDeclared}
+use Rattle.go_snap_core.specs.func_core.Stands.{FileStand, looks_where}
+use Rattle.go_snap_core.specs.func_core.Functions.{checked_func}
+use Rattle.go_snap_core.specs.ready_core.Packages.{PackageIn, outlines_in, scene_in, stand_in}
+use Rattle.go_snap_core.specs.ready_core.Values.{decls_in, AreDeclared}
 use Rattle.go_spelling_core.specs.Contexts.{ContextStays}
 use Rattle.go_spelling_core.specs.Package.{FileForm, all_needs, form_needs, face_of, face_at_position, AreFacesOf}
 use Rattle.go_spelling_core.specs.Trees.{RespellsLines, RespellsSteps, InFuncBody, with_body}
 use Rattle.go_local_core.specs.Outline.{func_steps}
-use Rattle.go_package_core.specs.file_core.Files.{tops_uses}
+use Rattle.go_snap_core.specs.file_core.Files.{tops_uses}
 use Rattle.go_spelling_core.specs.Spots.{tops_spots}
 use Rattle.go_spelling_core.proofs.Looking.{looks_at_needs}
 use Rattle.go_spelling_core.specs.Files.{WritesBody, InFunc, BehindTop, with_decls, with_trees}

@@ -11,22 +11,22 @@ use Rattle.go_block_core.specs.Blocks.{BlocksModel}
 use Rattle.go_type_core.specs.table_core.Entries.{Entry}
 use Rattle.go_term_core.specs.Terms.{Term, Sign}
 use Rattle.go_written_core.specs.Written.{InFile}
-use Rattle.go_package_core.specs.entry_core.Outlines.{outline_of}
-use Rattle.go_package_core.specs.entry_core.Meanings.{Shows, file_meaning}
-use Rattle.go_package_core.specs.handle_core.Declarations.{Declaration}
+use Rattle.go_snap_core.specs.entry_core.Outlines.{outline_of}
+use Rattle.go_snap_core.specs.entry_core.Meanings.{Shows, file_meaning}
+use Rattle.go_snap_core.specs.handle_core.Declarations.{Declaration}
 use Rattle.go_expr_core.specs.Looks.{WrittenRules}
-use Rattle.go_package_core.specs.face_core.Faces.{TheFace}
-use Rattle.go_package_core.specs.face_core.Laws.{FileDecl, written_there}
-use Rattle.go_package_core.specs.face_core.Written.{WrittenOf, form_as_written, value_as_written, package_written}
-use Rattle.go_package_core.specs.face_core.Places.{positions_are_exact}
-use Rattle.go_package_core.specs.env_core.Scenes.{SceneModel}
-use Rattle.go_package_core.specs.env_core.Looks.{TheLooks}
+use Rattle.go_snap_core.specs.face_core.Faces.{TheFace}
+use Rattle.go_snap_core.specs.face_core.Laws.{FileDecl, written_there}
+use Rattle.go_snap_core.specs.face_core.Written.{WrittenOf, form_as_written, value_as_written, package_written}
+use Rattle.go_snap_core.specs.face_core.Places.{positions_are_exact}
+use Rattle.go_snap_core.specs.env_core.Scenes.{SceneModel}
+use Rattle.go_snap_core.specs.env_core.Looks.{TheLooks}
 use Rattle.go_needs_core.specs.Needs.{AreValues, known_in}
 use Rattle.go_piece_core.specs.Specifications.{spec_uses}
-use Rattle.go_package_core.specs.value_core.Laws.{FormsAlike}
-use Rattle.go_package_core.specs.func_core.Stands.{FileStand, types_where, outer_look, outer_looks}
-use Rattle.go_package_core.specs.ready_core.Packages.{PackageIn, outlines_in, scene_in, stand_in}
-use Rattle.go_package_core.specs.ready_core.Values.{file_decl_needs, decls_in, some_decl_face, AreDeclared}
+use Rattle.go_snap_core.specs.value_core.Laws.{FormsAlike}
+use Rattle.go_snap_core.specs.func_core.Stands.{FileStand, types_where, outer_look, outer_looks}
+use Rattle.go_snap_core.specs.ready_core.Packages.{PackageIn, outlines_in, scene_in, stand_in}
+use Rattle.go_snap_core.specs.ready_core.Values.{file_decl_needs, decls_in, some_decl_face, AreDeclared}
 use Rattle.go_spelling_core.specs.Contexts.{ContextStays}
 use Rattle.go_spelling_core.specs.Package.{FileForm, AllFixed, all_needs, face_of, face_at_position, AreFacesOf, IsAsItWas, IsWrittenAnew, AreWrittenAnew}
 use Rattle.go_spelling_core.specs.PieceSpots.{spec_spots}

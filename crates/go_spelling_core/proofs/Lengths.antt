@@ -21,10 +21,10 @@ use Rattle.go_expr_core.proofs.Independence.{len, map_len}
 use Rattle.go_piece_core.specs.Headers.{receiver_uses}
 use Rattle.go_piece_core.specs.Pieces.{piece_values}
 use Rattle.go_piece_core.specs.Specifications.{spec_uses}
-use Rattle.go_package_core.specs.func_core.Stands.{FileStand, looks_where, outer_meanings, outer_looks}
-use Rattle.go_package_core.specs.body_core.Rules.{local_at}
-use Rattle.go_package_core.specs.func_core.Functions.{checked_func}
-use Rattle.go_package_core.specs.file_core.Files.{decl_uses}
+use Rattle.go_snap_core.specs.func_core.Stands.{FileStand, looks_where, outer_meanings, outer_looks}
+use Rattle.go_snap_core.specs.body_core.Rules.{local_at}
+use Rattle.go_snap_core.specs.func_core.Functions.{checked_func}
+use Rattle.go_snap_core.specs.file_core.Files.{decl_uses}
 use Rattle.go_spelling_core.specs.PieceContexts.{spot_rules}
 use Rattle.go_spelling_core.specs.PieceSpots.{exprs_spots, some_type_spots, values_spots, spec_spots, target_spots, targets_spots, simple_spots, receiver_spots, given_spots, piece_spots}
 use Rattle.go_spelling_core.proofs.Splits.{len_app}

@@ -9,15 +9,15 @@ use Rattle.go_decl_core.specs.TopDecls.{FormTree, ValueForm, TypeForm, FuncForm}
 use Rattle.go_term_core.specs.Terms.{Term}
 use Rattle.go_expr_core.specs.Looks.{WrittenRules}
 use Rattle.go_expr_core.specs.Laws.{LooksAtNames}
-use Rattle.go_package_core.specs.face_core.declared.face.Face.TheVariants as faces
-use Rattle.go_package_core.specs.face_core.Faces.{TheFace}
-use Rattle.go_package_core.specs.face_core.Written.{written_at}
-use Rattle.go_package_core.specs.env_core.Scenes.{SceneModel}
+use Rattle.go_snap_core.specs.face_core.declared.face.Face.TheVariants as faces
+use Rattle.go_snap_core.specs.face_core.Faces.{TheFace}
+use Rattle.go_snap_core.specs.face_core.Written.{written_at}
+use Rattle.go_snap_core.specs.env_core.Scenes.{SceneModel}
 use Rattle.go_needs_core.specs.Needs.{LooksAtNeeds, needed, known_in}
-use Rattle.go_package_core.specs.value_core.Initial.{initial, initial_idents, some_written_type}
-use Rattle.go_package_core.specs.value_core.Package.{idents_need, value_idents, form_idents, first_values, value_face, form_face}
-use Rattle.go_package_core.specs.value_core.Owning.{initial_alike}
-use Rattle.go_package_core.specs.value_core.Seeing.{SameAt, idents_alike, first_at, needs_inside}
+use Rattle.go_snap_core.specs.value_core.Initial.{initial, initial_idents, some_written_type}
+use Rattle.go_snap_core.specs.value_core.Package.{idents_need, value_idents, form_idents, first_values, value_face, form_face}
+use Rattle.go_snap_core.specs.value_core.Owning.{initial_alike}
+use Rattle.go_snap_core.specs.value_core.Seeing.{SameAt, idents_alike, first_at, needs_inside}
 use Rattle.go_spelling_core.specs.Package.{FileForm, AreFixed, AllFixed, file_looks, form_needs, all_needs, face_of, face_at_position}
 
 pub fixed_law : (written : WrittenRules Term) → AreFixed written → LooksAtNames Term written

@@ -17,12 +17,12 @@ use Rattle.go_expr_core.specs.Uses.{use_of, type_spots}
 use Rattle.go_piece_core.specs.Headers.{returned_types, returned_names}
 use Rattle.go_piece_core.specs.Pieces.{piece_uses, piece_values}
 use Rattle.go_piece_core.specs.Specifications.{spec_uses}
-use Rattle.go_package_core.specs.env_core.declared.meaning.Meaning.{Meaning}
-use Rattle.go_package_core.specs.body_core.Notes.{NoteOf, all_uses}
-use Rattle.go_package_core.specs.body_core.Rules.{local_at}
-use Rattle.go_package_core.specs.func_core.Stands.{FileStand, looks_where, outer_meanings, outer_look, outer_looks}
-use Rattle.go_package_core.specs.func_core.Functions.{own_rules, checked_func}
-use Rattle.go_package_core.specs.file_core.Files.{decl_uses, tops_uses}
+use Rattle.go_snap_core.specs.env_core.declared.meaning.Meaning.{Meaning}
+use Rattle.go_snap_core.specs.body_core.Notes.{NoteOf, all_uses}
+use Rattle.go_snap_core.specs.body_core.Rules.{local_at}
+use Rattle.go_snap_core.specs.func_core.Stands.{FileStand, looks_where, outer_meanings, outer_look, outer_looks}
+use Rattle.go_snap_core.specs.func_core.Functions.{own_rules, checked_func}
+use Rattle.go_snap_core.specs.file_core.Files.{decl_uses, tops_uses}
 use Rattle.go_spelling_core.specs.PieceContexts.{spot_rules}
 use Rattle.go_spelling_core.specs.PieceSpots.{spec_spots, piece_spots}
 use Rattle.go_spelling_core.proofs.Pieces.{piece_used}

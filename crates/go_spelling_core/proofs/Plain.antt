@@ -19,11 +19,11 @@ use Rattle.go_literal_core.specs.Repeats.{has_name}
 use Rattle.go_expr_core.specs.Looks.{Looks, look_of_place, literals_at}
 use Rattle.go_expr_core.specs.Laws.{finding}
 use Rattle.go_expr_core.specs.Uses.{SelectorBehind, KeyAmong, rule}
-use Rattle.go_package_core.specs.face_core.Faces.{TheFace}
-use Rattle.go_package_core.specs.env_core.Scenes.{SceneModel}
+use Rattle.go_snap_core.specs.face_core.Faces.{TheFace}
+use Rattle.go_snap_core.specs.env_core.Scenes.{SceneModel}
 use Rattle.go_needs_core.specs.Needs.{AreValues, known_in}
-use Rattle.go_package_core.specs.value_core.Package.{PlacedOf, decl_needs, package_needs, some_face, declared_face}
-use Rattle.go_package_core.specs.value_core.Laws.{AreFaces}
+use Rattle.go_snap_core.specs.value_core.Package.{PlacedOf, decl_needs, package_needs, some_face, declared_face}
+use Rattle.go_snap_core.specs.value_core.Laws.{AreFaces}
 use Rattle.go_spelling_core.specs.PieceLaws.{FacesAreAsEver, BehindDotsNoNames}
 use Rattle.go_spelling_core.specs.Package.{placed_form, all_needs, face_of, face_at_position, AreFacesOf}
 

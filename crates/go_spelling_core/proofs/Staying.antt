@@ -5,19 +5,19 @@ use Rattle.std.specs.List.{enumerate_from}
 use Rattle.go_tree_nodes.specs.declared.names.Ident.{Ident}
 use Rattle.go_tree_nodes.specs.Trees.{ValueSpecTree, FuncTree, Lines, TopTree, FileTree}
 use Rattle.go_term_core.specs.Terms.{Term, Sign}
-use Rattle.go_package_core.proofs.Numbered.{numbered_at}
-use Rattle.go_package_core.specs.entry_core.Outlines.{outline_of}
+use Rattle.go_snap_core.specs.package_core.Numbered.{numbered_at}
+use Rattle.go_snap_core.specs.entry_core.Outlines.{outline_of}
 use Rattle.go_type_core.specs.table_core.Entries.{Entry}
-use Rattle.go_package_core.specs.handle_core.Declarations.{Declaration}
+use Rattle.go_snap_core.specs.handle_core.Declarations.{Declaration}
 use Rattle.go_local_core.specs.Binding.{NameLook}
 use Rattle.go_expr_core.specs.Uses.{Context, Identifier, rule, role_of, made_use}
-use Rattle.go_package_core.specs.env_core.declared.meaning.Meaning.{Meaning}
-use Rattle.go_package_core.specs.func_core.Stands.{FileStand, looks_where, outer_look, outer_looks}
-use Rattle.go_package_core.specs.file_core.Files.{tops_uses}
+use Rattle.go_snap_core.specs.env_core.declared.meaning.Meaning.{Meaning}
+use Rattle.go_snap_core.specs.func_core.Stands.{FileStand, looks_where, outer_look, outer_looks}
+use Rattle.go_snap_core.specs.file_core.Files.{tops_uses}
 use Rattle.go_spelling_core.specs.Contexts.{ContextStays}
-use Rattle.go_package_core.specs.ready_core.Packages.{PackageIn, stand_in}
-use Rattle.go_package_core.specs.ready_core.Values.{AreDeclared}
-use Rattle.go_package_core.specs.Checked.{CheckedOf, IsChecked, IsFileChecked}
+use Rattle.go_snap_core.specs.ready_core.Packages.{PackageIn, stand_in}
+use Rattle.go_snap_core.specs.ready_core.Values.{AreDeclared}
+use Rattle.go_snap_core.specs.package_core.Checked.{CheckedOf, IsChecked, IsFileChecked}
 use Rattle.go_spelling_core.specs.Files.{IsWrittenIn, IsBodyIn, WritesInTops, WritesBody, with_decls, with_trees}
 use Rattle.go_spelling_core.specs.Outer.{OuterTypesInFilesStay}
 use Rattle.go_spelling_core.specs.Packages.{FileInitialisersStay, PackageBodiesStay, TypesStay}

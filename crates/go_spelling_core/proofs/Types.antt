@@ -15,22 +15,22 @@ use Rattle.go_denote_core.specs.declared.things.Denoted.{Denoted}
 use Rattle.go_denote_core.specs.declared.things.Denoted.TheVariants as denotes
 use Rattle.go_denote_core.specs.declared.things.Stand.TheVariants as stands
 use Rattle.go_denote_core.specs.Answers.{refused, found_answer}
-use Rattle.go_package_core.specs.handle_core.Declarations.{Declaration}
+use Rattle.go_snap_core.specs.handle_core.Declarations.{Declaration}
 use Rattle.go_term_core.specs.Terms.{Term, Sign}
-use Rattle.go_package_core.specs.names_core.declared.meaning.Outside.TheVariants as outsides
+use Rattle.go_snap_core.specs.names_core.declared.meaning.Outside.TheVariants as outsides
 use Rattle.go_expr_core.specs.Looks.{WrittenRules}
 use Rattle.go_expr_core.specs.Denoting.{ident_answer}
 use Rattle.go_expr_core.specs.Respelling.{RespellsName, RespellsType, RespellsSignature}
 use Rattle.go_expr_core.specs.TypeUses.{type_uses, signature_uses}
 use Rattle.go_expr_core.specs.Uses.{Spot, use_of, type_name_spots, type_name_uses, type_spots, signature_spots}
-use Rattle.go_package_core.specs.face_core.declared.face.Face.TheVariants as faces
-use Rattle.go_package_core.specs.face_core.Faces.{TheFace}
-use Rattle.go_package_core.specs.env_core.declared.meaning.Meaning.{Meaning}
-use Rattle.go_package_core.specs.env_core.declared.meaning.Meaning.TheVariants as meanings
-use Rattle.go_package_core.specs.env_core.Found.{found_face, found_universe, found_target, found_binding, found_of}
-use Rattle.go_package_core.specs.env_core.Scenes.{SceneModel}
-use Rattle.go_package_core.specs.env_core.Looks.{TheLooks}
-use Rattle.go_package_core.specs.value_core.Package.{top_look}
+use Rattle.go_snap_core.specs.face_core.declared.face.Face.TheVariants as faces
+use Rattle.go_snap_core.specs.face_core.Faces.{TheFace}
+use Rattle.go_snap_core.specs.env_core.declared.meaning.Meaning.{Meaning}
+use Rattle.go_snap_core.specs.env_core.declared.meaning.Meaning.TheVariants as meanings
+use Rattle.go_snap_core.specs.env_core.Found.{found_face, found_universe, found_target, found_binding, found_of}
+use Rattle.go_snap_core.specs.env_core.Scenes.{SceneModel}
+use Rattle.go_snap_core.specs.env_core.Looks.{TheLooks}
+use Rattle.go_snap_core.specs.value_core.Package.{top_look}
 use Rattle.go_spelling_core.specs.Contexts.{ContextStays}
 use Rattle.go_spelling_core.specs.PieceLaws.{OuterTypesStay}
 use Rattle.go_spelling_core.specs.Package.{file_looks}

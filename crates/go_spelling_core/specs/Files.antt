@@ -3,7 +3,7 @@ use Rattle.std.specs.Prelude.{◌≡◌, ℕ, List, ◌∷◌, ◌++◌, Option,
 use Rattle.go_text_core.specs.declared.span.Span.{Span}
 use Rattle.go_tree_nodes.specs.declared.decls.ValueKind.{ValueKind}
 use Rattle.go_tree_nodes.specs.Trees.{ValueSpecTree, Specs, Single, Group, Value, Func, FuncTree, Lines, TopTree, FileTree}
-use Rattle.go_package_core.specs.ready_core.Packages.{PackageIn}
+use Rattle.go_snap_core.specs.ready_core.Packages.{PackageIn}
 use Rattle.go_spelling_core.specs.Trees.{with_body}
 
 -- among specifications in parentheses, alone or in parentheses, and among the declarations of a file: w where v stood

@@ -8,12 +8,12 @@ use Rattle.go_local_core.specs.Binding.{NameLook}
 use Rattle.go_local_core.specs.Outline.{func_steps}
 use Rattle.go_local_core.specs.Tables.{walked}
 use Rattle.go_term_core.specs.Terms.{Term, Sign}
-use Rattle.go_package_core.specs.handle_core.Declarations.{Declaration}
+use Rattle.go_snap_core.specs.handle_core.Declarations.{Declaration}
 use Rattle.go_expr_core.specs.Uses.{Spot}
-use Rattle.go_package_core.specs.env_core.declared.meaning.Meaning.{Meaning}
-use Rattle.go_package_core.specs.body_core.Rules.{local_at}
-use Rattle.go_package_core.specs.func_core.Stands.{FileStand, looks_where, outer_meanings}
-use Rattle.go_package_core.specs.func_core.Functions.{checked_func}
+use Rattle.go_snap_core.specs.env_core.declared.meaning.Meaning.{Meaning}
+use Rattle.go_snap_core.specs.body_core.Rules.{local_at}
+use Rattle.go_snap_core.specs.func_core.Stands.{FileStand, looks_where, outer_meanings}
+use Rattle.go_snap_core.specs.func_core.Functions.{checked_func}
 use Rattle.go_spelling_core.specs.Contexts.{ContextStays}
 use Rattle.go_spelling_core.specs.PieceContexts.{use_rules, spot_rules, names_there}
 use Rattle.go_spelling_core.specs.Trees.{RespellsSteps, RespellsFunc}

@@ -8,15 +8,15 @@ use Rattle.go_tree_nodes.specs.Trees.{TopTree, FileTree}
 use Rattle.go_term_core.specs.Terms.{Term}
 use Rattle.go_block_core.specs.Naming.{file_specs}
 use Rattle.go_type_core.specs.table_core.Entries.{Entry}
-use Rattle.go_package_core.specs.handle_core.Declarations.{Declaration}
+use Rattle.go_snap_core.specs.handle_core.Declarations.{Declaration}
 use Rattle.go_local_core.specs.Binding.{NameLook}
 use Rattle.go_expr_core.specs.Uses.{Context, Identifier, rule, role_of, made_use}
-use Rattle.go_package_core.specs.env_core.declared.meaning.Meaning.{Meaning}
-use Rattle.go_package_core.specs.body_core.Notes.{TheUse}
-use Rattle.go_package_core.specs.func_core.Stands.{FileStand, looks_where}
-use Rattle.go_package_core.specs.file_core.Imports.{imports_uses}
-use Rattle.go_package_core.specs.ready_core.Packages.{PackageIn}
-use Rattle.go_package_core.specs.Checked.{AnswersOf, CheckedOf, IsChecked, imports_at, stand_at}
+use Rattle.go_snap_core.specs.env_core.declared.meaning.Meaning.{Meaning}
+use Rattle.go_snap_core.specs.body_core.Notes.{TheUse}
+use Rattle.go_snap_core.specs.func_core.Stands.{FileStand, looks_where}
+use Rattle.go_snap_core.specs.file_core.Imports.{imports_uses}
+use Rattle.go_snap_core.specs.ready_core.Packages.{PackageIn}
+use Rattle.go_snap_core.specs.package_core.Checked.{AnswersOf, CheckedOf, IsChecked, imports_at, stand_at}
 use Rattle.go_spelling_core.specs.Files.{with_decls}
 use Rattle.go_spelling_core.specs.Places.{placed_spot, placed_use, tops_places, MeanThere}
 use Rattle.go_spelling_core.specs.Spellings.{RespellsTops, InInitialiser, InOuterTypes, InBody, RespellsPackage}

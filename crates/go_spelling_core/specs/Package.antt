@@ -10,13 +10,13 @@ use Rattle.go_tree_nodes.specs.Trees.{TypeTree, ValueSpecTree}
 use Rattle.go_decl_core.specs.TopDecls.{FormTree, ValueForm}
 use Rattle.go_term_core.specs.Terms.{Term}
 use Rattle.go_expr_core.specs.Looks.{WrittenRules}
-use Rattle.go_package_core.specs.face_core.Faces.{TheFace}
-use Rattle.go_package_core.specs.face_core.Written.{written_at}
-use Rattle.go_package_core.specs.env_core.Scenes.{SceneModel}
-use Rattle.go_package_core.specs.env_core.Looks.{TheLooks, looks_in, inline_rules}
+use Rattle.go_snap_core.specs.face_core.Faces.{TheFace}
+use Rattle.go_snap_core.specs.face_core.Written.{written_at}
+use Rattle.go_snap_core.specs.env_core.Scenes.{SceneModel}
+use Rattle.go_snap_core.specs.env_core.Looks.{TheLooks, looks_in, inline_rules}
 use Rattle.go_needs_core.specs.Needs.{AreValues}
-use Rattle.go_package_core.specs.value_core.Package.{PlacedOf, top_look, first_values, form_idents, idents_need, form_face, written_face}
-use Rattle.go_package_core.specs.value_core.Laws.{FormsAlike}
+use Rattle.go_snap_core.specs.value_core.Package.{PlacedOf, top_look, first_values, form_idents, idents_need, form_face, written_face}
+use Rattle.go_snap_core.specs.value_core.Laws.{FormsAlike}
 
 -- a declaration of a package: the number of its file in order of name, from 0, what the types are that this file writes in initialisers, and its tree
 pub record FileForm : Type 0 where

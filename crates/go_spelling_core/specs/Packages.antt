@@ -7,22 +7,22 @@ use Rattle.go_tree_nodes.specs.declared.names.Ident.{Ident}
 use Rattle.go_tree_nodes.specs.Trees.{ValueSpecTree, FuncTree, Lines}
 use Rattle.go_type_core.specs.table_core.Entries.{Entry}
 use Rattle.go_term_core.specs.Terms.{Term, Sign}
-use Rattle.go_package_core.specs.handle_core.Declarations.{Declaration}
-use Rattle.go_package_core.specs.entry_core.Outlines.{outline_of}
-use Rattle.go_package_core.specs.face_core.Faces.{TheFace}
+use Rattle.go_snap_core.specs.handle_core.Declarations.{Declaration}
+use Rattle.go_snap_core.specs.entry_core.Outlines.{outline_of}
+use Rattle.go_snap_core.specs.face_core.Faces.{TheFace}
 use Rattle.go_piece_core.specs.Specifications.{spec_uses}
-use Rattle.go_package_core.specs.func_core.Stands.{outer_looks}
-use Rattle.go_package_core.specs.ready_core.Packages.{PackageIn, stand_in}
-use Rattle.go_package_core.specs.ready_core.Types.{AreTypes}
-use Rattle.go_package_core.specs.ready_core.Values.{AreDeclared}
-use Rattle.go_package_core.specs.fault_core.declared.places.PackageFault.{PackageFault}
+use Rattle.go_snap_core.specs.func_core.Stands.{outer_looks}
+use Rattle.go_snap_core.specs.ready_core.Packages.{PackageIn, stand_in}
+use Rattle.go_snap_core.specs.ready_core.Types.{AreTypes}
+use Rattle.go_snap_core.specs.ready_core.Values.{AreDeclared}
+use Rattle.go_snap_core.specs.fault_core.declared.places.PackageFault.{PackageFault}
 use Rattle.go_spelling_core.specs.Contexts.{ContextStays}
 use Rattle.go_spelling_core.specs.PieceSpots.{spec_spots}
 use Rattle.go_spelling_core.specs.Trees.{RespellsValues}
-use Rattle.go_package_core.specs.file_core.Files.{tops_uses}
+use Rattle.go_snap_core.specs.file_core.Files.{tops_uses}
 use Rattle.go_spelling_core.specs.Trees.{RespellsLines, RespellsSteps, with_body}
 use Rattle.go_local_core.specs.Outline.{func_steps}
-use Rattle.go_package_core.specs.func_core.Stands.{looks_where}
+use Rattle.go_snap_core.specs.func_core.Stands.{looks_where}
 use Rattle.go_spelling_core.specs.Files.{IsWrittenIn, IsBodyIn, with_decls}
 use Rattle.go_spelling_core.specs.Functions.{names_before}
 use Rattle.go_spelling_core.specs.Spots.{tops_spots}

@@ -11,10 +11,10 @@ use Rattle.go_local_core.specs.Steps.{Piece}
 use Rattle.go_local_core.specs.Tables.{walked}
 use Rattle.go_expr_core.specs.Uses.{use_of, type_spots}
 use Rattle.go_piece_core.specs.Pieces.{piece_values}
-use Rattle.go_package_core.specs.env_core.declared.meaning.Meaning.{Meaning}
-use Rattle.go_package_core.specs.body_core.Notes.{TheUse}
-use Rattle.go_package_core.specs.body_core.Rules.{local_at}
-use Rattle.go_package_core.specs.func_core.Stands.{FileStand, looks_where, outer_meanings, outer_look, outer_looks}
+use Rattle.go_snap_core.specs.env_core.declared.meaning.Meaning.{Meaning}
+use Rattle.go_snap_core.specs.body_core.Notes.{TheUse}
+use Rattle.go_snap_core.specs.body_core.Rules.{local_at}
+use Rattle.go_snap_core.specs.func_core.Stands.{FileStand, looks_where, outer_meanings, outer_look, outer_looks}
 use Rattle.go_spelling_core.specs.PieceSpots.{spec_spots, piece_spots}
 use Rattle.go_spelling_core.specs.Functions.{TheSpot}
 use Rattle.go_spelling_core.specs.Spellings.{RespellsTops, InInitialiser, InOuterTypes, InBody}

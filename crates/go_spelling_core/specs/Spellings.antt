@@ -5,7 +5,7 @@ use Rattle.std.specs.Prelude.{◌≡◌, ℕ, List, ◌∷◌, ◌++◌, length}
 use Rattle.go_tree_nodes.specs.declared.names.Ident.{Ident}
 use Rattle.go_tree_nodes.specs.Trees.{ValueSpecTree, FuncTree, Lines, TopTree, FileTree}
 use Rattle.go_spelling_core.specs.Trees.{RespellsValues, RespellsLines}
-use Rattle.go_package_core.specs.ready_core.Packages.{PackageIn}
+use Rattle.go_snap_core.specs.ready_core.Packages.{PackageIn}
 use Rattle.go_spelling_core.specs.Files.{WritesInTops, WritesBody, with_decls, with_trees}
 use Rattle.go_spelling_core.specs.Outer.{RespellsOuterTops}
 

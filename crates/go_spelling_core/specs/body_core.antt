@@ -1,2 +1,2 @@
 -- What the crates above name of go_body_core.
-pub use Rattle.go_package_core.specs.body_core.Rules as Rules
+pub use Rattle.go_snap_core.specs.body_core.Rules as Rules

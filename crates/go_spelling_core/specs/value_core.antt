@@ -1,2 +1,2 @@
 -- What the crates above name of go_value_core.
-pub use Rattle.go_package_core.specs.value_core.Package as Package
+pub use Rattle.go_snap_core.specs.value_core.Package as Package

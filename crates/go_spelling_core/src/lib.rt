@@ -21,3 +21,18 @@ pub use piece_laws::{
     behind_dots_no_names, faces_are_as_ever, function_contexts_stay, initial_contexts_stay,
     needed_stays, outer_types_stay, piece_contexts_stay, untouched_stays,
 };
+
+/// What the crates above name of `go_answer_core`.
+pub mod answer_core {
+    pub use go_snap_core::answer_core::{Answer, Site};
+}
+
+/// What the crates above name of `go_part_core`.
+pub mod part_core {
+    pub use go_snap_core::part_core::{Part, part_has_occurrences};
+}
+
+/// What the crates above name of `go_snap_core`.
+pub mod snap_core {
+    pub use go_snap_core::{FileIn, PlacedFault, Snapshot};
+}

@@ -3,7 +3,7 @@ use Rattle.std.specs.Prelude.{◌≡◌, ℕ, if◌then◌else◌, List, [], ◌
 use Rattle.std.specs.List.{fold}
 use Rattle.go_graph_core.specs.Sources.{SourceModel}
 use Rattle.go_graph_core.specs.Workspaces.{PackageModel, IsWorkspace, files_at, is_path_inside, replaced}
-use Rattle.go_snap_core.specs.Snapshots.{SnapshotModel}
+use Rattle.go_thread_core.specs.snap_core.Snapshots.{SnapshotModel}
 use Rattle.go_submit_core.specs.Published.{IsOneWorker, sources_of}
 use Rattle.go_submit_core.specs.Submitted.{submitted}
 use Rattle.go_submit_core.specs.declared.submission.Submission.{Submission}

@@ -9,4 +9,5 @@ pub mod make_core
 pub mod part_core
 pub mod snap_core
 pub mod summary_core
+pub mod thread_core_lemmas
 pub mod whole_core

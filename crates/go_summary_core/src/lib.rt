@@ -31,6 +31,16 @@ pub mod block_core {
     pub use go_alike_core::block_core::{Blocks, Imported, blocks, import_names};
 }
 
+/// What the crates above name of `go_denote_core`.
+pub mod denote_core {
+    pub use go_alike_core::denote_core::Outcome;
+}
+
+/// What the crates above name of `go_face_core`.
+pub mod face_core {
+    pub use go_alike_core::face_core::{Face, FaceTable, lend};
+}
+
 /// What the crates above name of `go_graph_core`.
 pub mod graph_core {
     pub use go_alike_core::graph_core::Package;

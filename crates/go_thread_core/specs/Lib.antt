@@ -1,1 +1,6 @@
 pub mod Threads
+pub mod make_core
+pub mod part_core
+pub mod snap_core
+pub mod summary_core
+pub mod whole_core

@@ -1,10 +1,8 @@
 pub mod Initial
 pub mod Tops
 pub mod denote_core
-pub mod embed_core
 pub mod expr_core
 pub mod inline_core
-pub mod literal_core
 pub mod local_core
 pub mod piece_core
 pub mod statement_core

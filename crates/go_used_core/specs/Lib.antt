@@ -3,10 +3,10 @@ pub mod Reported
 pub mod Used
 pub mod mirrors
 pub mod answer_core
-pub mod denote_core
+pub mod block_core
 pub mod expr_core
 pub mod face_core
 pub mod handle_core
+pub mod literal_core
 pub mod local_core
 pub mod report_core
-pub mod tree_core

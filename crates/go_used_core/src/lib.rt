@@ -15,22 +15,25 @@ pub use unused::refuse_unused;
 
 /// What the crates above name of `go_answer_core`.
 pub mod answer_core {
-    pub use go_answer_core::{Answer, HeldLocal, Site};
+    pub use go_answer_core::{
+        Answer, HeldLocal, OuterAt, Site, answers_of, held_faces, hold_local, outer_faults,
+        shown_faces,
+    };
 }
 
-/// What the crates above name of `go_denote_core`.
-pub mod denote_core {
-    pub use go_answer_core::denote_core::Outcome;
+/// What the crates above name of `go_block_core`.
+pub mod block_core {
+    pub use go_answer_core::block_core::{Blocks, Imported};
 }
 
 /// What the crates above name of `go_face_core`.
 pub mod face_core {
-    pub use go_answer_core::face_core::{Face, FaceTable, lend};
+    pub use go_answer_core::face_core::{Face, FaceTable, PackageFaces, WrittenFaces};
 }
 
 /// What the crates above name of `go_handle_core`.
 pub mod handle_core {
-    pub use go_answer_core::handle_core::{Decl, DeclSite, SignatureRef, TypeRef};
+    pub use go_answer_core::handle_core::{Decl, DeclSite, Home, SignatureRef, TypeRef};
 }
 
 /// What the crates above name of `go_local_core`.

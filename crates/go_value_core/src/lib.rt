@@ -24,11 +24,6 @@ pub use needs::package_needs;
 pub use placed::{PlacedDecl, placed_decls};
 pub use through::through_itself;
 
-/// What the crates above name of `go_entry_core`.
-pub mod entry_core {
-    pub use go_env_core::entry_core::{ImportedNames, outlines};
-}
-
 /// What the crates above name of `go_env_core`.
 pub mod env_core {
     pub use go_env_core::{Meaning, Scene, outer_names, stand};

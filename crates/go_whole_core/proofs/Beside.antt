@@ -11,10 +11,10 @@ use Rattle.go_near_core.specs.table_core.Entries.{Entry}
 use Rattle.go_near_core.specs.table_core.Tables.{package_types}
 use Rattle.go_near_core.specs.entry_core.Among.{Among}
 use Rattle.go_near_core.specs.face_core.Packages.{PackageFacesModel}
-use Rattle.go_part_core.specs.summary_core.Summaries.{SummaryModel, IsOfOne, path_of, summary_of}
-use Rattle.go_part_core.specs.summary_core.Views.{PathsAreApart, exports_told, faces_told, types_told}
-use Rattle.go_part_core.specs.ready_core.Packages.{PackageIn}
-use Rattle.go_part_core.specs.package_core.Checked.{CheckedOf}
+use Rattle.go_near_core.specs.summary_core.Summaries.{SummaryModel, IsOfOne, path_of, summary_of}
+use Rattle.go_near_core.specs.summary_core.Views.{PathsAreApart, exports_told, faces_told, types_told}
+use Rattle.go_near_core.specs.ready_core.Packages.{PackageIn}
+use Rattle.go_near_core.specs.package_core.Checked.{CheckedOf}
 use Rattle.go_near_core.specs.entry_core.Showing.{shown_in}
 use Rattle.go_whole_core.specs.Known.{CheckGives}
 use Rattle.go_whole_core.proofs.Told.{AreWell, NoneIsOf}

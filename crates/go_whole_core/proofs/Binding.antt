@@ -19,7 +19,7 @@ use Rattle.go_block_core.specs.Tables.{in_block}
 use Rattle.go_block_core.proofs.BindingLemmas.{imports_list}
 use Rattle.go_block_core.proofs.HoldingLaws.{file_answers, file_holds}
 use Rattle.go_near_core.specs.entry_core.Among.{Among, among_to, among_flat, among_map, among_right}
-use Rattle.go_part_core.specs.ready_core.Lists.{mapped_at}
+use Rattle.go_near_core.specs.ready_core.Lists.{mapped_at}
 use Rattle.go_whole_core.specs.Known.{IsImportedPath, IsTargetIn}
 use Rattle.go_whole_core.specs.LocalLaws.{ImportsBindTheirs}
 

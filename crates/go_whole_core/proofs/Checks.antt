@@ -13,9 +13,9 @@ use Rattle.go_near_core.specs.type_core.Built.{AreEntries}
 use Rattle.go_near_core.specs.entry_core.Entries.{package_meanings, package_methods}
 use Rattle.go_near_core.specs.entry_core.Ordered.{entries_own}
 use Rattle.go_near_core.specs.face_core.Packages.{PackageFacesModel}
-use Rattle.go_part_core.specs.ready_core.Made.{trees_placed}
-use Rattle.go_part_core.specs.ready_core.Packages.{PackageIn, entries_in, outlines_in, trees_in}
-use Rattle.go_part_core.specs.package_core.Checked.{CheckedOf, IsChecked}
+use Rattle.go_near_core.specs.ready_core.Made.{trees_placed}
+use Rattle.go_near_core.specs.ready_core.Packages.{PackageIn, entries_in, outlines_in, trees_in}
+use Rattle.go_near_core.specs.package_core.Checked.{CheckedOf, IsChecked}
 use Rattle.go_tree_nodes.specs.Spelling.{IsPlaced}
 
 -- the trees of a package of a workspace are placed

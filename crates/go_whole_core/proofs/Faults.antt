@@ -24,8 +24,8 @@ use Rattle.go_near_core.specs.embed_core.Telling.{faults_local}
 use Rattle.go_near_core.specs.entry_core.Entries.{Meanings}
 use Rattle.go_near_core.specs.entry_core.Outlines.{FileOutline}
 use Rattle.go_near_core.specs.entry_core.Among.{Among}
-use Rattle.go_part_core.specs.fault_core.Places.{all_located, fault_in}
-use Rattle.go_part_core.specs.fault_core.TypeFaults.{entries_faults, entry_faults, faults_of_types, form_fault, loops_faults, met_in, met_type, received_fault, receivers_faults}
+use Rattle.go_near_core.specs.fault_core.Places.{all_located, fault_in}
+use Rattle.go_near_core.specs.fault_core.TypeFaults.{entries_faults, entry_faults, faults_of_types, form_fault, loops_faults, met_in, met_type, received_fault, receivers_faults}
 use Rattle.go_whole_core.proofs.Names.{AllInside, none_inside}
 use Rattle.go_whole_core.proofs.Types.{IsEntryInside}
 use Rattle.go_settle_core.specs.Settled.{can_be_pointed}

@@ -21,11 +21,11 @@ use Rattle.go_block_core.specs.Naming.{AreInPackage, import_at}
 use Rattle.go_block_core.specs.mirrors.Steps.{AreReady, HasExports, IsPlanned, IsReady, IsShownIn}
 use Rattle.go_block_core.proofs.Growing.{given_weaker, package_weaker}
 use Rattle.go_block_core.proofs.AllLemmas.{import_there}
-use Rattle.go_part_core.specs.summary_core.Summaries.{SummaryModel, path_of}
-use Rattle.go_part_core.specs.summary_core.Views.{PathsAreApart}
+use Rattle.go_near_core.specs.summary_core.Summaries.{SummaryModel, path_of}
+use Rattle.go_near_core.specs.summary_core.Views.{PathsAreApart}
 use Rattle.go_near_core.specs.entry_core.Among.{among_to}
-use Rattle.go_part_core.specs.Inputs.{InputModel}
-use Rattle.go_part_core.specs.Parts.{PartModel}
+use Rattle.go_near_core.specs.part_core.Inputs.{InputModel}
+use Rattle.go_near_core.specs.part_core.Parts.{PartModel}
 use Rattle.go_whole_core.specs.Inputs.{AreToldTo, ComesTo, HasReached, IsInputAt, IsPassingImport, ReachesPackage, Shown, Tells}
 use Rattle.go_whole_core.specs.mirrors.Steps.{AreReachedAt, AreToldBySet, exports_in}
 use Rattle.go_whole_core.proofs.Lists.{all_from_among, none_is_some, zip_apart, zip_of}

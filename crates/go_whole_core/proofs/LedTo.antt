@@ -15,24 +15,24 @@ use Rattle.go_near_core.specs.entry_core.Entries.{Meanings, entries_with, file_a
 use Rattle.go_near_core.specs.entry_core.Meanings.{file_meaning}
 use Rattle.go_near_core.specs.entry_core.Outlines.{FileOutline, outline_of}
 use Rattle.go_near_core.specs.entry_core.Among.{Among}
-use Rattle.go_part_core.specs.fault_core.TypeFaults.{faults_of_types}
+use Rattle.go_near_core.specs.fault_core.TypeFaults.{faults_of_types}
 use Rattle.go_near_core.specs.handle_core.Declarations.{Declaration}
 use Rattle.go_near_core.specs.local_core.declared.Fault.{Fault}
-use Rattle.go_part_core.specs.report_core.Faults.{IsSettled}
+use Rattle.go_near_core.specs.report_core.Faults.{IsSettled}
 use Rattle.go_near_core.specs.face_core.Faces.{TheFace}
 use Rattle.go_near_core.specs.face_core.Packages.{PackageFacesModel, face_among, face_by, face_in}
 use Rattle.go_near_core.specs.face_core.Written.{decls_of, package_written, same_decl_place, written_at}
 use Rattle.go_near_core.specs.face_core.Locality.{written_are_local}
-use Rattle.go_part_core.specs.answer_core.Outer.{outer_faults}
-use Rattle.go_part_core.specs.answer_core.Shown.{exported_decls, is_decl_listed, package_shown, shown_among, shown_if}
+use Rattle.go_near_core.specs.answer_core.Outer.{outer_faults}
+use Rattle.go_near_core.specs.answer_core.Shown.{exported_decls, is_decl_listed, package_shown, shown_among, shown_if}
 use Rattle.go_near_core.specs.Tables.{AgreeOn}
 use Rattle.go_near_core.specs.Functions.{StandsAgree}
 use Rattle.go_near_core.proofs.Files.{file_used, file_breaks, file_declares}
-use Rattle.go_part_core.specs.ready_core.Packages.{PackageIn, entries_in, outlines_in, scene_in}
-use Rattle.go_part_core.specs.ready_core.Types.{AreTypes}
-use Rattle.go_part_core.specs.ready_core.Values.{AreDeclared, AreLooped}
-use Rattle.go_part_core.specs.package_core.Checked.{AnswersOf, CheckedOf, IsFileChecked, decls_before, imports_at}
-use Rattle.go_part_core.specs.package_core.Meanings.{one_check}
+use Rattle.go_near_core.specs.ready_core.Packages.{PackageIn, entries_in, outlines_in, scene_in}
+use Rattle.go_near_core.specs.ready_core.Types.{AreTypes}
+use Rattle.go_near_core.specs.ready_core.Values.{AreDeclared, AreLooped}
+use Rattle.go_near_core.specs.package_core.Checked.{AnswersOf, CheckedOf, IsFileChecked, decls_before, imports_at}
+use Rattle.go_near_core.specs.package_core.Meanings.{one_check}
 use Rattle.go_whole_core.specs.Known.{package_with, CheckGives, KnownAlike, BindsInside, MentionsInside, GivesInside}
 use Rattle.go_whole_core.proofs.Names.{AllInside, meaning_inside, meaning_same, meanings_same}
 use Rattle.go_whole_core.proofs.Types.{near_of, IsEntryInside, agree, built_over, entries_inside, own_inside, written_inside}
@@ -40,7 +40,7 @@ use Rattle.go_whole_core.proofs.Faults.{faults_same}
 use Rattle.go_whole_core.proofs.Seeing.{IsFaceInside, IsAnyInside, exported_same, outside_near, outside_same, shown_near}
 use Rattle.go_whole_core.proofs.Values.{AreKnownInside, declared_over, known_inside, looped_over, written_at_inside}
 use Rattle.go_tree_nodes.specs.Spelling.{IsPlaced}
-use Rattle.go_part_core.specs.Parts.{SeenOf}
+use Rattle.go_near_core.specs.part_core.Parts.{SeenOf}
 
 -- lists
 

@@ -21,13 +21,13 @@ use Rattle.go_near_core.specs.entry_core.Among.{Among, among_from}
 use Rattle.go_near_core.specs.table_core.Entries.{Entry}
 use Rattle.go_near_core.specs.table_core.Tables.{AreOthers}
 use Rattle.go_near_core.specs.face_core.Packages.{PackageFacesModel, with_faces}
-use Rattle.go_part_core.specs.summary_core.Summaries.{SummaryModel, IsOfOne, path_of}
-use Rattle.go_part_core.specs.summary_core.Views.{exports_told, types_told}
-use Rattle.go_part_core.specs.summary_core.Telling.{of_one}
-use Rattle.go_part_core.specs.summary_core.Viewed.{AreElsewhere, exports_added, faces_added, types_apart}
+use Rattle.go_near_core.specs.summary_core.Summaries.{SummaryModel, IsOfOne, path_of}
+use Rattle.go_near_core.specs.summary_core.Views.{exports_told, types_told}
+use Rattle.go_near_core.specs.summary_core.Telling.{of_one}
+use Rattle.go_near_core.specs.summary_core.Viewed.{AreElsewhere, exports_added, faces_added, types_apart}
 use Rattle.go_whole_core.specs.LocalLaws.{CheckIsLocal, ImportsBindTheirs}
-use Rattle.go_part_core.specs.Inputs.{InputModel}
-use Rattle.go_part_core.specs.Parts.{ContentOf, IsMade, IsPart, PartModel, seen_with}
+use Rattle.go_near_core.specs.part_core.Inputs.{InputModel}
+use Rattle.go_near_core.specs.part_core.Parts.{ContentOf, IsMade, IsPart, PartModel, seen_with}
 use Rattle.go_whole_core.specs.Inputs.{AreParts, ComesTo, IsInputOf, IsPartOf, Shown, Tells}
 use Rattle.go_whole_core.proofs.Lists.{all_from_among, one_at, zip_of, zip_to, zip_weaker}
 use Rattle.go_whole_core.proofs.Told.{AreWell, NoneIsOf}

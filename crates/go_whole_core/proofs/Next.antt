@@ -13,10 +13,10 @@ use Rattle.go_near_core.specs.table_core.Entries.{Entry}
 use Rattle.go_near_core.specs.table_core.Tables.{AreOthers}
 use Rattle.go_near_core.specs.entry_core.Showing.{shown_in, with_shown}
 use Rattle.go_near_core.specs.face_core.Packages.{PackageFacesModel, with_faces}
-use Rattle.go_part_core.specs.summary_core.Summaries.{SummaryModel, path_of}
+use Rattle.go_near_core.specs.summary_core.Summaries.{SummaryModel, path_of}
 use Rattle.go_whole_core.specs.LocalLaws.{CheckIsLocal, ImportsBindTheirs}
-use Rattle.go_part_core.specs.Inputs.{InputModel, path_in}
-use Rattle.go_part_core.specs.Parts.{ContentOf, IsMade, IsPart, PartModel, seen_with}
+use Rattle.go_near_core.specs.part_core.Inputs.{InputModel, path_in}
+use Rattle.go_near_core.specs.part_core.Parts.{ContentOf, IsMade, IsPart, PartModel, seen_with}
 use Rattle.go_whole_core.specs.Inputs.{AreParts, HasReached, IsInputAt, ReachesPackage, Tells}
 use Rattle.go_whole_core.specs.mirrors.Steps.{AreMade, IsNext, IsRight, SoFar}
 use Rattle.go_whole_core.proofs.Lists.{one_at}

@@ -15,10 +15,10 @@ use Rattle.go_block_core.specs.Exports.{ExportsModel}
 use Rattle.go_block_core.proofs.OneBlocks.{one_blocks}
 use Rattle.go_near_core.specs.entry_core.Showing.{shown_in}
 use Rattle.go_near_core.specs.entry_core.Among.{Among, among_from, among_map, among_to, map_among}
-use Rattle.go_part_core.specs.summary_core.Summaries.{SummaryModel, IsOfOne}
-use Rattle.go_part_core.specs.summary_core.Views.{exports_told, faces_told, types_told}
-use Rattle.go_part_core.specs.ready_core.Packages.{PackageIn}
-use Rattle.go_part_core.specs.package_core.Checked.{CheckedOf, IsChecked}
+use Rattle.go_near_core.specs.summary_core.Summaries.{SummaryModel, IsOfOne}
+use Rattle.go_near_core.specs.summary_core.Views.{exports_told, faces_told, types_told}
+use Rattle.go_near_core.specs.ready_core.Packages.{PackageIn}
+use Rattle.go_near_core.specs.package_core.Checked.{CheckedOf, IsChecked}
 use Rattle.go_whole_core.specs.Known.{CheckGives, KnownAlike}
 use Rattle.go_whole_core.specs.LocalLaws.{CheckIsLocal, ImportsBindTheirs, StandsAmong}
 use Rattle.go_whole_core.specs.Whole.{AreWhole, IsWhole, IsWholeEntry, WholeOf, beside, blocks_in, exports_beside, faces_beside, package_among, types_beside, whole_with}

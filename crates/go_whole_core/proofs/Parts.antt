@@ -11,12 +11,12 @@ use Rattle.go_block_core.specs.Naming.{package_named}
 use Rattle.go_block_core.specs.Exports.{ExportsModel}
 use Rattle.go_near_core.specs.entry_core.Showing.{shown_in}
 use Rattle.go_near_core.specs.entry_core.Among.{Among, among_from, among_map, among_to, map_among}
-use Rattle.go_part_core.specs.summary_core.Summaries.{SummaryModel, IsOfOne, path_of}
-use Rattle.go_part_core.specs.summary_core.Views.{exports_told, faces_told, types_told}
+use Rattle.go_near_core.specs.summary_core.Summaries.{SummaryModel, IsOfOne, path_of}
+use Rattle.go_near_core.specs.summary_core.Views.{exports_told, faces_told, types_told}
 use Rattle.go_whole_core.specs.Known.{KnownAlike}
 use Rattle.go_whole_core.specs.LocalLaws.{CheckIsLocal, ImportsBindTheirs, StandsAmong}
-use Rattle.go_part_core.specs.Inputs.{InputModel, path_in}
-use Rattle.go_part_core.specs.Parts.{ContentOf, IsMade, IsPart, PartModel, SeenOf, package_seen, seen_by, seen_with}
+use Rattle.go_near_core.specs.part_core.Inputs.{InputModel, path_in}
+use Rattle.go_near_core.specs.part_core.Parts.{ContentOf, IsMade, IsPart, PartModel, SeenOf, package_seen, seen_by, seen_with}
 use Rattle.go_whole_core.specs.Inputs.{ComesTo, IsInputOf, ReachesPackage, Shown, Tells}
 use Rattle.go_whole_core.specs.mirrors.Steps.{AreRight}
 use Rattle.go_whole_core.proofs.Lists.{all_from_among, one_at, zip_apart, zip_of, zip_to}

@@ -15,13 +15,13 @@ use Rattle.go_block_core.specs.Exports.{ExportsModel}
 use Rattle.go_block_core.proofs.Growing.{given_weaker, package_weaker}
 use Rattle.go_block_core.proofs.AllLemmas.{numbered_from}
 use Rattle.go_near_core.specs.entry_core.Among.{Among}
-use Rattle.go_part_core.specs.summary_core.Summaries.{SummaryModel, IsOfOne}
-use Rattle.go_part_core.specs.summary_core.Views.{exports_told, faces_told, types_told}
+use Rattle.go_near_core.specs.summary_core.Summaries.{SummaryModel, IsOfOne}
+use Rattle.go_near_core.specs.summary_core.Views.{exports_told, faces_told, types_told}
 use Rattle.go_whole_core.specs.Known.{CheckGives}
 use Rattle.go_whole_core.specs.LocalLaws.{CheckIsLocal, ImportsBindTheirs}
-use Rattle.go_part_core.specs.ready_core.Packages.{trees_in}
-use Rattle.go_part_core.specs.Inputs.{InputModel}
-use Rattle.go_part_core.specs.Parts.{AreFilesMade, IsPart, PartModel, package_seen, seen_by}
+use Rattle.go_near_core.specs.ready_core.Packages.{trees_in}
+use Rattle.go_near_core.specs.part_core.Inputs.{InputModel}
+use Rattle.go_near_core.specs.part_core.Parts.{AreFilesMade, IsPart, PartModel, package_seen, seen_by}
 use Rattle.go_whole_core.specs.Whole.{AreWhole, IsWhole, IsWholeEntry, WholeOf, beside, blocks_in, exports_beside, faces_beside, types_beside, whole_with}
 use Rattle.go_whole_core.specs.Inputs.{AreParts, ComesTo, IsInputOf, IsPartOf, ReachesPackage, Shown}
 use Rattle.go_whole_core.specs.Entries.{IsPartEntry, summary_by}

@@ -9,9 +9,9 @@ use Rattle.go_block_core.specs.graph_core.Imports.{IsNumbered}
 use Rattle.go_block_core.specs.graph_core.Sources.{SourceModel}
 use Rattle.go_block_core.specs.graph_core.Workspaces.{PackageModel}
 use Rattle.go_block_core.proofs.AllLemmas.{numbered_from}
-use Rattle.go_part_core.specs.summary_core.Summaries.{SummaryModel, path_of}
-use Rattle.go_part_core.specs.Inputs.{InputModel}
-use Rattle.go_part_core.specs.Parts.{PartModel}
+use Rattle.go_near_core.specs.summary_core.Summaries.{SummaryModel, path_of}
+use Rattle.go_near_core.specs.part_core.Inputs.{InputModel}
+use Rattle.go_near_core.specs.part_core.Parts.{PartModel}
 use Rattle.go_whole_core.specs.Inputs.{AreParts, HasReached, IsInputAt, IsPartOf, IsPassingImport, ReachesPackage, Tells}
 use Rattle.go_whole_core.specs.Laws.{AreOwnParts, HasPart, InputsStay, PartsComeInOrder, StayThere}
 use Rattle.go_whole_core.proofs.Lists.{one_at}

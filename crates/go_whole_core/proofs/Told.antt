@@ -11,16 +11,16 @@ use Rattle.go_near_core.specs.entry_core.Showing.{shown_in}
 use Rattle.go_near_core.specs.entry_core.Among.{Among, among_to}
 use Rattle.go_near_core.specs.face_core.Faces.{TheFace}
 use Rattle.go_near_core.specs.face_core.Packages.{exported_in, face_by, face_in}
-use Rattle.go_part_core.specs.summary_core.Summaries.{SummaryModel, IsOfOne, path_of}
-use Rattle.go_part_core.specs.summary_core.Views.{PathsAreApart, exports_told, faces_told, types_told}
-use Rattle.go_part_core.specs.summary_core.Telling.{nothing_else, views_tell}
-use Rattle.go_part_core.specs.ready_core.Packages.{PackageIn}
+use Rattle.go_near_core.specs.summary_core.Summaries.{SummaryModel, IsOfOne, path_of}
+use Rattle.go_near_core.specs.summary_core.Views.{PathsAreApart, exports_told, faces_told, types_told}
+use Rattle.go_near_core.specs.summary_core.Telling.{nothing_else, views_tell}
+use Rattle.go_near_core.specs.ready_core.Packages.{PackageIn}
 use Rattle.go_block_core.specs.declared.binding.Target.{Target}
 use Rattle.go_block_core.specs.declared.binding.Target.TheVariants as targets
 use Rattle.go_whole_core.specs.Known.{IsImportedPath, IsTargetIn, KnownAlike, MentionsInside, face_keys}
 use Rattle.go_whole_core.specs.LocalLaws.{ImportsBindTheirs, StandsAmong}
 use Rattle.go_tree_nodes.specs.Spelling.{IsPlaced}
-use Rattle.go_part_core.specs.Parts.{SeenOf}
+use Rattle.go_near_core.specs.part_core.Parts.{SeenOf}
 
 -- what summaries tell, as what is known of other packages
 abbrev pub known_by : List SummaryModel → SeenOf

@@ -34,12 +34,12 @@ use Rattle.go_near_core.specs.func_core.Stands.{outer_looks}
 use Rattle.go_needs_core.specs.Needs.{AreValues, EndsWithin, known_in, needed}
 use Rattle.go_near_core.specs.scope_core.Laws.{denotes}
 use Rattle.go_near_core.specs.scope_core.Models.{scopes_model}
-use Rattle.go_part_core.specs.value_core.Around.{LeadsBack}
-use Rattle.go_part_core.specs.value_core.Initial.{initial}
-use Rattle.go_part_core.specs.value_core.Package as values
-use Rattle.go_part_core.specs.value_core.Package.{first_values, form_face, written_face}
-use Rattle.go_part_core.specs.value_core.Owning.{outer_alike}
-use Rattle.go_part_core.specs.value_core.Deciding.{needs_decide}
+use Rattle.go_near_core.specs.value_core.Around.{LeadsBack}
+use Rattle.go_near_core.specs.value_core.Initial.{initial}
+use Rattle.go_near_core.specs.value_core.Package as values
+use Rattle.go_near_core.specs.value_core.Package.{first_values, form_face, written_face}
+use Rattle.go_near_core.specs.value_core.Owning.{outer_alike}
+use Rattle.go_near_core.specs.value_core.Deciding.{needs_decide}
 use Rattle.go_near_core.specs.piece_core.Specifications.{outer_values}
 use Rattle.go_near_core.specs.Near.{IfAny, NearValue, NearOperand}
 use Rattle.go_near_core.specs.Pieces.{IsOuterNearby}
@@ -48,11 +48,11 @@ use Rattle.go_near_core.specs.Functions.{StandsAgree}
 use Rattle.go_near_core.proofs.Closing.{either}
 use Rattle.go_near_core.proofs.Pieces.{outer_nearby}
 use Rattle.go_near_core.proofs.Functions.{outer_closed, outer_agree}
-use Rattle.go_part_core.specs.ready_core.Laws.{package_placed}
-use Rattle.go_part_core.specs.ready_core.Packages.{PackageIn, scene_in, stand_in}
-use Rattle.go_part_core.specs.ready_core.Values.{AreDeclared, AreLooped, declared_in, decls_in, needs_in, some_decl_face}
+use Rattle.go_near_core.specs.ready_core.Laws.{package_placed}
+use Rattle.go_near_core.specs.ready_core.Packages.{PackageIn, scene_in, stand_in}
+use Rattle.go_near_core.specs.ready_core.Values.{AreDeclared, AreLooped, declared_in, decls_in, needs_in, some_decl_face}
 use Rattle.go_near_core.specs.face_core.Places.{among_at}
-use Rattle.go_part_core.specs.ready_core.ValuesProofs.{needs_same, faces_same}
+use Rattle.go_near_core.specs.ready_core.ValuesProofs.{needs_same, faces_same}
 use Rattle.go_whole_core.specs.Known.{package_with, type_keys, value_type_keys}
 use Rattle.go_whole_core.proofs.Names.{AllInside, none_inside, one_inside}
 use Rattle.go_whole_core.proofs.Types.{near_of}
@@ -60,7 +60,7 @@ use Rattle.go_whole_core.proofs.Seeing.{IsFaceInside, IsAnyInside}
 use Rattle.go_tree_nodes.specs.Spelling.{IsPlaced}
 use Rattle.go_near_core.specs.table_core.Entries.{kinds_in}
 use Rattle.go_near_core.specs.statement_core.Locality.{Each}
-use Rattle.go_part_core.specs.Parts.{SeenOf}
+use Rattle.go_near_core.specs.part_core.Parts.{SeenOf}
 
 -- numbers of a list
 

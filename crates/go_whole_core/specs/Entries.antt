@@ -2,10 +2,10 @@
 --
 -- docs/RULES.md, "Whole workspaces".
 use Rattle.std.specs.Prelude.{◌≡◌, Option, Some, None, ⊤}
-use Rattle.go_part_core.specs.ready_core.Packages.{trees_in}
+use Rattle.go_near_core.specs.ready_core.Packages.{trees_in}
 use Rattle.go_near_core.specs.table_core.Tables.{package_types}
-use Rattle.go_part_core.specs.Parts.{AreFilesMade, PartModel}
-use Rattle.go_part_core.specs.summary_core.Summaries.{SummaryModel, summary_of}
+use Rattle.go_near_core.specs.part_core.Parts.{AreFilesMade, PartModel}
+use Rattle.go_near_core.specs.summary_core.Summaries.{SummaryModel, summary_of}
 use Rattle.go_whole_core.specs.Whole.{WholeOf}
 
 -- what a package tells, by its trees: its blocks, and the types and the faces that its check among all others gives

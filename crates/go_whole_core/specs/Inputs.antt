@@ -17,9 +17,9 @@ use Rattle.go_block_core.specs.graph_core.Workspaces.{PackageModel}
 use Rattle.go_block_core.specs.declared.imports.Imported.{Imported}
 use Rattle.go_block_core.specs.Exports.{ExportsModel}
 use Rattle.go_block_core.specs.Naming.{AreInPackage, IsGiven}
-use Rattle.go_part_core.specs.summary_core.Summaries.{SummaryModel, path_of}
-use Rattle.go_part_core.specs.Inputs.{InputModel}
-use Rattle.go_part_core.specs.Parts.{IsPart, PartModel}
+use Rattle.go_near_core.specs.summary_core.Summaries.{SummaryModel, path_of}
+use Rattle.go_near_core.specs.part_core.Inputs.{InputModel}
+use Rattle.go_near_core.specs.part_core.Parts.{IsPart, PartModel}
 
 -- the package of a number tells this
 pub record Tells (parts : List (Option PartModel)) (n : ℕ) (s : SummaryModel) : Type 0 where

@@ -19,9 +19,9 @@ use Rattle.go_near_core.specs.table_core.Entries.{Entry, find_entry, entry_keys}
 use Rattle.go_near_core.specs.face_core.declared.face.Face.TheVariants as faces
 use Rattle.go_near_core.specs.face_core.Faces.{TheFace}
 use Rattle.go_near_core.specs.face_core.Packages.{exported_in, face_by, face_in}
-use Rattle.go_part_core.specs.ready_core.Packages.{PackageIn}
-use Rattle.go_part_core.specs.package_core.Checked.{CheckedOf, IsChecked}
-use Rattle.go_part_core.specs.Parts.{SeenOf}
+use Rattle.go_near_core.specs.ready_core.Packages.{PackageIn}
+use Rattle.go_near_core.specs.package_core.Checked.{CheckedOf, IsChecked}
+use Rattle.go_near_core.specs.part_core.Parts.{SeenOf}
 
 -- a package, where this is known of others
 abbrev pub package_with : PackageIn → SeenOf → PackageIn

@@ -6,11 +6,11 @@ use Rattle.go_block_core.specs.graph_core.Packages.{Trees}
 use Rattle.go_block_core.specs.declared.imports.Imported.{Imported}
 use Rattle.go_block_core.specs.Blocks.{BlocksModel, AreBlocks}
 use Rattle.go_block_core.specs.Naming.{package_named}
-use Rattle.go_part_core.specs.ready_core.Packages.{PackageIn}
-use Rattle.go_part_core.specs.package_core.Checked.{CheckedOf}
+use Rattle.go_near_core.specs.ready_core.Packages.{PackageIn}
+use Rattle.go_near_core.specs.package_core.Checked.{CheckedOf}
 use Rattle.go_whole_core.specs.Known.{CheckGives, KnownAlike, BindsInside, MentionsInside, GivesInside, IsImportedPath}
 use Rattle.go_tree_nodes.specs.Spelling.{IsPlaced}
-use Rattle.go_part_core.specs.Parts.{SeenOf}
+use Rattle.go_near_core.specs.part_core.Parts.{SeenOf}
 
 -- among some packages
 

@@ -15,8 +15,8 @@ use Rattle.go_block_core.specs.Naming.{package_named}
 use Rattle.go_near_core.specs.table_core.Entries.{Entry}
 use Rattle.go_near_core.specs.entry_core.Showing.{shown_in}
 use Rattle.go_near_core.specs.face_core.Packages.{PackageFacesModel}
-use Rattle.go_part_core.specs.ready_core.Packages.{PackageIn, trees_in}
-use Rattle.go_part_core.specs.package_core.Checked.{CheckedOf, IsChecked}
+use Rattle.go_near_core.specs.ready_core.Packages.{PackageIn, trees_in}
+use Rattle.go_near_core.specs.package_core.Checked.{CheckedOf, IsChecked}
 
 -- of an assembled package its path and files, its blocks, and what its check gives
 pub record WholeOf : Type 0 where

@@ -1,5 +1,6 @@
 -- What the crates above name of go_block_core.
 pub use Rattle.go_block_core.specs.Blocks as Blocks
+pub use Rattle.go_block_core.specs.Declarations as Declarations
 pub use Rattle.go_block_core.specs.Exports as Exports
 pub use Rattle.go_block_core.proofs.GivenSteps as GivenSteps
 pub use Rattle.go_block_core.proofs.Growing as Growing

@@ -11,27 +11,62 @@ mod whole;
 pub use local::{check_is_local, imports_bind_theirs};
 pub use whole::{inputs_stay, one_whole, parts_are_whole, parts_come_in_order};
 
+/// What the crates above name of `go_answer_core`.
+pub mod answer_core {
+    pub use go_near_core::answer_core::{Answer, HeldLocal, Site};
+}
+
 /// What the crates above name of `go_block_core`.
 pub mod block_core {
     pub use go_block_core::{Imported, import_specs};
 }
 
+/// What the crates above name of `go_denote_core`.
+pub mod denote_core {
+    pub use go_near_core::denote_core::Outcome;
+}
+
+/// What the crates above name of `go_entry_core`.
+pub mod entry_core {
+    pub use go_near_core::entry_core::outlines;
+}
+
 /// What the crates above name of `go_face_core`.
 pub mod face_core {
-    pub use go_near_core::face_core::Face;
+    pub use go_near_core::face_core::{Face, FaceTable, lend};
+}
+
+/// What the crates above name of `go_handle_core`.
+pub mod handle_core {
+    pub use go_near_core::handle_core::{Decl, DeclSite, SignatureRef, TypeRef};
+}
+
+/// What the crates above name of `go_package_core`.
+pub mod package_core {
+    pub use go_near_core::package_core::FileAnswers;
 }
 
 /// What the crates above name of `go_part_core`.
 pub mod part_core {
-    pub use go_part_core::{
+    pub use go_near_core::part_core::{
         Part, PartFile, PartInput, Parts, compile_over, compile_part, one_part,
         part_has_occurrences, same_imports,
     };
 }
 
+/// What the crates above name of `go_select_core`.
+pub mod select_core {
+    pub use go_near_core::select_core::EmbedPath;
+}
+
 /// What the crates above name of `go_summary_core`.
 pub mod summary_core {
-    pub use go_part_core::summary_core::{
+    pub use go_near_core::summary_core::{
         ReachedSummaries, Summary, SummaryList, View, import_view, view_of,
     };
+}
+
+/// What the crates above name of `go_table_core`.
+pub mod table_core {
+    pub use go_near_core::table_core::{DeclaredMethod, DefinedType, TypeTable};
 }

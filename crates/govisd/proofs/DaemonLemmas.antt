@@ -1,5 +1,5 @@
 -- What runs of `script` and `serve` do.
-use Rattle.std.proofs.Common.{◌≡◌, ◌≢◌, ◌∙◌, ◌⊎◌, inl, inr, ℕ, true, List, [], ◌∷◌, Option, Some, None, Result, Ok, Err, refl, ap, ap₂, subst}
+use Rattle.std.proofs.Common.{◌≡◌, ◌≢◌, ◌∙◌, ◌⊎◌, inl, inr, ℕ, List, [], ◌∷◌, Option, None, Result, Ok, Err, refl, ap, ap₂, subst}
 use Rattle.std.specs.Prelude.{codes}
 use Rattle.std.specs.Io.KnownBytes.{Keeps}
 use Rattle.clap.specs.Walk.{Text}
@@ -10,10 +10,10 @@ use Rattle.govisd.specs.declared.program.Ran.{Ran}
 use Rattle.govisd.specs.declared.words.CountOption.{CountOption}
 use Rattle.govisd.specs.declared.words.CountOption.TheVariants.{Workers}
 use Rattle.govisd.specs.declared.words.Request.{Request}
-use Rattle.govisd.specs.declared.words.Request.TheVariants.{Resolve, Explain, Check, Script, Serve, Help, Version, BadCount}
+use Rattle.govisd.specs.declared.words.Request.TheVariants.{Resolve, Explain, Check, Run, Script, Serve, Help, Version, BadCount}
 use Rattle.govisd.specs.Asking.{Asks, ToRefuse, ToScript, ToServe, command_line, asked_by_subcommand as asked_by, refusals, said, script_with, serve_with}
 use Rattle.govisd.specs.Daemons.{Scripts, Serves}
-use Rattle.govisd.specs.Runs.{Answering, Does, RefusesCount, RefusesNowhere, RefusesWorkers, Runs, ScriptsAlone, ScriptsEach, ServesAsTold, ServesEach}
+use Rattle.govisd.specs.Runs.{Around, Does, RefusesCount, RefusesNowhere, RefusesWorkers, Runs, ScriptsAlone, ScriptsEach, ServesAsTold, ServesEach}
 use Rattle.govisd.specs.Says.{RunsOut}
 use Rattle.govisd.proofs.FlagLemmas.{refused_for}
 use Rattle.govisd.proofs.PlainWords.{script_workers, script_workers_named, serve_at, serve_at_named, serve_told, serve_told_named}
@@ -26,10 +26,11 @@ same_address : (a b : Text) (m n : ℕ) (i j : Option ℕ) → ToServe a m i ≡
 same_address a b m n i j e = cc
 
 -- one run
-module _ (Answers : Answering) (ran : Ran) (given left out out' err err' : Option (List ℕ)) where
-  scripts : (request : Request) (workers : ℕ) → said request ≡ ToScript workers → Does Answers (Ok request) ran given left out out' err err' → Scripts ran given left out out' err err'
+module _ (among : Around) (ran : Ran) (given left out out' err err' : Option (List ℕ)) where
+  scripts : (request : Request) (workers : ℕ) → said request ≡ ToScript workers → Does among (Ok request) ran given left out out' err err' → Scripts ran given left out out' err err'
   scripts Resolve workers is h = absurd (cc)
   scripts (Explain rule) workers is h = absurd (cc)
+  scripts (Run order) workers is h = absurd (cc)
   scripts (Check order) workers is h = absurd (cc)
   scripts (Script count) workers is h = h
   scripts (Serve daemon) workers is h = absurd (cc)
@@ -37,9 +38,10 @@ module _ (Answers : Answering) (ran : Ran) (given left out out' err err' : Optio
   scripts Version workers is h = absurd (cc)
   scripts (BadCount option) workers is h = absurd (cc)
 
-  serves : (request : Request) (address : Text) (workers : ℕ) (connections : Option ℕ) → said request ≡ ToServe address workers connections → Does Answers (Ok request) ran given left out out' err err' → Serves address ran err err' × Keeps out out' × Keeps given left
+  serves : (request : Request) (address : Text) (workers : ℕ) (connections : Option ℕ) → said request ≡ ToServe address workers connections → Does among (Ok request) ran given left out out' err err' → Serves address ran err err' × Keeps out out' × Keeps given left
   serves Resolve address workers connections is h = absurd (cc)
   serves (Explain rule) address workers connections is h = absurd (cc)
+  serves (Run order) address workers connections is h = absurd (cc)
   serves (Check order) address workers connections is h = absurd (cc)
   serves (Script count) address workers connections is h = absurd (cc)
   serves (Serve daemon) address workers connections is h = (subst (λ a. Serves a ran err err') (same_address _ address _ workers _ connections is) h.0, h.1, h.2)
@@ -47,9 +49,10 @@ module _ (Answers : Answering) (ran : Ran) (given left out out' err err' : Optio
   serves Version address workers connections is h = absurd (cc)
   serves (BadCount option) address workers connections is h = absurd (cc)
 
-  refuses : (request : Request) (option : CountOption) → said request ≡ ToRefuse option → Does Answers (Ok request) ran given left out out' err err' → RefusesCount option ran err err' × Keeps out out' × Keeps given left
+  refuses : (request : Request) (option : CountOption) → said request ≡ ToRefuse option → Does among (Ok request) ran given left out out' err err' → RefusesCount option ran err err' × Keeps out out' × Keeps given left
   refuses Resolve option is h = absurd (cc)
   refuses (Explain rule) option is h = absurd (cc)
+  refuses (Run order) option is h = absurd (cc)
   refuses (Check order) option is h = absurd (cc)
   refuses (Script count) option is h = absurd (cc)
   refuses (Serve daemon) option is h = absurd (cc)
@@ -57,27 +60,27 @@ module _ (Answers : Answering) (ran : Ran) (given left out out' err err' : Optio
   refuses Version option is h = absurd (cc)
   refuses (BadCount other) option is h = (subst (λ o. RefusesCount o ran err err') (same_option other option is) h.0, h.1, h.2)
 
-  scripted : (words : List Text) (workers : ℕ) → refusals words ≡ [] → asked_by words ≡ ToScript workers → Runs Answers words ran given left out out' err err' → Scripts ran given left out out' err err' ⊎ (RunsOut ran err err' × Keeps out out' × Keeps given left)
+  scripted : (words : List Text) (workers : ℕ) → refusals words ≡ [] → asked_by words ≡ ToScript workers → Runs among words ran given left out out' err err' → Scripts ran given left out out' err err' ⊎ (RunsOut ran err err' × Keeps out out' × Keeps given left)
   scripted words workers none is r = by r.asked r.asks r.does
     where
-      by : (a : Result Request Error) → Asks words a → Does Answers a ran given left out out' err err' → Scripts ran given left out out' err err' ⊎ (RunsOut ran err err' × Keeps out out' × Keeps given left)
+      by : (a : Result Request Error) → Asks words a → Does among a ran given left out out' err err' → Scripts ran given left out out' err err' ⊎ (RunsOut ran err err' × Keeps out out' × Keeps given left)
       by (Ok request) asks did = inl (scripts request workers (asked words request none asks ∙ is) did)
-      by (Err e) asks did = inr (ran_out Answers ran given left out out' err err' e (failed words e none asks) did.0, did.1, did.2)
+      by (Err e) asks did = inr (ran_out among ran given left out out' err err' e (failed words e none asks) did.0, did.1, did.2)
 
   -- something comes of what is asked for, or memory ran out
-  comes : (words : List Text) (Happens : Type 0) → ((request : Request) → said request ≡ asked_by words → Does Answers (Ok request) ran given left out out' err err' → Happens × Keeps out out' × Keeps given left) → refusals words ≡ [] → Runs Answers words ran given left out out' err err' → ((Happens ⊎ RunsOut ran err err') × Keeps out out') × Keeps given left
+  comes : (words : List Text) (Happens : Type 0) → ((request : Request) → said request ≡ asked_by words → Does among (Ok request) ran given left out out' err err' → Happens × Keeps out out' × Keeps given left) → refusals words ≡ [] → Runs among words ran given left out out' err err' → ((Happens ⊎ RunsOut ran err err') × Keeps out out') × Keeps given left
   comes words Happens does none r = by r.asked r.asks r.does
     where
-      by : (a : Result Request Error) → Asks words a → Does Answers a ran given left out out' err err' → ((Happens ⊎ RunsOut ran err err') × Keeps out out') × Keeps given left
+      by : (a : Result Request Error) → Asks words a → Does among a ran given left out out' err err' → ((Happens ⊎ RunsOut ran err err') × Keeps out out') × Keeps given left
       by (Ok request) asks did =
           let h = does request (asked words request none asks) did in
           ((inl h.0, h.1), h.2)
-      by (Err e) asks did = ((inr (ran_out Answers ran given left out out' err err' e (failed words e none asks) did.0), did.1), did.2)
+      by (Err e) asks did = ((inr (ran_out among ran given left out out' err err' e (failed words e none asks) did.0), did.1), did.2)
 
-  served : (words : List Text) (address : Text) (workers : ℕ) (connections : Option ℕ) → refusals words ≡ [] → asked_by words ≡ ToServe address workers connections → Runs Answers words ran given left out out' err err' → ((Serves address ran err err' ⊎ RunsOut ran err err') × Keeps out out') × Keeps given left
+  served : (words : List Text) (address : Text) (workers : ℕ) (connections : Option ℕ) → refusals words ≡ [] → asked_by words ≡ ToServe address workers connections → Runs among words ran given left out out' err err' → ((Serves address ran err err' ⊎ RunsOut ran err err') × Keeps out out') × Keeps given left
   served words address workers connections none is r = comes words (Serves address ran err err') (λ request asks did. serves request address workers connections (asks ∙ is) did) none r
 
-  pub count_refused : (words : List Text) (option : CountOption) → refusals words ≡ [] → asked_by words ≡ ToRefuse option → Runs Answers words ran given left out out' err err' → ((RefusesCount option ran err err' ⊎ RunsOut ran err err') × Keeps out out') × Keeps given left
+  pub count_refused : (words : List Text) (option : CountOption) → refusals words ≡ [] → asked_by words ≡ ToRefuse option → Runs among words ran given left out out' err err' → ((RefusesCount option ran err err' ⊎ RunsOut ran err err') × Keeps out out') × Keeps given left
   count_refused words option none is r = comes words (RefusesCount option ran err err') (λ request asks did. refuses request option (asks ∙ is) did) none r
 
 -- ---- the command lines
@@ -100,26 +103,26 @@ no_help e = cc
 no_version : kind.MissingRequiredArgument ≢ kind.DisplayVersion
 no_version e = cc
 
-pub scripts_alone : (Answers : Answering) → ScriptsAlone Answers
-scripts_alone Answers program ran given left out out' err err' r =
-    scripted Answers ran given left out out' err err' (command_line program (codes "script" ∷ [])) 1 (script_free program) (script_named program) r
+pub scripts_alone : (among : Around) → ScriptsAlone among
+scripts_alone among program ran given left out out' err err' r =
+    scripted among ran given left out out' err err' (command_line program (codes "script" ∷ [])) 1 (script_free program) (script_named program) r
 
-pub scripts_each : (Answers : Answering) → ScriptsEach Answers
-scripts_each Answers program count workers plain is ran given left out out' err err' r =
-    scripted Answers ran given left out out' err err' (command_line program (codes "script" ∷ (codes "--workers" ∷ (count ∷ [])))) workers (script_workers program count plain) (script_workers_named program count plain ∙ ap script_with is) r
+pub scripts_each : (among : Around) → ScriptsEach among
+scripts_each among program count workers plain is ran given left out out' err err' r =
+    scripted among ran given left out out' err err' (command_line program (codes "script" ∷ (codes "--workers" ∷ (count ∷ [])))) workers (script_workers program count plain) (script_workers_named program count plain ∙ ap script_with is) r
 
-pub bad_workers : (Answers : Answering) → RefusesWorkers Answers
-bad_workers Answers program count plain none ran given left out out' err err' r =
-    count_refused Answers ran given left out out' err err' (command_line program (codes "script" ∷ (codes "--workers" ∷ (count ∷ [])))) Workers (script_workers program count plain) (script_workers_named program count plain ∙ ap script_with none) r
+pub bad_workers : (among : Around) → RefusesWorkers among
+bad_workers among program count plain none ran given left out out' err err' r =
+    count_refused among ran given left out out' err err' (command_line program (codes "script" ∷ (codes "--workers" ∷ (count ∷ [])))) Workers (script_workers program count plain) (script_workers_named program count plain ∙ ap script_with none) r
 
-pub serves_each : (Answers : Answering) → ServesEach Answers
-serves_each Answers program address plain ran given left out out' err err' r =
-    served Answers ran given left out out' err err' (command_line program (codes "serve" ∷ (codes "--listen" ∷ (address ∷ [])))) address 1 None (serve_at program address plain) (serve_at_named program address plain) r
+pub serves_each : (among : Around) → ServesEach among
+serves_each among program address plain ran given left out out' err err' r =
+    served among ran given left out out' err err' (command_line program (codes "serve" ∷ (codes "--listen" ∷ (address ∷ [])))) address 1 None (serve_at program address plain) (serve_at_named program address plain) r
 
-pub serves_told : (Answers : Answering) → ServesAsTold Answers
-serves_told Answers program address count most workers connections plain plain' plain'' is is' ran given left out out' err err' r =
-    served Answers ran given left out out' err err' (command_line program (codes "serve" ∷ (codes "--listen" ∷ (address ∷ (codes "--workers" ∷ (count ∷ (codes "--connections" ∷ (most ∷ [])))))))) address workers connections (serve_told program address count most plain plain' plain'') (serve_told_named program address count most plain plain' plain'' ∙ ap₂ (λ w k. serve_with address w k) is is') r
+pub serves_told : (among : Around) → ServesAsTold among
+serves_told among program address count most workers connections plain plain' plain'' is is' ran given left out out' err err' r =
+    served among ran given left out out' err err' (command_line program (codes "serve" ∷ (codes "--listen" ∷ (address ∷ (codes "--workers" ∷ (count ∷ (codes "--connections" ∷ (most ∷ [])))))))) address workers connections (serve_told program address count most plain plain' plain'') (serve_told_named program address count most plain plain' plain'' ∙ ap₂ (λ w k. serve_with address w k) is is') r
 
-pub nowhere : (Answers : Answering) → RefusesNowhere Answers
-nowhere Answers program ran given left out out' err err' r =
-    refused_for Answers ran given left out out' err err' (command_line program (codes "serve" ∷ [])) kind.MissingRequiredArgument no_help no_version (serve_nowhere program) r
+pub nowhere : (among : Around) → RefusesNowhere among
+nowhere among program ran given left out out' err err' r =
+    refused_for among ran given left out out' err err' (command_line program (codes "serve" ∷ [])) kind.MissingRequiredArgument no_help no_version (serve_nowhere program) r

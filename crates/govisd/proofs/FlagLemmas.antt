@@ -1,5 +1,5 @@
 -- What runs do for the words that name no rule, folder or command: `resolve`, the flags, and lines that are refused.
-use Rattle.std.proofs.Common.{◌≡◌, ◌≢◌, ◌∙◌, ◌⊎◌, inl, inr, ℕ, true, List, [], ◌∷◌, Option, None, Result, Ok, Err, refl, sym, ap, subst}
+use Rattle.std.proofs.Common.{◌≡◌, ◌≢◌, ◌∙◌, ◌⊎◌, inl, inr, ℕ, List, [], ◌∷◌, Option, None, Result, Ok, Err, refl, sym, ap, subst}
 use Rattle.std.specs.Prelude.{codes}
 use Rattle.std.specs.Io.KnownBytes.{Keeps}
 use Rattle.clap.specs.Walk.{Text}
@@ -11,9 +11,9 @@ use Rattle.clap.specs.declared.error.kind.ErrorKind.TheVariants as kind
 use Rattle.clap.proofs.OnLiterals.{clap_on_literals}
 use Rattle.govisd.specs.declared.program.Ran.{Ran}
 use Rattle.govisd.specs.declared.words.Request.{Request}
-use Rattle.govisd.specs.declared.words.Request.TheVariants.{Resolve, Explain, Check, Script, Serve, Help, Version, BadCount}
-use Rattle.govisd.specs.Asking.{Asks, ToHelp, ToResolve, ToTellVersion, is_plain, command_behind, command_line, asked_by_subcommand as asked_by, refusals, said}
-use Rattle.govisd.specs.Runs.{Answering, Does, HelpsAlone, HelpsByFlag, Refuses, RefusesFor, RefusesNothing, RefusesWordBehind, Resolves, ResolvesAlone, Runs, ShowsOrRunsOut, ShowsText, TellsVersion}
+use Rattle.govisd.specs.declared.words.Request.TheVariants.{Resolve, Explain, Check, Run, Script, Serve, Help, Version, BadCount}
+use Rattle.govisd.specs.Asking.{Asks, ToHelp, ToResolve, ToTellVersion, command_behind, command_line, asked_by_subcommand as asked_by, refusals, said}
+use Rattle.govisd.specs.Runs.{Around, Does, HelpsAlone, HelpsByFlag, Refuses, RefusesFor, RefusesNothing, RefusesWordBehind, Resolves, ResolvesAlone, Runs, ShowsOrRunsOut, ShowsText, TellsVersion}
 use Rattle.govisd.specs.Says.{RunsOut}
 use Rattle.govisd.specs.Texts.{program_help_text, version_text}
 use Rattle.govisd.proofs.PlainWords.{resolve_word}
@@ -53,10 +53,11 @@ failed_for words e k one (inr h) = inr (only_one (kind_of e) k (subst (IsAmong (
 
 -- ---- one run
 
-module _ (Answers : Answering) (ran : Ran) (given left out out' err err' : Option (List ℕ)) where
-  resolves : (request : Request) → said request ≡ ToResolve → Does Answers (Ok request) ran given left out out' err err' → Resolves ran given left out out' err err'
+module _ (among : Around) (ran : Ran) (given left out out' err err' : Option (List ℕ)) where
+  resolves : (request : Request) → said request ≡ ToResolve → Does among (Ok request) ran given left out out' err err' → Resolves ran given left out out' err err'
   resolves Resolve is h = h
   resolves (Explain rule) is h = absurd (cc)
+  resolves (Run order) is h = absurd (cc)
   resolves (Check order) is h = absurd (cc)
   resolves (Help topic) is h = absurd (cc)
   resolves Version is h = absurd (cc)
@@ -64,9 +65,10 @@ module _ (Answers : Answering) (ran : Ran) (given left out out' err err' : Optio
   resolves (Serve daemon) is h = absurd (cc)
   resolves (BadCount option) is h = absurd (cc)
 
-  tells : (request : Request) → said request ≡ ToTellVersion → Does Answers (Ok request) ran given left out out' err err' → ShowsText ran version_text out out' err err' × Keeps given left
+  tells : (request : Request) → said request ≡ ToTellVersion → Does among (Ok request) ran given left out out' err err' → ShowsText ran version_text out out' err err' × Keeps given left
   tells Resolve is h = absurd (cc)
   tells (Explain rule) is h = absurd (cc)
+  tells (Run order) is h = absurd (cc)
   tells (Check order) is h = absurd (cc)
   tells (Help topic) is h = absurd (cc)
   tells Version is h = h
@@ -74,44 +76,44 @@ module _ (Answers : Answering) (ran : Ran) (given left out out' err err' : Optio
   tells (Serve daemon) is h = absurd (cc)
   tells (BadCount option) is h = absurd (cc)
 
-  resolved : (words : List Text) → refusals words ≡ [] → asked_by words ≡ ToResolve → Runs Answers words ran given left out out' err err' → Resolves ran given left out out' err err' ⊎ (RunsOut ran err err' × Keeps out out' × Keeps given left)
+  resolved : (words : List Text) → refusals words ≡ [] → asked_by words ≡ ToResolve → Runs among words ran given left out out' err err' → Resolves ran given left out out' err err' ⊎ (RunsOut ran err err' × Keeps out out' × Keeps given left)
   resolved words none is r = by r.asked r.asks r.does
     where
-      by : (a : Result Request Error) → Asks words a → Does Answers a ran given left out out' err err' → Resolves ran given left out out' err err' ⊎ (RunsOut ran err err' × Keeps out out' × Keeps given left)
+      by : (a : Result Request Error) → Asks words a → Does among a ran given left out out' err err' → Resolves ran given left out out' err err' ⊎ (RunsOut ran err err' × Keeps out out' × Keeps given left)
       by (Ok request) asks did = inl (resolves request (asked words request none asks ∙ is) did)
-      by (Err e) asks did = inr (ran_out Answers ran given left out out' err err' e (failed words e none asks) did.0, did.1, did.2)
+      by (Err e) asks did = inr (ran_out among ran given left out out' err err' e (failed words e none asks) did.0, did.1, did.2)
 
-  helped_by_flag : (words : List Text) → refusals words ≡ kind.DisplayHelp ∷ [] → command_behind words ≡ None → Runs Answers words ran given left out out' err err' → ShowsOrRunsOut program_help_text ran out out' err err' × Keeps given left
+  helped_by_flag : (words : List Text) → refusals words ≡ kind.DisplayHelp ∷ [] → command_behind words ≡ None → Runs among words ran given left out out' err err' → ShowsOrRunsOut program_help_text ran out out' err err' × Keeps given left
   helped_by_flag words one none r = by r.asked r.asks r.does
     where
-      by : (a : Result Request Error) → Asks words a → Does Answers a ran given left out out' err err' → ShowsOrRunsOut program_help_text ran out out' err err' × Keeps given left
+      by : (a : Result Request Error) → Asks words a → Does among a ran given left out out' err err' → ShowsOrRunsOut program_help_text ran out out' err err' × Keeps given left
       by (Ok request) asks did =
-          let h = helps Answers ran given left out out' err err' request None (asked_help words request one asks ∙ ap ToHelp none) did in
+          let h = helps among ran given left out out' err err' request None (asked_help words request one asks ∙ ap ToHelp none) did in
           (inl h.0, h.1)
       by (Err e) asks did = elim (failed_for words e kind.DisplayHelp one asks) [
-        | inl memory ↦ (inr (ran_out Answers ran given left out out' err err' e memory did.0, did.1), did.2)
+        | inl memory ↦ (inr (ran_out among ran given left out out' err err' e memory did.0, did.1), did.2)
         | inr other ↦ absurd (other.1 other.0)
       ]
 
-  told_version : (words : List Text) → refusals words ≡ kind.DisplayVersion ∷ [] → Runs Answers words ran given left out out' err err' → ShowsOrRunsOut version_text ran out out' err err' × Keeps given left
+  told_version : (words : List Text) → refusals words ≡ kind.DisplayVersion ∷ [] → Runs among words ran given left out out' err err' → ShowsOrRunsOut version_text ran out out' err err' × Keeps given left
   told_version words one r = by r.asked r.asks r.does
     where
-      by : (a : Result Request Error) → Asks words a → Does Answers a ran given left out out' err err' → ShowsOrRunsOut version_text ran out out' err err' × Keeps given left
+      by : (a : Result Request Error) → Asks words a → Does among a ran given left out out' err err' → ShowsOrRunsOut version_text ran out out' err err' × Keeps given left
       by (Ok request) asks did =
           let h = tells request (asked_version words request one asks) did in
           (inl h.0, h.1)
       by (Err e) asks did = elim (failed_for words e kind.DisplayVersion one asks) [
-        | inl memory ↦ (inr (ran_out Answers ran given left out out' err err' e memory did.0, did.1), did.2)
+        | inl memory ↦ (inr (ran_out among ran given left out out' err err' e memory did.0, did.1), did.2)
         | inr other ↦ absurd (other.2 other.0)
       ]
 
-  pub refused_for : (words : List Text) (k : ErrorKind) → k ≢ kind.DisplayHelp → k ≢ kind.DisplayVersion → refusals words ≡ k ∷ [] → Runs Answers words ran given left out out' err err' → RefusesFor k ran out out' err err' × Keeps given left
+  pub refused_for : (words : List Text) (k : ErrorKind) → k ≢ kind.DisplayHelp → k ≢ kind.DisplayVersion → refusals words ≡ k ∷ [] → Runs among words ran given left out out' err err' → RefusesFor k ran out out' err err' × Keeps given left
   refused_for words k no_help no_version one r = by r.asked r.asks r.does
     where
-      by : (a : Result Request Error) → Asks words a → Does Answers a ran given left out out' err err' → RefusesFor k ran out out' err err' × Keeps given left
+      by : (a : Result Request Error) → Asks words a → Does among a ran given left out out' err err' → RefusesFor k ran out out' err err' × Keeps given left
       by (Ok request) asks did = absurd (never_asked words request k no_help no_version one asks)
       by (Err e) asks did = elim (failed_for words e k one asks) [
-        | inl memory ↦ ((inr (ran_out Answers ran given left out out' err err' e memory did.0), did.1), did.2)
+        | inl memory ↦ ((inr (ran_out among ran given left out out' err err' e memory did.0), did.1), did.2)
         | inr other ↦ ((inl (subst (λ x. Refuses x ran err err') other.0 did.0), did.1), did.2)
       ]
 
@@ -148,21 +150,21 @@ nothing_said : (program : Text) → refusals (command_line program []) ≡ kind.
 unfolding clap_on_literals
 nothing_said program = refl
 
-pub resolve_alone : (Answers : Answering) → ResolvesAlone Answers
-resolve_alone Answers program ran given left out out' err err' r =
-    resolved Answers ran given left out out' err err' (command_line program (codes "resolve" ∷ [])) (resolve_free program) (resolve_named program) r
+pub resolve_alone : (among : Around) → ResolvesAlone among
+resolve_alone among program ran given left out out' err err' r =
+    resolved among ran given left out out' err err' (command_line program (codes "resolve" ∷ [])) (resolve_free program) (resolve_named program) r
 
-pub help_alone : (Answers : Answering) → HelpsAlone Answers
-help_alone Answers program ran given left out out' err err' r =
-    helped Answers ran given left out out' err err' (command_line program (codes "help" ∷ [])) None (help_free program) (help_named program) r
+pub help_alone : (among : Around) → HelpsAlone among
+help_alone among program ran given left out out' err err' r =
+    helped among ran given left out out' err err' (command_line program (codes "help" ∷ [])) None (help_free program) (help_named program) r
 
-pub help_by_flag : (Answers : Answering) → HelpsByFlag Answers
-help_by_flag Answers program ran given left out out' err err' r =
-    helped_by_flag Answers ran given left out out' err err' (command_line program (codes "--help" ∷ [])) (help_flag program) (no_command_behind program) r
+pub help_by_flag : (among : Around) → HelpsByFlag among
+help_by_flag among program ran given left out out' err err' r =
+    helped_by_flag among ran given left out out' err err' (command_line program (codes "--help" ∷ [])) (help_flag program) (no_command_behind program) r
 
-pub version_told : (Answers : Answering) → TellsVersion Answers
-version_told Answers program ran given left out out' err err' r =
-    told_version Answers ran given left out out' err err' (command_line program (codes "--version" ∷ [])) (version_flag program) r
+pub version_told : (among : Around) → TellsVersion among
+version_told among program ran given left out out' err err' r =
+    told_version among ran given left out out' err err' (command_line program (codes "--version" ∷ [])) (version_flag program) r
 
 no_help : kind.MissingSubcommand ≢ kind.DisplayHelp
 no_help e = cc
@@ -176,10 +178,10 @@ unknown_no_help e = cc
 unknown_no_version : kind.UnknownArgument ≢ kind.DisplayVersion
 unknown_no_version e = cc
 
-pub nothing_refused : (Answers : Answering) → RefusesNothing Answers
-nothing_refused Answers program ran given left out out' err err' r =
-    refused_for Answers ran given left out out' err err' (command_line program []) kind.MissingSubcommand no_help no_version (nothing_said program) r
+pub nothing_refused : (among : Around) → RefusesNothing among
+nothing_refused among program ran given left out out' err err' r =
+    refused_for among ran given left out out' err err' (command_line program []) kind.MissingSubcommand no_help no_version (nothing_said program) r
 
-pub word_behind_refused : (Answers : Answering) → RefusesWordBehind Answers
-word_behind_refused Answers program word plain ran given left out out' err err' r =
-    refused_for Answers ran given left out out' err err' (command_line program (codes "resolve" ∷ (word ∷ []))) kind.UnknownArgument unknown_no_help unknown_no_version (resolve_word program word plain) r
+pub word_behind_refused : (among : Around) → RefusesWordBehind among
+word_behind_refused among program word plain ran given left out out' err err' r =
+    refused_for among ran given left out out' err err' (command_line program (codes "resolve" ∷ (word ∷ []))) kind.UnknownArgument unknown_no_help unknown_no_version (resolve_word program word plain) r

@@ -2,6 +2,7 @@ pub mod CommandLemmas
 pub mod CountLemmas
 pub mod DaemonLemmas
 pub mod FlagLemmas
+pub mod LaunchLemmas
 pub mod MadeLemmas
 pub mod PlainWords
 pub mod RunLemmas

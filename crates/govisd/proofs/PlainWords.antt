@@ -10,8 +10,8 @@ use Rattle.clap.specs.Kinds.{Kinds, or_else}
 use Rattle.clap.specs.Faults.{bundle_fault, check_fault, defaults_fault, flag_word_fault, level_fault, other_fault, settle_fault, step_fault, turn_fault, walk_fault, word_fault}
 use Rattle.clap.specs.declared.error.kind.ErrorKind.TheVariants as kind
 use Rattle.clap.proofs.OnLiterals.{clap_on_literals}
-use Rattle.govisd.specs.Asking.{ToCheck, ToExplain, ToHelp, ToServe, explain_app, govisd_app, is_plain, command_line, asked_by_subcommand, order_in, refusals, script_in, script_with, serve_in, serve_with}
-use Rattle.govisd.specs.Counts.{connections_in, workers_in}
+use Rattle.govisd.specs.Asking.{ToCheck, ToExplain, ToHelp, ToRun, ToServe, explain_app, govisd_app, is_plain, command_line, asked_by_subcommand, order_in, refusals, run_in, run_with, script_in, script_with, serve_in, serve_with}
+use Rattle.govisd.specs.Counts.{connections_in, steps_in, workers_in}
 
 not_true : (t : Bool) → not t ≡ true → t ≡ false
 not_true true h = absurd (cc)
@@ -273,3 +273,54 @@ serve_told_named program address count most plain plain' plain'' =
     ap (λ (w : Walk). serve_in (finished (sub 5).rules (walked (sub 5).rules [] (walked (sub 5).rules [] (walked (sub 5).rules [] (walked (sub 5).rules [] w (codes "--workers")) count) (codes "--connections")) most).held)) (value_passed (sub 5) [] (codes "listen") 1 held_listen address plain)
     ∙ (ap (λ (w : Walk). serve_in (finished (sub 5).rules (walked (sub 5).rules [] (walked (sub 5).rules [] w (codes "--connections")) most).held)) (value_passed (sub 5) [] (codes "workers") 1 (held_address address) count plain')
     ∙ ap (λ (w : Walk). serve_in (finished (sub 5).rules w.held)) (value_passed (sub 5) [] (codes "connections") 1 (held_count address count) most plain''))
+
+pub run_folder : (program folder : Text) → is_plain folder ≡ true → refusals (command_line program (codes "run" ∷ (folder ∷ []))) ≡ []
+unfolding clap_on_literals
+run_folder program folder plain = ap (λ k. or_else k []) (one_word (sub 6) folder plain)
+
+pub run_folder_named : (program folder : Text) → is_plain folder ≡ true → asked_by_subcommand (command_line program (codes "run" ∷ (folder ∷ []))) ≡ ToRun folder None None 1000000000
+unfolding clap_on_literals
+run_folder_named program folder plain =
+    ap (λ (w : Walk). run_in (finished (sub 6).rules w.held)) (passed (sub 6).rules [] 1 folder nothing_held refl plain)
+
+-- what is held where a number of steps is waited for
+abbrev held_steps : Text → Held
+held_steps folder = (walked (sub 6).rules [] (behind (sub 6) folder) (codes "--steps")).held
+
+pub run_steps : (program folder count : Text) → is_plain folder ≡ true → is_plain count ≡ true → refusals (command_line program (codes "run" ∷ (folder ∷ (codes "--steps" ∷ (count ∷ []))))) ≡ []
+unfolding clap_on_literals
+run_steps program folder count plain plain' =
+    ap (λ k. or_else k []) (word_then (sub 6) folder (codes "--steps" ∷ (count ∷ [])) plain ∙ value_last (sub 6) (codes "steps") 2 (held_steps folder) count plain')
+
+pub run_steps_named : (program folder count : Text) → is_plain folder ≡ true → is_plain count ≡ true → asked_by_subcommand (command_line program (codes "run" ∷ (folder ∷ (codes "--steps" ∷ (count ∷ []))))) ≡ run_with folder None None (steps_in (Some count))
+unfolding clap_on_literals
+run_steps_named program folder count plain plain' =
+    ap (λ (w : Walk). run_in (finished (sub 6).rules (walked (sub 6).rules [] (walked (sub 6).rules [] w (codes "--steps")) count).held)) (passed (sub 6).rules [] 1 folder nothing_held refl plain)
+    ∙ ap (λ (w : Walk). run_in (finished (sub 6).rules w.held)) (value_passed (sub 6) [] (codes "steps") 2 (held_steps folder) count plain')
+
+-- what is held where the path of a module is waited for, that of a package behind it, and a number of steps behind these
+abbrev held_of_module : Text → Held
+held_of_module folder = (walked (sub 6).rules [] (behind (sub 6) folder) (codes "--module")).held
+
+abbrev held_of_main : Text → Text → Held
+held_of_main folder path = (walked (sub 6).rules [] (behind_value (sub 6) (codes "module") 2 (held_of_module folder) path) (codes "--main")).held
+
+abbrev held_of_steps : Text → Text → Text → Held
+held_of_steps folder path main = (walked (sub 6).rules [] (behind_value (sub 6) (codes "main") 2 (held_of_main folder path) main) (codes "--steps")).held
+
+pub run_told : (program folder path main count : Text) → is_plain folder ≡ true → is_plain path ≡ true → is_plain main ≡ true → is_plain count ≡ true → refusals (command_line program (codes "run" ∷ (folder ∷ (codes "--module" ∷ (path ∷ (codes "--main" ∷ (main ∷ (codes "--steps" ∷ (count ∷ []))))))))) ≡ []
+unfolding clap_on_literals
+run_told program folder path main count plain of_path of_main of_count =
+    ap (λ k. or_else k [])
+    (word_then (sub 6) folder (codes "--module" ∷ (path ∷ (codes "--main" ∷ (main ∷ (codes "--steps" ∷ (count ∷ [])))))) plain
+    ∙ (value_then (sub 6) (codes "module") 2 (held_of_module folder) path (codes "--main" ∷ (main ∷ (codes "--steps" ∷ (count ∷ [])))) of_path
+    ∙ (value_then (sub 6) (codes "main") 2 (held_of_main folder path) main (codes "--steps" ∷ (count ∷ [])) of_main
+    ∙ value_last (sub 6) (codes "steps") 2 (held_of_steps folder path main) count of_count)))
+
+pub run_told_named : (program folder path main count : Text) → is_plain folder ≡ true → is_plain path ≡ true → is_plain main ≡ true → is_plain count ≡ true → asked_by_subcommand (command_line program (codes "run" ∷ (folder ∷ (codes "--module" ∷ (path ∷ (codes "--main" ∷ (main ∷ (codes "--steps" ∷ (count ∷ []))))))))) ≡ run_with folder (Some path) (Some main) (steps_in (Some count))
+unfolding clap_on_literals
+run_told_named program folder path main count plain of_path of_main of_count =
+    ap (λ (w : Walk). run_in (finished (sub 6).rules (walked (sub 6).rules [] (walked (sub 6).rules [] (walked (sub 6).rules [] (walked (sub 6).rules [] (walked (sub 6).rules [] (walked (sub 6).rules [] w (codes "--module")) path) (codes "--main")) main) (codes "--steps")) count).held)) (passed (sub 6).rules [] 1 folder nothing_held refl plain)
+    ∙ (ap (λ (w : Walk). run_in (finished (sub 6).rules (walked (sub 6).rules [] (walked (sub 6).rules [] (walked (sub 6).rules [] (walked (sub 6).rules [] w (codes "--main")) main) (codes "--steps")) count).held)) (value_passed (sub 6) [] (codes "module") 2 (held_of_module folder) path of_path)
+    ∙ (ap (λ (w : Walk). run_in (finished (sub 6).rules (walked (sub 6).rules [] (walked (sub 6).rules [] w (codes "--steps")) count).held)) (value_passed (sub 6) [] (codes "main") 2 (held_of_main folder path) main of_main)
+    ∙ ap (λ (w : Walk). run_in (finished (sub 6).rules w.held)) (value_passed (sub 6) [] (codes "steps") 2 (held_of_steps folder path main) count of_count)))

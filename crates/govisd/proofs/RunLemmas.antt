@@ -16,9 +16,9 @@ use Rattle.go_explain_core.proofs.Everywhere.{everywhere}
 use Rattle.go_explain_core.proofs.Numbers.{names_each}
 use Rattle.govisd.specs.declared.program.Ran.{Ran}
 use Rattle.govisd.specs.declared.words.Request.{Request}
-use Rattle.govisd.specs.declared.words.Request.TheVariants.{Resolve, Explain, Check, Script, Serve, Help, Version, BadCount}
+use Rattle.govisd.specs.declared.words.Request.TheVariants.{Resolve, Explain, Check, Run, Script, Serve, Help, Version, BadCount}
 use Rattle.govisd.specs.Asking.{Asks, ToCheck, ToExplain, ToHelp, is_plain, command_line, asked_by_subcommand as asked_by, refusals, said}
-use Rattle.govisd.specs.Runs.{Answering, ChecksEach, ChecksEachAsJson, ChecksEachModule, ChecksFolder, Does, Explains, ExplainsEach, ExplainsFound, Helps, HelpsEach, HelpsFound, ListsAll, Refuses, RefusesName, RefusesOtherCommands, RefusesOthers, Runs, ShowsOrRunsOut}
+use Rattle.govisd.specs.Runs.{Around, ChecksEach, ChecksEachAsJson, ChecksEachModule, ChecksFolder, Does, Explains, ExplainsEach, ExplainsFound, Helps, HelpsEach, HelpsFound, ListsAll, Refuses, RefusesName, RefusesOtherCommands, RefusesOthers, Runs, ShowsOrRunsOut}
 use Rattle.govisd.specs.Says.{RunsOut}
 use Rattle.govisd.specs.Texts.{help_of, unknown_command_text}
 use Rattle.govisd.proofs.PlainWords.{check_folder, check_folder_named, check_module, check_module_json, check_module_json_named, check_module_named, explain_word, explain_word_named, help_word, help_word_named}
@@ -50,10 +50,11 @@ same_form : (a b : Text) (p q : Option Text) (i j : Bool) → ToCheck a p i ≡ 
 same_form a b p q i j e = cc
 
 -- one run
-module _ (Answers : Answering) (ran : Ran) (given left out out' err err' : Option (List ℕ)) where
-  explains : (request : Request) (word : Option Text) → said request ≡ ToExplain word → Does Answers (Ok request) ran given left out out' err err' → Explains word ran out out' err err' × Keeps given left
+module _ (among : Around) (ran : Ran) (given left out out' err err' : Option (List ℕ)) where
+  explains : (request : Request) (word : Option Text) → said request ≡ ToExplain word → Does among (Ok request) ran given left out out' err err' → Explains word ran out out' err err' × Keeps given left
   explains Resolve word is h = absurd (cc)
   explains (Explain rule) word is h = (subst (λ w. Explains w ran out out' err err') (same_rule _ word is) h.0, h.1)
+  explains (Run order) word is h = absurd (cc)
   explains (Check order) word is h = absurd (cc)
   explains (Help topic) word is h = absurd (cc)
   explains Version word is h = absurd (cc)
@@ -61,9 +62,10 @@ module _ (Answers : Answering) (ran : Ran) (given left out out' err err' : Optio
   explains (Serve daemon) word is h = absurd (cc)
   explains (BadCount option) word is h = absurd (cc)
 
-  pub helps : (request : Request) (word : Option Text) → said request ≡ ToHelp word → Does Answers (Ok request) ran given left out out' err err' → Helps word ran out out' err err' × Keeps given left
+  pub helps : (request : Request) (word : Option Text) → said request ≡ ToHelp word → Does among (Ok request) ran given left out out' err err' → Helps word ran out out' err err' × Keeps given left
   helps Resolve word is h = absurd (cc)
   helps (Explain rule) word is h = absurd (cc)
+  helps (Run order) word is h = absurd (cc)
   helps (Check order) word is h = absurd (cc)
   helps (Help topic) word is h = (subst (λ w. Helps w ran out out' err err') (same_topic _ word is) h.0, h.1)
   helps Version word is h = absurd (cc)
@@ -71,14 +73,15 @@ module _ (Answers : Answering) (ran : Ran) (given left out out' err err' : Optio
   helps (Serve daemon) word is h = absurd (cc)
   helps (BadCount option) word is h = absurd (cc)
 
-  checks : (request : Request) (folder : Text) (path : Option Text) (json : Bool) → said request ≡ ToCheck folder path json → Does Answers (Ok request) ran given left out out' err err' → ChecksFolder Answers folder json path ran out out' err err' × Keeps given left
+  checks : (request : Request) (folder : Text) (path : Option Text) (json : Bool) → said request ≡ ToCheck folder path json → Does among (Ok request) ran given left out out' err err' → ChecksFolder among.answers folder json path ran out out' err err' × Keeps given left
   checks Resolve folder path json is h = absurd (cc)
   checks (Explain rule) folder path json is h = absurd (cc)
+  checks (Run order) folder path json is h = absurd (cc)
   checks (Check order) folder path json is h =
       let asked = option_map (λ word. word.now) order.module_path in
-      let here = subst (λ f. ChecksFolder Answers f order.json asked ran out out' err err') (same_folder _ folder _ path _ json is) h.0 in
-      let formed = subst (λ j. ChecksFolder Answers folder j asked ran out out' err err') (same_form _ folder _ path _ json is) here in
-      (subst (λ p. ChecksFolder Answers folder json p ran out out' err err') (same_path _ folder _ path _ json is) formed, h.1)
+      let here = subst (λ f. ChecksFolder among.answers f order.json asked ran out out' err err') (same_folder _ folder _ path _ json is) h.0 in
+      let formed = subst (λ j. ChecksFolder among.answers folder j asked ran out out' err err') (same_form _ folder _ path _ json is) here in
+      (subst (λ p. ChecksFolder among.answers folder json p ran out out' err err') (same_path _ folder _ path _ json is) formed, h.1)
   checks (Help topic) folder path json is h = absurd (cc)
   checks Version folder path json is h = absurd (cc)
   checks (Script workers) folder path json is h = absurd (cc)
@@ -91,23 +94,23 @@ module _ (Answers : Answering) (ran : Ran) (given left out out' err err' : Optio
       (r.status, r.says)
 
   -- a run for words that are not refused does what is done for what they name, or memory ran out
-  pub done : (words : List Text) (Happens : Type 0) → ((request : Request) → said request ≡ asked_by words → Does Answers (Ok request) ran given left out out' err err' → Happens × Keeps given left) → refusals words ≡ [] → Runs Answers words ran given left out out' err err' → (Happens ⊎ (RunsOut ran err err' × Keeps out out')) × Keeps given left
+  pub done : (words : List Text) (Happens : Type 0) → ((request : Request) → said request ≡ asked_by words → Does among (Ok request) ran given left out out' err err' → Happens × Keeps given left) → refusals words ≡ [] → Runs among words ran given left out out' err err' → (Happens ⊎ (RunsOut ran err err' × Keeps out out')) × Keeps given left
   done words Happens does none r = by r.asked r.asks r.does
     where
-      by : (a : Result Request Error) → Asks words a → Does Answers a ran given left out out' err err' → (Happens ⊎ (RunsOut ran err err' × Keeps out out')) × Keeps given left
+      by : (a : Result Request Error) → Asks words a → Does among a ran given left out out' err err' → (Happens ⊎ (RunsOut ran err err' × Keeps out out')) × Keeps given left
       by (Ok request) asks did =
           let h = does request (asked words request none asks) did in
           (inl h.0, h.1)
       by (Err e) asks did = (inr (ran_out e (failed words e none asks) did.0, did.1), did.2)
 
-  explained : (words : List Text) (word : Option Text) → refusals words ≡ [] → asked_by words ≡ ToExplain word → Runs Answers words ran given left out out' err err' → (Explains word ran out out' err err' ⊎ (RunsOut ran err err' × Keeps out out')) × Keeps given left
+  explained : (words : List Text) (word : Option Text) → refusals words ≡ [] → asked_by words ≡ ToExplain word → Runs among words ran given left out out' err err' → (Explains word ran out out' err err' ⊎ (RunsOut ran err err' × Keeps out out')) × Keeps given left
   explained words word none is r = done words (Explains word ran out out' err err') (λ request asks did. explains request word (asks ∙ is) did) none r
 
-  pub helped : (words : List Text) (word : Option Text) → refusals words ≡ [] → asked_by words ≡ ToHelp word → Runs Answers words ran given left out out' err err' → (Helps word ran out out' err err' ⊎ (RunsOut ran err err' × Keeps out out')) × Keeps given left
+  pub helped : (words : List Text) (word : Option Text) → refusals words ≡ [] → asked_by words ≡ ToHelp word → Runs among words ran given left out out' err err' → (Helps word ran out out' err err' ⊎ (RunsOut ran err err' × Keeps out out')) × Keeps given left
   helped words word none is r = done words (Helps word ran out out' err err') (λ request asks did. helps request word (asks ∙ is) did) none r
 
-  checked : (words : List Text) (folder : Text) (path : Option Text) (json : Bool) → refusals words ≡ [] → asked_by words ≡ ToCheck folder path json → Runs Answers words ran given left out out' err err' → (ChecksFolder Answers folder json path ran out out' err err' ⊎ (RunsOut ran err err' × Keeps out out')) × Keeps given left
-  checked words folder path json none is r = done words (ChecksFolder Answers folder json path ran out out' err err') (λ request asks did. checks request folder path json (asks ∙ is) did) none r
+  checked : (words : List Text) (folder : Text) (path : Option Text) (json : Bool) → refusals words ≡ [] → asked_by words ≡ ToCheck folder path json → Runs among words ran given left out out' err err' → (ChecksFolder among.answers folder json path ran out out' err err' ⊎ (RunsOut ran err err' × Keeps out out')) × Keeps given left
+  checked words folder path json none is r = done words (ChecksFolder among.answers folder json path ran out out' err err') (λ request asks did. checks request folder path json (asks ∙ is) did) none r
 
   found : (word : Text) (rule : Rule) → rule_of_number word ≡ Some rule → Explains (Some word) ran out out' err err' ⊎ (RunsOut ran err err' × Keeps out out') → ShowsOrRunsOut (explained_text rule) ran out out' err err'
   found word rule is (inl h) = subst (λ f. ExplainsFound word f ran out out' err err') is h
@@ -132,16 +135,16 @@ module _ (Answers : Answering) (ran : Ran) (given left out out' err err' : Optio
 numbers_plain : (rule : Rule) → is_plain (rule_number rule) ≡ true
 numbers_plain = everywhere (λ rule. is_plain (rule_number rule)) refl
 
-pub each_rule : (Answers : Answering) → ExplainsEach Answers
-each_rule Answers program rule ran given left out out' err err' r =
+pub each_rule : (among : Around) → ExplainsEach among
+each_rule among program rule ran given left out out' err err' r =
     let plain = numbers_plain rule in
-    let h = explained Answers ran given left out out' err err' (command_line program (codes "explain" ∷ (rule_number rule ∷ []))) (Some (rule_number rule)) (explain_word program (rule_number rule) plain) (explain_word_named program (rule_number rule) plain) r in
-    (found Answers ran given left out out' err err' (rule_number rule) rule (names_each rule) h.0, h.1)
+    let h = explained among ran given left out out' err err' (command_line program (codes "explain" ∷ (rule_number rule ∷ []))) (Some (rule_number rule)) (explain_word program (rule_number rule) plain) (explain_word_named program (rule_number rule) plain) r in
+    (found among ran given left out out' err err' (rule_number rule) rule (names_each rule) h.0, h.1)
 
-pub no_rule : (Answers : Answering) → RefusesOthers Answers
-no_rule Answers program word plain none ran given left out out' err err' r =
-    let h = explained Answers ran given left out out' err err' (command_line program (codes "explain" ∷ (word ∷ []))) (Some word) (explain_word program word plain) (explain_word_named program word plain) r in
-    (lost Answers ran given left out out' err err' word none h.0, h.1)
+pub no_rule : (among : Around) → RefusesOthers among
+no_rule among program word plain none ran given left out out' err err' r =
+    let h = explained among ran given left out out' err err' (command_line program (codes "explain" ∷ (word ∷ []))) (Some word) (explain_word program word plain) (explain_word_named program word plain) r in
+    (lost among ran given left out out' err err' word none h.0, h.1)
 
 alone : (program : Text) → refusals (command_line program (codes "explain" ∷ [])) ≡ []
 unfolding clap_on_literals
@@ -151,29 +154,29 @@ alone_named : (program : Text) → asked_by (command_line program (codes "explai
 unfolding clap_on_literals
 alone_named program = refl
 
-pub all_rules : (Answers : Answering) → ListsAll Answers
-all_rules Answers program ran given left out out' err err' r =
-    let h = explained Answers ran given left out out' err err' (command_line program (codes "explain" ∷ [])) None (alone program) (alone_named program) r in
-    (whole Answers ran given left out out' err err' h.0, h.1)
+pub all_rules : (among : Around) → ListsAll among
+all_rules among program ran given left out out' err err' r =
+    let h = explained among ran given left out out' err err' (command_line program (codes "explain" ∷ [])) None (alone program) (alone_named program) r in
+    (whole among ran given left out out' err err' h.0, h.1)
 
-pub each_folder : (Answers : Answering) → ChecksEach Answers
-each_folder Answers program folder plain ran given left out out' err err' r =
-    checked Answers ran given left out out' err err' (command_line program (codes "check" ∷ (folder ∷ []))) folder None false (check_folder program folder plain) (check_folder_named program folder plain) r
+pub each_folder : (among : Around) → ChecksEach among
+each_folder among program folder plain ran given left out out' err err' r =
+    checked among ran given left out out' err err' (command_line program (codes "check" ∷ (folder ∷ []))) folder None false (check_folder program folder plain) (check_folder_named program folder plain) r
 
-pub each_module : (Answers : Answering) → ChecksEachModule Answers
-each_module Answers program folder path plain plain' ran given left out out' err err' r =
-    checked Answers ran given left out out' err err' (command_line program (codes "check" ∷ (folder ∷ (codes "--module" ∷ (path ∷ []))))) folder (Some path) false (check_module program folder path plain plain') (check_module_named program folder path plain plain') r
+pub each_module : (among : Around) → ChecksEachModule among
+each_module among program folder path plain plain' ran given left out out' err err' r =
+    checked among ran given left out out' err err' (command_line program (codes "check" ∷ (folder ∷ (codes "--module" ∷ (path ∷ []))))) folder (Some path) false (check_module program folder path plain plain') (check_module_named program folder path plain plain') r
 
-pub each_as_json : (Answers : Answering) → ChecksEachAsJson Answers
-each_as_json Answers program folder path plain plain' ran given left out out' err err' r =
-    checked Answers ran given left out out' err err' (command_line program (codes "check" ∷ (folder ∷ (codes "--module" ∷ (path ∷ (codes "--json" ∷ [])))))) folder (Some path) true (check_module_json program folder path plain plain') (check_module_json_named program folder path plain plain') r
+pub each_as_json : (among : Around) → ChecksEachAsJson among
+each_as_json among program folder path plain plain' ran given left out out' err err' r =
+    checked among ran given left out out' err err' (command_line program (codes "check" ∷ (folder ∷ (codes "--module" ∷ (path ∷ (codes "--json" ∷ [])))))) folder (Some path) true (check_module_json program folder path plain plain') (check_module_json_named program folder path plain plain') r
 
-pub each_command : (Answers : Answering) → HelpsEach Answers
-each_command Answers program name text plain is ran given left out out' err err' r =
-    let h = helped Answers ran given left out out' err err' (command_line program (codes "help" ∷ (name ∷ []))) (Some name) (help_word program name plain) (help_word_named program name plain) r in
-    (known Answers ran given left out out' err err' name text is h.0, h.1)
+pub each_command : (among : Around) → HelpsEach among
+each_command among program name text plain is ran given left out out' err err' r =
+    let h = helped among ran given left out out' err err' (command_line program (codes "help" ∷ (name ∷ []))) (Some name) (help_word program name plain) (help_word_named program name plain) r in
+    (known among ran given left out out' err err' name text is h.0, h.1)
 
-pub no_command : (Answers : Answering) → RefusesOtherCommands Answers
-no_command Answers program name plain none ran given left out out' err err' r =
-    let h = helped Answers ran given left out out' err err' (command_line program (codes "help" ∷ (name ∷ []))) (Some name) (help_word program name plain) (help_word_named program name plain) r in
-    (unknown Answers ran given left out out' err err' name none h.0, h.1)
+pub no_command : (among : Around) → RefusesOtherCommands among
+no_command among program name plain none ran given left out out' err err' r =
+    let h = helped among ran given left out out' err err' (command_line program (codes "help" ∷ (name ∷ []))) (Some name) (help_word program name plain) (help_word_named program name plain) r in
+    (unknown among ran given left out out' err err' name none h.0, h.1)

@@ -13,17 +13,19 @@ use Rattle.clap.specs.declared.error.Error.{Error}
 use Rattle.clap.specs.declared.error.kind.ErrorKind.TheVariants as kind
 use Rattle.govisd_folders.specs.declared.checking.Order.{Order}
 use Rattle.govisd.specs.declared.words.Request.{Request}
+use Rattle.govisd_runs.specs.declared.running.RunOrder.{RunOrder}
 use Rattle.govisd.specs.declared.words.CountOption.{CountOption}
-use Rattle.govisd.specs.declared.words.CountOption.TheVariants.{Workers, Connections}
+use Rattle.govisd.specs.declared.words.CountOption.TheVariants.{Workers, Connections, Steps}
 use Rattle.govisd.specs.declared.words.Daemon.{Daemon}
-use Rattle.govisd.specs.declared.words.Request.TheVariants.{Resolve, Explain, Check, Script, Serve, Help, Version, BadCount}
-use Rattle.govisd.specs.Counts.{connections_in, workers_in}
+use Rattle.govisd.specs.declared.words.Request.TheVariants.{Resolve, Explain, Check, Run, Script, Serve, Help, Version, BadCount}
+use Rattle.govisd.specs.Counts.{connections_in, steps_in, workers_in}
 
 -- what is asked for
 pub data Asked : Type 0 where
   ToResolve : Asked
   ToExplain : (rule : Option Text) → Asked
   ToCheck : (folder : Text) (path : Option Text) (json : Bool) → Asked
+  ToRun : (folder : Text) (path main : Option Text) (steps : ℕ) → Asked
   ToScript : (workers : ℕ) → Asked
   ToServe : (address : Text) (workers : ℕ) (connections : Option ℕ) → Asked
   ToHelp : (topic : Option Text) → Asked
@@ -34,6 +36,10 @@ pub data Asked : Type 0 where
 abbrev pub said_order : Order → Asked
 said_order order = ToCheck order.folder.now (option_map (λ word. word.now) order.module_path) order.json
 
+-- the run that an order is of
+abbrev pub said_run : RunOrder → Asked
+said_run order = ToRun order.folder.now (option_map (λ word. word.now) order.module_path) (option_map (λ word. word.now) order.main_path) order.steps
+
 -- the daemon that is described
 abbrev pub said_daemon : Daemon → Asked
 said_daemon daemon = ToServe daemon.address.now daemon.workers daemon.connections
@@ -43,6 +49,7 @@ abbrev pub said : Request → Asked
 said Resolve = ToResolve
 said (Explain rule) = ToExplain (option_map (λ word. word.now) rule)
 said (Check order) = said_order order
+said (Run order) = said_run order
 said (Script workers) = ToScript workers
 said (Serve daemon) = said_daemon daemon
 said (Help topic) = ToHelp (option_map (λ word. word.now) topic)
@@ -70,6 +77,19 @@ json_rule = record (new_rule (codes "json")) { long = Some (codes "json"); actio
 
 abbrev pub check_app : App
 check_app = with_rule (with_rule (with_rule (new_app (codes "check")) folder_rule) module_rule) json_rule
+
+-- `run`, behind it a folder, and among these maybe the path of its module, that of a package, and a number of steps
+abbrev pub main_rule : Rule
+main_rule = record (new_rule (codes "main")) { long = Some (codes "main") }
+
+abbrev pub main_app : App
+main_app = with_rule (with_rule (with_rule (new_app (codes "run")) folder_rule) module_rule) main_rule
+
+abbrev pub steps_rule : Rule
+steps_rule = record (new_rule (codes "steps")) { long = Some (codes "steps") }
+
+abbrev pub run_app : App
+run_app = with_rule main_app steps_rule
 
 -- `script`, with maybe a number of workers
 abbrev pub workers_rule : Rule
@@ -102,7 +122,7 @@ source_app =
     with_subcommand (with_subcommand (with_subcommand (record { top = govisd_shape; subs = [] }) (new_shape (codes "resolve"))) explain_app.top) check_app.top
 
 abbrev pub govisd_app : App
-govisd_app = with_subcommand (with_subcommand (with_subcommand source_app help_app.top) script_app.top) serve_app.top
+govisd_app = with_subcommand (with_subcommand (with_subcommand (with_subcommand source_app help_app.top) script_app.top) serve_app.top) run_app.top
 
 -- why the words are refused, and nothing where they are not
 abbrev pub refusals : List Text → Kinds
@@ -111,6 +131,18 @@ refusals words = fault_of govisd_app words
 -- the check that stands behind the command
 abbrev pub order_in : List Row → Asked
 order_in rows = ToCheck (unwrap_or (first_of (codes "folder") rows) (codes ".")) (first_of (codes "module") rows) (nat_lt 0 (count_of (codes "json") rows))
+
+-- a run of so many steps, if their number is one that is taken
+abbrev pub run_with : Text → Option Text → Option Text → Option ℕ → Asked
+run_with folder path main (Some steps) = ToRun folder path main steps
+run_with folder path main None = ToRefuse Steps
+
+abbrev pub run_of_steps : ℕ → List Row → Asked
+run_of_steps steps rows = ToRun (unwrap_or (first_of (codes "folder") rows) (codes ".")) (first_of (codes "module") rows) (first_of (codes "main") rows) steps
+
+abbrev pub run_in : List Row → Asked
+run_in rows =
+    run_with (unwrap_or (first_of (codes "folder") rows) (codes ".")) (first_of (codes "module") rows) (first_of (codes "main") rows) (steps_in (first_of (codes "steps") rows))
 
 -- a script with so many workers, if their number is one that is taken
 abbrev pub script_with : Option ℕ → Asked
@@ -137,7 +169,8 @@ asked_in (name, rows) =
     else (if bytes_eq name (codes "check") then order_in rows
     else (if bytes_eq name (codes "help") then ToHelp (first_of (codes "command") rows)
     else (if bytes_eq name (codes "script") then script_in rows
-    else (if bytes_eq name (codes "serve") then serve_in rows else ToResolve))))
+    else (if bytes_eq name (codes "serve") then serve_in rows
+    else (if bytes_eq name (codes "run") then run_in rows else ToResolve)))))
 
 -- what the subcommand asks for that the words name
 abbrev pub asked_by_subcommand : List Text → Asked
@@ -149,7 +182,7 @@ names_checker word = bytes_eq word (codes "resolve") || (bytes_eq word (codes "c
 
 -- a command has this name
 abbrev pub names_command : Text → Bool
-names_command word = names_checker word || (bytes_eq word (codes "script") || bytes_eq word (codes "serve"))
+names_command word = names_checker word || (bytes_eq word (codes "script") || (bytes_eq word (codes "serve") || bytes_eq word (codes "run")))
 
 abbrev pub if_command : Text → Option Text
 if_command word = if names_command word then Some word else None
@@ -215,6 +248,13 @@ pub record AskAs (program : Text) : Type 0 where
   pub serve_told : (address count most : Text) → is_plain address ≡ true → is_plain count ≡ true → is_plain most ≡ true → refusals (command_line program (codes "serve" ∷ (codes "--listen" ∷ (address ∷ (codes "--workers" ∷ (count ∷ (codes "--connections" ∷ (most ∷ [])))))))) ≡ []
   pub serve_told_named : (address count most : Text) → is_plain address ≡ true → is_plain count ≡ true → is_plain most ≡ true → asked_by_subcommand (command_line program (codes "serve" ∷ (codes "--listen" ∷ (address ∷ (codes "--workers" ∷ (count ∷ (codes "--connections" ∷ (most ∷ [])))))))) ≡ serve_with address (workers_in (Some count)) (connections_in (Some most))
   pub one_connection : asked_by_subcommand (command_line program (codes "serve" ∷ (codes "--listen" ∷ (codes "127.0.0.1:0" ∷ (codes "--connections" ∷ (codes "1" ∷ [])))))) ≡ ToServe (codes "127.0.0.1:0") 1 (Some 1)
+  pub run : refusals (command_line program (codes "run" ∷ [])) ≡ kind.MissingRequiredArgument ∷ []
+  pub run_folder : (folder : Text) → is_plain folder ≡ true → refusals (command_line program (codes "run" ∷ (folder ∷ []))) ≡ []
+  pub run_folder_named : (folder : Text) → is_plain folder ≡ true → asked_by_subcommand (command_line program (codes "run" ∷ (folder ∷ []))) ≡ ToRun folder None None 1000000000
+  pub run_steps : (folder count : Text) → is_plain folder ≡ true → is_plain count ≡ true → refusals (command_line program (codes "run" ∷ (folder ∷ (codes "--steps" ∷ (count ∷ []))))) ≡ []
+  pub run_steps_named : (folder count : Text) → is_plain folder ≡ true → is_plain count ≡ true → asked_by_subcommand (command_line program (codes "run" ∷ (folder ∷ (codes "--steps" ∷ (count ∷ []))))) ≡ run_with folder None None (steps_in (Some count))
+  pub run_told : (folder path main count : Text) → is_plain folder ≡ true → is_plain path ≡ true → is_plain main ≡ true → is_plain count ≡ true → refusals (command_line program (codes "run" ∷ (folder ∷ (codes "--module" ∷ (path ∷ (codes "--main" ∷ (main ∷ (codes "--steps" ∷ (count ∷ []))))))))) ≡ []
+  pub run_told_named : (folder path main count : Text) → is_plain folder ≡ true → is_plain path ≡ true → is_plain main ≡ true → is_plain count ≡ true → asked_by_subcommand (command_line program (codes "run" ∷ (folder ∷ (codes "--module" ∷ (path ∷ (codes "--main" ∷ (main ∷ (codes "--steps" ∷ (count ∷ []))))))))) ≡ run_with folder (Some path) (Some main) (steps_in (Some count))
   pub help_flag : refusals (command_line program (codes "--help" ∷ [])) ≡ kind.DisplayHelp ∷ []
   pub short_help_flag : refusals (command_line program (codes "-h" ∷ [])) ≡ kind.DisplayHelp ∷ []
   pub resolve_help_flag : refusals (command_line program (codes "resolve" ∷ (codes "--help" ∷ []))) ≡ kind.DisplayHelp ∷ []

@@ -37,3 +37,8 @@ workers_in (Some word) = option_and_then in_workers (number_of word)
 abbrev pub connections_in : Option (List ℕ) → Option (Option ℕ)
 connections_in None = Some None
 connections_in (Some word) = option_map (λ n. Some n) (number_of word)
+
+-- after how many steps a run stops: after 1,000,000,000 where none are told, and nothing where what is told is no number below 2^64
+abbrev pub steps_in : Option (List ℕ) → Option ℕ
+steps_in None = Some 1000000000
+steps_in (Some word) = number_of word

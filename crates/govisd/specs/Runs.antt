@@ -14,9 +14,9 @@ use Rattle.govisd_core.specs.declared.run.ResolveEnd.{ResolveEnd}
 use Rattle.govisd_core.specs.declared.run.ResolveEnd.TheVariants.{WriteFault, Memory}
 use Rattle.govisd.specs.declared.program.Ran.{Ran}
 use Rattle.govisd.specs.declared.words.CountOption.{CountOption}
-use Rattle.govisd.specs.declared.words.CountOption.TheVariants.{Workers}
+use Rattle.govisd.specs.declared.words.CountOption.TheVariants.{Workers, Steps}
 use Rattle.govisd.specs.declared.words.Request.{Request}
-use Rattle.govisd.specs.declared.words.Request.TheVariants.{Resolve, Explain, Check, Script, Serve, Help, Version, BadCount}
+use Rattle.govisd.specs.declared.words.Request.TheVariants.{Resolve, Explain, Check, Run, Script, Serve, Help, Version, BadCount}
 use Rattle.go_explain_core.specs.Naming.{rule_of_number}
 use Rattle.govisd_folders.specs.Checks.{IsAnswerOfCheck}
 use Rattle.govisd_folders.specs.declared.checking.CheckAnswer.{CheckAnswer}
@@ -24,8 +24,9 @@ use Rattle.go_text_core.specs.Rules.{rule_number}
 use Rattle.go_text_core.specs.declared.rule.Rule.{Rule}
 use Rattle.govisd.specs.Asking.{Asks, is_plain, command_line}
 use Rattle.go_explain_core.specs.Telling.{explained_text, list_text, unknown_text}
-use Rattle.govisd.specs.Counts.{connections_in, workers_in}
+use Rattle.govisd.specs.Counts.{connections_in, steps_in, workers_in}
 use Rattle.govisd.specs.Daemons.{Scripts, Serves}
+use Rattle.govisd.specs.Launches.{Launching, RunsFolder}
 use Rattle.govisd.specs.Says.{RunsOut, SaysText, WritesAnswer}
 use Rattle.govisd.specs.Statuses.{end_status, refusal_status}
 use Rattle.govisd.specs.Texts.{bad_count_text, end_text, help_of, program_help_text, refused_text, unknown_command_text, version_text}
@@ -89,6 +90,14 @@ abbrev pub ChecksFolder : Answering → Text → Bool → Option Text → Ran �
 ChecksFolder Answers folder json path ran out out' err err' =
     GivesAnswer Answers folder json path ran out out' err err' ⊎ (Answers folder json path None × RunsOut ran err err' × Keeps out out')
 
+-- what the program stands among: what checks folders, and what runs them
+pub record Around : Type 1 where
+  pub answers : Answering
+  pub launches : Launching
+
+abbrev pub around : Answering → Launching → Around
+around answers launches = record { answers = answers; launches = launches }
+
 -- the help of the command that has a name
 abbrev pub HelpsFound : Text → Option (List ℕ) → Ran → Option (List ℕ) → Option (List ℕ) → Option (List ℕ) → Option (List ℕ) → Type 0
 HelpsFound name None ran out out' err err' = RefusesName (unknown_command_text name) ran err err' × Keeps out out'
@@ -112,123 +121,139 @@ pub record Refuses (kind : ErrorKind) (ran : Ran) (err err' : Option (List ℕ))
 abbrev pub RefusesCount : CountOption → Ran → Option (List ℕ) → Option (List ℕ) → Type 0
 RefusesCount option ran err err' = (ran.status ≡ 2) × SaysText ran.is_told (bad_count_text option) err err'
 
--- what is done for what was asked for
-abbrev pub Does : Answering → Result Request Error → Ran → Option (List ℕ) → Option (List ℕ) → Option (List ℕ) → Option (List ℕ) → Option (List ℕ) → Option (List ℕ) → Type 0
-Does Answers (Ok Resolve) ran given left out out' err err' = Resolves ran given left out out' err err'
-Does Answers (Ok (Explain rule)) ran given left out out' err err' = Explains (option_map (λ word. word.now) rule) ran out out' err err' × Keeps given left
-Does Answers (Ok (Check order)) ran given left out out' err err' =
-    ChecksFolder Answers order.folder.now order.json (option_map (λ word. word.now) order.module_path) ran out out' err err' × Keeps given left
-Does Answers (Ok (Script workers)) ran given left out out' err err' = Scripts ran given left out out' err err'
-Does Answers (Ok (Serve daemon)) ran given left out out' err err' =
+-- what is done for what was asked for, among these
+abbrev pub Does : Around → Result Request Error → Ran → Option (List ℕ) → Option (List ℕ) → Option (List ℕ) → Option (List ℕ) → Option (List ℕ) → Option (List ℕ) → Type 0
+Does among (Ok Resolve) ran given left out out' err err' = Resolves ran given left out out' err err'
+Does among (Ok (Explain rule)) ran given left out out' err err' = Explains (option_map (λ word. word.now) rule) ran out out' err err' × Keeps given left
+Does among (Ok (Check order)) ran given left out out' err err' =
+    ChecksFolder among.answers order.folder.now order.json (option_map (λ word. word.now) order.module_path) ran out out' err err' × Keeps given left
+Does among (Ok (Run order)) ran given left out out' err err' =
+    RunsFolder among.launches order.folder.now (option_map (λ word. word.now) order.module_path) (option_map (λ word. word.now) order.main_path) order.steps ran out out' err err' × Keeps given left
+Does among (Ok (Script workers)) ran given left out out' err err' = Scripts ran given left out out' err err'
+Does among (Ok (Serve daemon)) ran given left out out' err err' =
     Serves daemon.address.now ran err err' × Keeps out out' × Keeps given left
-Does Answers (Ok (Help topic)) ran given left out out' err err' = Helps (option_map (λ word. word.now) topic) ran out out' err err' × Keeps given left
-Does Answers (Ok Version) ran given left out out' err err' = ShowsText ran version_text out out' err err' × Keeps given left
-Does Answers (Ok (BadCount option)) ran given left out out' err err' = RefusesCount option ran err err' × Keeps out out' × Keeps given left
-Does Answers (Err e) ran given left out out' err err' = Refuses (kind_of e) ran err err' × Keeps out out' × Keeps given left
+Does among (Ok (Help topic)) ran given left out out' err err' = Helps (option_map (λ word. word.now) topic) ran out out' err err' × Keeps given left
+Does among (Ok Version) ran given left out out' err err' = ShowsText ran version_text out out' err err' × Keeps given left
+Does among (Ok (BadCount option)) ran given left out out' err err' = RefusesCount option ran err err' × Keeps out out' × Keeps given left
+Does among (Err e) ran given left out out' err err' = Refuses (kind_of e) ran err err' × Keeps out out' × Keeps given left
 
 -- it is done for what the words ask for
-pub record Runs (Answers : Answering) (words : List Text) (ran : Ran) (given left out out' err err' : Option (List ℕ)) : Type 0 where
+pub record Runs (among : Around) (words : List Text) (ran : Ran) (given left out out' err err' : Option (List ℕ)) : Type 0 where
   pub asked : Result Request Error
   pub asks : Asks words asked
-  pub does : Does Answers asked ran given left out out' err err'
+  pub does : Does among asked ran given left out out' err err'
 
 -- one run of the program for some words
-abbrev pub RunsFor : Answering → List Text → (Ran → Option (List ℕ) → Option (List ℕ) → Option (List ℕ) → Option (List ℕ) → Type 0) → Type 0
-RunsFor Answers words Happens =
-    (ran : Ran) (given left out out' err err' : Option (List ℕ)) → Runs Answers words ran given left out out' err err' → Happens ran out out' err err' × Keeps given left
+abbrev pub RunsFor : Around → List Text → (Ran → Option (List ℕ) → Option (List ℕ) → Option (List ℕ) → Option (List ℕ) → Type 0) → Type 0
+RunsFor among words Happens =
+    (ran : Ran) (given left out out' err err' : Option (List ℕ)) → Runs among words ran given left out out' err err' → Happens ran out out' err err' × Keeps given left
 
 -- `explain` with a rule's number writes what the rule means
-abbrev pub ExplainsEach : Answering → Type 0
-ExplainsEach Answers = (program : Text) (rule : Rule) → RunsFor Answers (command_line program (codes "explain" ∷ (rule_number rule ∷ []))) (ShowsOrRunsOut (explained_text rule))
+abbrev pub ExplainsEach : Around → Type 0
+ExplainsEach among = (program : Text) (rule : Rule) → RunsFor among (command_line program (codes "explain" ∷ (rule_number rule ∷ []))) (ShowsOrRunsOut (explained_text rule))
 
 -- and with a word that names no rule says so
-abbrev pub RefusesOthers : Answering → Type 0
-RefusesOthers Answers =
-    (program word : Text) → is_plain word ≡ true → rule_of_number word ≡ None → RunsFor Answers (command_line program (codes "explain" ∷ (word ∷ []))) (λ ran out out' err err'. RefusesName (unknown_text word) ran err err' × Keeps out out')
+abbrev pub RefusesOthers : Around → Type 0
+RefusesOthers among =
+    (program word : Text) → is_plain word ≡ true → rule_of_number word ≡ None → RunsFor among (command_line program (codes "explain" ∷ (word ∷ []))) (λ ran out out' err err'. RefusesName (unknown_text word) ran err err' × Keeps out out')
 
 -- and alone lists all rules
-abbrev pub ListsAll : Answering → Type 0
-ListsAll Answers = (program : Text) → RunsFor Answers (command_line program (codes "explain" ∷ [])) (ShowsOrRunsOut list_text)
+abbrev pub ListsAll : Around → Type 0
+ListsAll among = (program : Text) → RunsFor among (command_line program (codes "explain" ∷ [])) (ShowsOrRunsOut list_text)
 
 -- `check` with a folder checks this one, where memory does not run out before
-abbrev pub ChecksEach : Answering → Type 0
-ChecksEach Answers = (program folder : Text) → is_plain folder ≡ true → RunsFor Answers (command_line program (codes "check" ∷ (folder ∷ []))) (λ ran out out' err err'. ChecksFolder Answers folder false None ran out out' err err' ⊎ (RunsOut ran err err' × Keeps out out'))
+abbrev pub ChecksEach : Around → Type 0
+ChecksEach among = (program folder : Text) → is_plain folder ≡ true → RunsFor among (command_line program (codes "check" ∷ (folder ∷ []))) (λ ran out out' err err'. ChecksFolder among.answers folder false None ran out out' err err' ⊎ (RunsOut ran err err' × Keeps out out'))
 
 -- with the path of its module, it is checked as that of this module
-abbrev pub ChecksEachModule : Answering → Type 0
-ChecksEachModule Answers =
-    (program folder path : Text) → is_plain folder ≡ true → is_plain path ≡ true → RunsFor Answers (command_line program (codes "check" ∷ (folder ∷ (codes "--module" ∷ (path ∷ []))))) (λ ran out out' err err'. ChecksFolder Answers folder false (Some path) ran out out' err err' ⊎ (RunsOut ran err err' × Keeps out out'))
+abbrev pub ChecksEachModule : Around → Type 0
+ChecksEachModule among =
+    (program folder path : Text) → is_plain folder ≡ true → is_plain path ≡ true → RunsFor among (command_line program (codes "check" ∷ (folder ∷ (codes "--module" ∷ (path ∷ []))))) (λ ran out out' err err'. ChecksFolder among.answers folder false (Some path) ran out out' err err' ⊎ (RunsOut ran err err' × Keeps out out'))
 
 -- and as JSON where that is asked for
-abbrev pub ChecksEachAsJson : Answering → Type 0
-ChecksEachAsJson Answers =
-    (program folder path : Text) → is_plain folder ≡ true → is_plain path ≡ true → RunsFor Answers (command_line program (codes "check" ∷ (folder ∷ (codes "--module" ∷ (path ∷ (codes "--json" ∷ [])))))) (λ ran out out' err err'. ChecksFolder Answers folder true (Some path) ran out out' err err' ⊎ (RunsOut ran err err' × Keeps out out'))
+abbrev pub ChecksEachAsJson : Around → Type 0
+ChecksEachAsJson among =
+    (program folder path : Text) → is_plain folder ≡ true → is_plain path ≡ true → RunsFor among (command_line program (codes "check" ∷ (folder ∷ (codes "--module" ∷ (path ∷ (codes "--json" ∷ [])))))) (λ ran out out' err err'. ChecksFolder among.answers folder true (Some path) ran out out' err err' ⊎ (RunsOut ran err err' × Keeps out out'))
 
 -- `help` with a command's name writes what the command takes
-abbrev pub HelpsEach : Answering → Type 0
-HelpsEach Answers =
-    (program name text : Text) → is_plain name ≡ true → help_of name ≡ Some text → RunsFor Answers (command_line program (codes "help" ∷ (name ∷ []))) (ShowsOrRunsOut text)
+abbrev pub HelpsEach : Around → Type 0
+HelpsEach among =
+    (program name text : Text) → is_plain name ≡ true → help_of name ≡ Some text → RunsFor among (command_line program (codes "help" ∷ (name ∷ []))) (ShowsOrRunsOut text)
 
 -- and with a word that names none says so
-abbrev pub RefusesOtherCommands : Answering → Type 0
-RefusesOtherCommands Answers =
-    (program name : Text) → is_plain name ≡ true → help_of name ≡ None → RunsFor Answers (command_line program (codes "help" ∷ (name ∷ []))) (λ ran out out' err err'. RefusesName (unknown_command_text name) ran err err' × Keeps out out')
+abbrev pub RefusesOtherCommands : Around → Type 0
+RefusesOtherCommands among =
+    (program name : Text) → is_plain name ≡ true → help_of name ≡ None → RunsFor among (command_line program (codes "help" ∷ (name ∷ []))) (λ ran out out' err err'. RefusesName (unknown_command_text name) ran err err' × Keeps out out')
 
 -- `resolve` alone resolves what it reads, where memory does not run out before
-abbrev pub ResolvesAlone : Answering → Type 0
-ResolvesAlone Answers =
-    (program : Text) (ran : Ran) (given left out out' err err' : Option (List ℕ)) → Runs Answers (command_line program (codes "resolve" ∷ [])) ran given left out out' err err' → Resolves ran given left out out' err err' ⊎ (RunsOut ran err err' × Keeps out out' × Keeps given left)
+abbrev pub ResolvesAlone : Around → Type 0
+ResolvesAlone among =
+    (program : Text) (ran : Ran) (given left out out' err err' : Option (List ℕ)) → Runs among (command_line program (codes "resolve" ∷ [])) ran given left out out' err err' → Resolves ran given left out out' err err' ⊎ (RunsOut ran err err' × Keeps out out' × Keeps given left)
 
 -- `help` alone writes the program's help
-abbrev pub HelpsAlone : Answering → Type 0
-HelpsAlone Answers = (program : Text) → RunsFor Answers (command_line program (codes "help" ∷ [])) (ShowsOrRunsOut program_help_text)
+abbrev pub HelpsAlone : Around → Type 0
+HelpsAlone among = (program : Text) → RunsFor among (command_line program (codes "help" ∷ [])) (ShowsOrRunsOut program_help_text)
 
 -- and so does `--help`
-abbrev pub HelpsByFlag : Answering → Type 0
-HelpsByFlag Answers = (program : Text) → RunsFor Answers (command_line program (codes "--help" ∷ [])) (ShowsOrRunsOut program_help_text)
+abbrev pub HelpsByFlag : Around → Type 0
+HelpsByFlag among = (program : Text) → RunsFor among (command_line program (codes "--help" ∷ [])) (ShowsOrRunsOut program_help_text)
 
 -- `--version` writes the version
-abbrev pub TellsVersion : Answering → Type 0
-TellsVersion Answers = (program : Text) → RunsFor Answers (command_line program (codes "--version" ∷ [])) (ShowsOrRunsOut version_text)
+abbrev pub TellsVersion : Around → Type 0
+TellsVersion among = (program : Text) → RunsFor among (command_line program (codes "--version" ∷ [])) (ShowsOrRunsOut version_text)
 
 -- a line is refused for a reason, where memory does not run out before, and nothing is written on standard output
 abbrev pub RefusesFor : ErrorKind → Ran → Option (List ℕ) → Option (List ℕ) → Option (List ℕ) → Option (List ℕ) → Type 0
 RefusesFor kind ran out out' err err' = (Refuses kind ran err err' ⊎ RunsOut ran err err') × Keeps out out'
 
 -- a line without a command is refused
-abbrev pub RefusesNothing : Answering → Type 0
-RefusesNothing Answers = (program : Text) → RunsFor Answers (command_line program []) (RefusesFor MissingSubcommand)
+abbrev pub RefusesNothing : Around → Type 0
+RefusesNothing among = (program : Text) → RunsFor among (command_line program []) (RefusesFor MissingSubcommand)
 
 -- and one of `resolve` with a word behind it
-abbrev pub RefusesWordBehind : Answering → Type 0
-RefusesWordBehind Answers =
-    (program word : Text) → is_plain word ≡ true → RunsFor Answers (command_line program (codes "resolve" ∷ (word ∷ []))) (RefusesFor UnknownArgument)
+abbrev pub RefusesWordBehind : Around → Type 0
+RefusesWordBehind among =
+    (program word : Text) → is_plain word ≡ true → RunsFor among (command_line program (codes "resolve" ∷ (word ∷ []))) (RefusesFor UnknownArgument)
 
 -- `script` alone serves a script, where memory does not run out before
-abbrev pub ScriptsAlone : Answering → Type 0
-ScriptsAlone Answers =
-    (program : Text) (ran : Ran) (given left out out' err err' : Option (List ℕ)) → Runs Answers (command_line program (codes "script" ∷ [])) ran given left out out' err err' → Scripts ran given left out out' err err' ⊎ (RunsOut ran err err' × Keeps out out' × Keeps given left)
+abbrev pub ScriptsAlone : Around → Type 0
+ScriptsAlone among =
+    (program : Text) (ran : Ran) (given left out out' err err' : Option (List ℕ)) → Runs among (command_line program (codes "script" ∷ [])) ran given left out out' err err' → Scripts ran given left out out' err err' ⊎ (RunsOut ran err err' × Keeps out out' × Keeps given left)
 
 -- and with a number of workers, where it is 1 to 64
-abbrev pub ScriptsEach : Answering → Type 0
-ScriptsEach Answers =
-    (program count : Text) (workers : ℕ) → is_plain count ≡ true → workers_in (Some count) ≡ Some workers → (ran : Ran) (given left out out' err err' : Option (List ℕ)) → Runs Answers (command_line program (codes "script" ∷ (codes "--workers" ∷ (count ∷ [])))) ran given left out out' err err' → Scripts ran given left out out' err err' ⊎ (RunsOut ran err err' × Keeps out out' × Keeps given left)
+abbrev pub ScriptsEach : Around → Type 0
+ScriptsEach among =
+    (program count : Text) (workers : ℕ) → is_plain count ≡ true → workers_in (Some count) ≡ Some workers → (ran : Ran) (given left out out' err err' : Option (List ℕ)) → Runs among (command_line program (codes "script" ∷ (codes "--workers" ∷ (count ∷ [])))) ran given left out out' err err' → Scripts ran given left out out' err err' ⊎ (RunsOut ran err err' × Keeps out out' × Keeps given left)
 
 -- another number than 1 to 64 is refused, and nothing is read or written
-abbrev pub RefusesWorkers : Answering → Type 0
-RefusesWorkers Answers =
-    (program count : Text) → is_plain count ≡ true → workers_in (Some count) ≡ None → RunsFor Answers (command_line program (codes "script" ∷ (codes "--workers" ∷ (count ∷ [])))) (λ ran out out' err err'. (RefusesCount Workers ran err err' ⊎ RunsOut ran err err') × Keeps out out')
+abbrev pub RefusesWorkers : Around → Type 0
+RefusesWorkers among =
+    (program count : Text) → is_plain count ≡ true → workers_in (Some count) ≡ None → RunsFor among (command_line program (codes "script" ∷ (codes "--workers" ∷ (count ∷ [])))) (λ ran out out' err err'. (RefusesCount Workers ran err err' ⊎ RunsOut ran err err') × Keeps out out')
 
 -- `serve` with an address serves there, where memory does not run out before
-abbrev pub ServesEach : Answering → Type 0
-ServesEach Answers =
-    (program address : Text) → is_plain address ≡ true → RunsFor Answers (command_line program (codes "serve" ∷ (codes "--listen" ∷ (address ∷ [])))) (λ ran out out' err err'. (Serves address ran err err' ⊎ RunsOut ran err err') × Keeps out out')
+abbrev pub ServesEach : Around → Type 0
+ServesEach among =
+    (program address : Text) → is_plain address ≡ true → RunsFor among (command_line program (codes "serve" ∷ (codes "--listen" ∷ (address ∷ [])))) (λ ran out out' err err'. (Serves address ran err err' ⊎ RunsOut ran err err') × Keeps out out')
 
 -- and with numbers of workers and of connections, where they are such that are taken
-abbrev pub ServesAsTold : Answering → Type 0
-ServesAsTold Answers =
-    (program address count most : Text) (workers : ℕ) (connections : Option ℕ) → is_plain address ≡ true → is_plain count ≡ true → is_plain most ≡ true → workers_in (Some count) ≡ Some workers → connections_in (Some most) ≡ Some connections → RunsFor Answers (command_line program (codes "serve" ∷ (codes "--listen" ∷ (address ∷ (codes "--workers" ∷ (count ∷ (codes "--connections" ∷ (most ∷ [])))))))) (λ ran out out' err err'. (Serves address ran err err' ⊎ RunsOut ran err err') × Keeps out out')
+abbrev pub ServesAsTold : Around → Type 0
+ServesAsTold among =
+    (program address count most : Text) (workers : ℕ) (connections : Option ℕ) → is_plain address ≡ true → is_plain count ≡ true → is_plain most ≡ true → workers_in (Some count) ≡ Some workers → connections_in (Some most) ≡ Some connections → RunsFor among (command_line program (codes "serve" ∷ (codes "--listen" ∷ (address ∷ (codes "--workers" ∷ (count ∷ (codes "--connections" ∷ (most ∷ [])))))))) (λ ran out out' err err'. (Serves address ran err err' ⊎ RunsOut ran err err') × Keeps out out')
 
 -- but not without an address
-abbrev pub RefusesNowhere : Answering → Type 0
-RefusesNowhere Answers = (program : Text) → RunsFor Answers (command_line program (codes "serve" ∷ [])) (RefusesFor MissingRequiredArgument)
+abbrev pub RefusesNowhere : Around → Type 0
+RefusesNowhere among = (program : Text) → RunsFor among (command_line program (codes "serve" ∷ [])) (RefusesFor MissingRequiredArgument)
+
+-- `run` with a folder runs this one, for 1,000,000,000 steps, where memory does not run out before
+abbrev pub RunsEach : Around → Type 0
+RunsEach among = (program folder : Text) → is_plain folder ≡ true → RunsFor among (command_line program (codes "run" ∷ (folder ∷ []))) (λ ran out out' err err'. RunsFolder among.launches folder None None 1000000000 ran out out' err err' ⊎ (RunsOut ran err err' × Keeps out out'))
+
+-- and this package of it, as of this module, for so many steps, where that is told
+abbrev pub RunsAsTold : Around → Type 0
+RunsAsTold among =
+    (program folder path main count : Text) (steps : ℕ) → is_plain folder ≡ true → is_plain path ≡ true → is_plain main ≡ true → is_plain count ≡ true → steps_in (Some count) ≡ Some steps → RunsFor among (command_line program (codes "run" ∷ (folder ∷ (codes "--module" ∷ (path ∷ (codes "--main" ∷ (main ∷ (codes "--steps" ∷ (count ∷ []))))))))) (λ ran out out' err err'. RunsFolder among.launches folder (Some path) (Some main) steps ran out out' err err' ⊎ (RunsOut ran err err' × Keeps out out'))
+
+-- but not for what is no number of steps
+abbrev pub RefusesSteps : Around → Type 0
+RefusesSteps among =
+    (program folder count : Text) → is_plain folder ≡ true → is_plain count ≡ true → steps_in (Some count) ≡ None → RunsFor among (command_line program (codes "run" ∷ (folder ∷ (codes "--steps" ∷ (count ∷ []))))) (λ ran out out' err err'. (RefusesCount Steps ran err err' ⊎ RunsOut ran err err') × Keeps out out')

@@ -8,11 +8,11 @@ use Rattle.go_wire_core.specs.declared.serving.ServeEnd.TheVariants as served
 use Rattle.govisd_core.specs.declared.run.ResolveEnd.{ResolveEnd}
 use Rattle.govisd_core.specs.declared.run.ResolveEnd.TheVariants.{Clean, Faults, ReadFault, WriteFault, Memory}
 use Rattle.govisd.specs.declared.words.CountOption.{CountOption}
-use Rattle.govisd.specs.declared.words.CountOption.TheVariants.{Workers, Connections}
+use Rattle.govisd.specs.declared.words.CountOption.TheVariants.{Workers, Connections, Steps}
 
 -- what the program takes, and its exit statuses
 abbrev pub program_help_text : List ℕ
-program_help_text = codes "Answers questions on Go sources\n\nUsage: govisd <COMMAND>\n\nCommands:\n  resolve  Reads a Go file from standard input, and writes what each identifier in it denotes\n  check    Checks the Go packages of a folder, and tells each fault with its place\n  explain  Says what a rule means, with an example that breaks it\n  script   Serves Go sessions by lines of JSON on standard input and output\n  serve    Serves Go sessions by lines of JSON over TCP\n  help     Writes this text, or that of a command: govisd help explain\n\nOptions:\n  -h, --help     Writes this text\n  -V, --version  Writes the version\n\nExamples:\n  govisd resolve < a.go\n  govisd check . --module example.com/mine\n  govisd explain N1\n  govisd serve --listen 127.0.0.1:7000\n\nExit status: 0 where the source has no fault or a service came to its end, 1 where it has one or the run failed, 2 where the command line, the folder or a name is refused\n"
+program_help_text = codes "Answers questions on Go sources\n\nUsage: govisd <COMMAND>\n\nCommands:\n  resolve  Reads a Go file from standard input, and writes what each identifier in it denotes\n  check    Checks the Go packages of a folder, and tells each fault with its place\n  explain  Says what a rule means, with an example that breaks it\n  run      Compiles the Go packages of a folder, and runs one\n  script   Serves Go sessions by lines of JSON on standard input and output\n  serve    Serves Go sessions by lines of JSON over TCP\n  help     Writes this text, or that of a command: govisd help explain\n\nOptions:\n  -h, --help     Writes this text\n  -V, --version  Writes the version\n\nExamples:\n  govisd resolve < a.go\n  govisd check . --module example.com/mine\n  govisd explain N1\n  govisd serve --listen 127.0.0.1:7000\n\nExit status: 0 where the source has no fault or a service came to its end, 1 where it has one or the run failed, 2 where the command line, the folder or a name is refused\n"
 
 abbrev pub resolve_help_text : List ℕ
 resolve_help_text = codes "Reads a Go file from standard input, and writes what each identifier in it denotes\n\nUsage: govisd resolve\n\nOptions:\n  -h, --help  Writes this text\n\nThe file is taken as the one file of a package that stands alone, so each import in it is refused. It may have 1,048,576 bytes of UTF-8.\nWritten is a line for each identifier that is used, in order of place: its offset in bytes from 0, its role, the identifier,\nand the declaration that it denotes or the rule that it breaks. Behind these stand the other faults, as fault OFFSET RULE.\n\nExample:\n  govisd resolve < a.go\n\nExit status: 0 where the source has no fault, 1 where it has one or the run failed, 2 where the command line is refused\n"
@@ -22,6 +22,9 @@ check_help_text = codes "Checks the Go packages of a folder, and tells each faul
 
 abbrev pub explain_help_text : List ℕ
 explain_help_text = codes "Says what a rule means, with an example that breaks it and how to mend it\n\nUsage: govisd explain [RULE]\n\nArguments:\n  [RULE]  The name of a rule, as N1. Without it all rules are listed, one a line\n\nOptions:\n  -h, --help  Writes this text\n\nExamples:\n  govisd explain N1\n  govisd explain\n\nExit status: 0, or 2 where no rule has this name\n"
+
+abbrev pub run_help_text : List ℕ
+run_help_text = codes "Compiles the Go packages of a folder, and runs one\n\nUsage: govisd run [OPTIONS] <FOLDER>\n\nArguments:\n  <FOLDER>  The folder of a module, as govisd check takes it\n\nOptions:\n  --module <PATH>  The import path of the module, as in its go.mod. Without it, the name of the folder\n  --main <PATH>    The import path of the package that is run. Without it, the one that is named main\n  --steps <N>      Stops after so many steps, one for each instruction. Without it, after 1,000,000,000\n  -h, --help       Writes this text\n\nWhat the program prints goes to standard output. Where it is not run, standard error says why: faults are told as govisd check tells them.\n\nExamples:\n  govisd run primes\n  govisd run shop --module example.com/shop --main example.com/shop/cmd\n\nExit status: 0 where the program ended, 1 where it was not run, 2 where it panicked or the command line is refused, 3 where its steps\nwere spent\n"
 
 abbrev pub script_help_text : List ℕ
 script_help_text = codes "Serves Go sessions by lines of JSON on standard input and output\n\nUsage: govisd script [OPTIONS]\n\nOptions:\n  --workers <N>  How many packages are compiled at once, 1 to 64. Without it, 1\n  -h, --help     Writes this text\n\nEach line is one request of a session, whose number, 1 to 32, is its member \"s\". Each is answered by one line, in order.\n\nExample:\n  printf '{\"cmd\":\"open\",\"module\":\"example.com/a\",\"s\":1}\\n' | govisd script\n\nExit status: 0 where the input ended, 1 where a line was too long, reading or writing failed, or memory or threads ran out, 2 where the command\nline is refused\n"
@@ -37,7 +40,8 @@ help_of name =
     else (if bytes_eq name (codes "explain") then Some explain_help_text
     else (if bytes_eq name (codes "script") then Some script_help_text
     else (if bytes_eq name (codes "serve") then Some serve_help_text
-    else (if bytes_eq name (codes "help") then Some program_help_text else None)))))
+    else (if bytes_eq name (codes "run") then Some run_help_text
+    else (if bytes_eq name (codes "help") then Some program_help_text else None))))))
 
 -- no command has this name
 abbrev pub unknown_command_text : List ℕ → List ℕ
@@ -62,6 +66,7 @@ end_text Memory = codes "govisd: memory ran out\n"
 abbrev pub bad_count_text : CountOption → List ℕ
 bad_count_text Workers = codes "govisd: --workers takes a number from 1 to 64\ngovisd: the command line is refused\n"
 bad_count_text Connections = codes "govisd: --connections takes a number from 0 to 18446744073709551615\ngovisd: the command line is refused\n"
+bad_count_text Steps = codes "govisd: --steps takes a number from 0 to 18446744073709551615\ngovisd: the command line is refused\n"
 
 -- why a script ended before its input did
 abbrev pub script_end_text : ServeEnd → List ℕ

@@ -2,12 +2,15 @@
 #![tactic(auto)]
 
 mod daemons;
+mod launches;
 mod program;
 mod status;
 mod texts;
 mod words;
 
 use govisd_folders::{CheckAnswer, Order, check_folder};
+use govisd_runs::{RunOrder, run_folder};
+use launches::Launches;
 use program::{Checks, run};
 use status::unread_status;
 use std::alloc::AllocError;
@@ -28,6 +31,17 @@ impl Checks for Folders<'_> {
 
     fn check(&self, order: &Order<'_>) -> Result<CheckAnswer, AllocError> {
         check_folder(self.rt, order)
+    }
+}
+
+impl Launches for Folders<'_> {
+    ghost use Rattle.std.specs.Prelude.{IfSome};
+    ghost use Rattle.govisd_runs.specs.Answers.{IsAnswerOfRun};
+
+    ghost Outcomes = { λ host folder path main steps answer. IfSome answer (IsAnswerOfRun folder path main steps) };
+
+    fn launch(&self, order: &RunOrder<'_>) -> Result<CheckAnswer, AllocError> {
+        run_folder(self.rt, order)
     }
 }
 

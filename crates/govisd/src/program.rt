@@ -5,10 +5,11 @@ ghost use Rattle.std.specs.Result.{result_ok};
 ghost use Rattle.govisd_folders.specs.Checks.{IsAnswerOfCheck};
 ghost use Rattle.govisd.specs.Texts.{refused_text as text_of_refused};
 ghost use Rattle.govisd.specs.Asking.{is_script};
-ghost use Rattle.govisd.specs.Runs.{ChecksEach, ChecksEachAsJson, ChecksEachModule, ChecksFolder, Does, Explains, Helps, Refuses, RefusesCount, RefusesMade, Resolves, Runs, ShowsText, ShowsMade, ExplainsEach, HelpsAlone, HelpsByFlag, HelpsEach, ListsAll, RefusesNothing, RefusesNowhere, RefusesOtherCommands, RefusesOthers, RefusesWordBehind, RefusesWorkers, ResolvesAlone, ScriptsAlone, ScriptsEach, ServesAsTold, ServesEach, TellsVersion};
+ghost use Rattle.govisd.specs.Runs.{ChecksEach, ChecksEachAsJson, ChecksEachModule, ChecksFolder, Does, Explains, Helps, Refuses, RefusesCount, RefusesMade, Resolves, Runs, ShowsText, ShowsMade, ExplainsEach, HelpsAlone, HelpsByFlag, HelpsEach, ListsAll, RefusesNothing, RefusesNowhere, RefusesOtherCommands, RefusesOthers, RefusesSteps, RefusesWordBehind, RefusesWorkers, ResolvesAlone, RunsAsTold, RunsEach, ScriptsAlone, ScriptsEach, ServesAsTold, ServesEach, TellsVersion, around};
 ghost use Rattle.govisd.specs.Says.{RunsOut, SaysText, WritesAnswer};
 
 use crate::daemons::{script, serve};
+use crate::launches::{Launches, launch};
 use crate::status::{end_status, refusal_status};
 use crate::texts::{
     bad_count_text, command_help, end_text, program_help, refused_text, unknown_command,
@@ -231,7 +232,7 @@ fn refuse_count<E: Write>(err: &mut E, option: CountOption) -> Ran
 
 // Does what is asked for, but for a script.
 fn answer<
-    C: Checks,
+    C: Checks + Launches,
     T: Net<Listener = TcpListener, Stream = TcpStream> + Threads + Wait + Clock + Sync,
     R: Read,
     W: Write,
@@ -246,13 +247,14 @@ fn answer<
     request: Request<'_>,
 ) -> Ran
     requires { is_script request ≡ false }
-    ensures { Does (C.Answers checks.now) (Ok request.entry) result (R.remaining reader.old) (R.remaining reader.new) (W.contents out.old) (W.contents out.new) (E.contents err.old) (E.contents err.new) }
+    ensures { Does (around (C.Answers checks.now) (C.Outcomes checks.now)) (Ok request.entry) result (R.remaining reader.old) (R.remaining reader.new) (W.contents out.old) (W.contents out.new) (E.contents err.old) (E.contents err.new) }
 {
     match request {
         Request::Script(_) => unreachable!(),
         Request::Resolve => resolve(alloc, reader, out, err),
         Request::Explain(word) => explain_rule(alloc, out, err, word),
         Request::Check(order) => check(checks, out, err, &order),
+        Request::Run(order) => launch(checks, out, err, &order),
         Request::Serve(daemon) => serve(rt, alloc, err, &daemon),
         Request::Help(topic) => help(alloc, out, err, topic),
         Request::Version => show(out, err, version_text()),
@@ -261,11 +263,11 @@ fn answer<
 }
 
 /// What the program does for the words of its command line, of which the first is its name: a run of `resolve` or a script
-/// from the reader to the first writer, the check of the folder that the words name, a daemon, what a rule means, its help or its version on the first
-/// writer, or a refusal. What there is to say beside goes to the second writer.
+/// from the reader to the first writer, the check or the run of the folder that the words name, a daemon, what a rule means, its help or its version on the
+/// first writer, or a refusal. What there is to say beside goes to the second writer.
 pub fn run<
     S: AsStr,
-    C: Checks,
+    C: Checks + Launches,
     T: Net<Listener = TcpListener, Stream = TcpStream> + Threads + Wait + Clock + Sync,
     R: Read + Drop,
     W: Write + Drop,
@@ -279,7 +281,7 @@ pub fn run<
     mut out: W,
     err: &mut E,
 ) -> Ended<R, W>
-    ensures { Runs (C.Answers checks.now) (map S.text words.now) result.ran (R.remaining reader) (R.remaining result.reader) (W.contents out) (W.contents result.out) (E.contents err.old) (E.contents err.new) }
+    ensures { Runs (around (C.Answers checks.now) (C.Outcomes checks.now)) (map S.text words.now) result.ran (R.remaining reader) (R.remaining result.reader) (W.contents out) (W.contents result.out) (E.contents err.old) (E.contents err.new) }
 {
     match read_words(alloc, words) {
         Ok(Request::Script(workers)) => script(rt, alloc, reader, out, err, workers),
@@ -299,27 +301,30 @@ pub fn run<
 /// A law, with nothing to run: what a run of `explain` does for each rule, for a word that names none and without a word,
 /// one of `check` for each folder, also with the path of its module and as JSON, one of `help` for each command, for a word that names none and without
 /// a word, one of `resolve`, of `--help` and of `--version`, one of `script` alone and for each number of workers, one of `serve` for each address, also
-/// with numbers of workers and of connections, and that a line without a command is refused, as `resolve` with a word and `serve` without an address are;
-/// whatever checks folders.
-pub fn runs_answer_words<C: Checks>(_checks: &C)
-    ensures each { ExplainsEach (C.Answers _checks.now) }
-    ensures other { RefusesOthers (C.Answers _checks.now) }
-    ensures all { ListsAll (C.Answers _checks.now) }
-    ensures folder { ChecksEach (C.Answers _checks.now) }
-    ensures of_module { ChecksEachModule (C.Answers _checks.now) }
-    ensures as_json { ChecksEachAsJson (C.Answers _checks.now) }
-    ensures command { HelpsEach (C.Answers _checks.now) }
-    ensures no_command { RefusesOtherCommands (C.Answers _checks.now) }
-    ensures resolve { ResolvesAlone (C.Answers _checks.now) }
-    ensures help { HelpsAlone (C.Answers _checks.now) }
-    ensures help_flag { HelpsByFlag (C.Answers _checks.now) }
-    ensures version_flag { TellsVersion (C.Answers _checks.now) }
-    ensures nothing { RefusesNothing (C.Answers _checks.now) }
-    ensures word_behind { RefusesWordBehind (C.Answers _checks.now) }
-    ensures script { ScriptsAlone (C.Answers _checks.now) }
-    ensures workers { ScriptsEach (C.Answers _checks.now) }
-    ensures bad_workers { RefusesWorkers (C.Answers _checks.now) }
-    ensures serve { ServesEach (C.Answers _checks.now) }
-    ensures serve_told { ServesAsTold (C.Answers _checks.now) }
-    ensures nowhere { RefusesNowhere (C.Answers _checks.now) }
+/// with numbers of workers and of connections, one of `run` for each folder, also with all that it takes, and that a line without a command is refused,
+/// as `resolve` with a word, `serve` without an address and `run` with a word for its number of steps are; whatever checks and runs folders.
+pub fn runs_answer_words<C: Checks + Launches>(_checks: &C)
+    ensures each { ExplainsEach (around (C.Answers _checks.now) (C.Outcomes _checks.now)) }
+    ensures other { RefusesOthers (around (C.Answers _checks.now) (C.Outcomes _checks.now)) }
+    ensures all { ListsAll (around (C.Answers _checks.now) (C.Outcomes _checks.now)) }
+    ensures folder { ChecksEach (around (C.Answers _checks.now) (C.Outcomes _checks.now)) }
+    ensures of_module { ChecksEachModule (around (C.Answers _checks.now) (C.Outcomes _checks.now)) }
+    ensures as_json { ChecksEachAsJson (around (C.Answers _checks.now) (C.Outcomes _checks.now)) }
+    ensures command { HelpsEach (around (C.Answers _checks.now) (C.Outcomes _checks.now)) }
+    ensures no_command { RefusesOtherCommands (around (C.Answers _checks.now) (C.Outcomes _checks.now)) }
+    ensures resolve { ResolvesAlone (around (C.Answers _checks.now) (C.Outcomes _checks.now)) }
+    ensures help { HelpsAlone (around (C.Answers _checks.now) (C.Outcomes _checks.now)) }
+    ensures help_flag { HelpsByFlag (around (C.Answers _checks.now) (C.Outcomes _checks.now)) }
+    ensures version_flag { TellsVersion (around (C.Answers _checks.now) (C.Outcomes _checks.now)) }
+    ensures nothing { RefusesNothing (around (C.Answers _checks.now) (C.Outcomes _checks.now)) }
+    ensures word_behind { RefusesWordBehind (around (C.Answers _checks.now) (C.Outcomes _checks.now)) }
+    ensures script { ScriptsAlone (around (C.Answers _checks.now) (C.Outcomes _checks.now)) }
+    ensures workers { ScriptsEach (around (C.Answers _checks.now) (C.Outcomes _checks.now)) }
+    ensures bad_workers { RefusesWorkers (around (C.Answers _checks.now) (C.Outcomes _checks.now)) }
+    ensures serve { ServesEach (around (C.Answers _checks.now) (C.Outcomes _checks.now)) }
+    ensures serve_told { ServesAsTold (around (C.Answers _checks.now) (C.Outcomes _checks.now)) }
+    ensures nowhere { RefusesNowhere (around (C.Answers _checks.now) (C.Outcomes _checks.now)) }
+    ensures runs_each { RunsEach (around (C.Answers _checks.now) (C.Outcomes _checks.now)) }
+    ensures runs_told { RunsAsTold (around (C.Answers _checks.now) (C.Outcomes _checks.now)) }
+    ensures bad_steps { RefusesSteps (around (C.Answers _checks.now) (C.Outcomes _checks.now)) }
 {}

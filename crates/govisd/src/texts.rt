@@ -1,7 +1,7 @@
 //! What the program writes of itself.
 ghost use Rattle.std.specs.Prelude.{◌≡◌, ◌↔◌, IfOk, IsTrue, option_map, string_bytes};
 ghost use Rattle.govisd.specs.Daemons.{IsListeningText, IsLoopback};
-ghost use Rattle.govisd.specs.Texts.{check_help_text, explain_help_text, help_of, program_help_text, script_help_text, serve_help_text, bad_count_text as text_of_bad_count, listening_line as line_of_listening, script_end_text as text_of_script_end, serve_end_text as text_of_serve_end, unbound_front as front_of_unbound, unbound_text as text_of_unbound, unknown_command_text, resolve_help_text, version_text as text_of_version, refused_text as text_of_refused, end_text as text_of_end};
+ghost use Rattle.govisd.specs.Texts.{check_help_text, explain_help_text, help_of, program_help_text, run_help_text, script_help_text, serve_help_text, bad_count_text as text_of_bad_count, listening_line as line_of_listening, script_end_text as text_of_script_end, serve_end_text as text_of_serve_end, unbound_front as front_of_unbound, unbound_text as text_of_unbound, unknown_command_text, resolve_help_text, version_text as text_of_version, refused_text as text_of_refused, end_text as text_of_end};
 
 use crate::words::CountOption;
 use go_wire_core::ServeEnd;
@@ -13,7 +13,7 @@ use std::net::SocketAddr;
 pub fn program_help() -> &'static str
     ensures { result.now ≡ program_help_text }
 {
-    "Answers questions on Go sources\n\nUsage: govisd <COMMAND>\n\nCommands:\n  resolve  Reads a Go file from standard input, and writes what each identifier in it denotes\n  check    Checks the Go packages of a folder, and tells each fault with its place\n  explain  Says what a rule means, with an example that breaks it\n  script   Serves Go sessions by lines of JSON on standard input and output\n  serve    Serves Go sessions by lines of JSON over TCP\n  help     Writes this text, or that of a command: govisd help explain\n\nOptions:\n  -h, --help     Writes this text\n  -V, --version  Writes the version\n\nExamples:\n  govisd resolve < a.go\n  govisd check . --module example.com/mine\n  govisd explain N1\n  govisd serve --listen 127.0.0.1:7000\n\nExit status: 0 where the source has no fault or a service came to its end, 1 where it has one or the run failed, 2 where the command line, the folder or a name is refused\n"
+    "Answers questions on Go sources\n\nUsage: govisd <COMMAND>\n\nCommands:\n  resolve  Reads a Go file from standard input, and writes what each identifier in it denotes\n  check    Checks the Go packages of a folder, and tells each fault with its place\n  explain  Says what a rule means, with an example that breaks it\n  run      Compiles the Go packages of a folder, and runs one\n  script   Serves Go sessions by lines of JSON on standard input and output\n  serve    Serves Go sessions by lines of JSON over TCP\n  help     Writes this text, or that of a command: govisd help explain\n\nOptions:\n  -h, --help     Writes this text\n  -V, --version  Writes the version\n\nExamples:\n  govisd resolve < a.go\n  govisd check . --module example.com/mine\n  govisd explain N1\n  govisd serve --listen 127.0.0.1:7000\n\nExit status: 0 where the source has no fault or a service came to its end, 1 where it has one or the run failed, 2 where the command line, the folder or a name is refused\n"
 }
 
 fn resolve_help() -> &'static str
@@ -32,6 +32,12 @@ fn explain_help() -> &'static str
     ensures { result.now ≡ explain_help_text }
 {
     "Says what a rule means, with an example that breaks it and how to mend it\n\nUsage: govisd explain [RULE]\n\nArguments:\n  [RULE]  The name of a rule, as N1. Without it all rules are listed, one a line\n\nOptions:\n  -h, --help  Writes this text\n\nExamples:\n  govisd explain N1\n  govisd explain\n\nExit status: 0, or 2 where no rule has this name\n"
+}
+
+fn run_help() -> &'static str
+    ensures { result.now ≡ run_help_text }
+{
+    "Compiles the Go packages of a folder, and runs one\n\nUsage: govisd run [OPTIONS] <FOLDER>\n\nArguments:\n  <FOLDER>  The folder of a module, as govisd check takes it\n\nOptions:\n  --module <PATH>  The import path of the module, as in its go.mod. Without it, the name of the folder\n  --main <PATH>    The import path of the package that is run. Without it, the one that is named main\n  --steps <N>      Stops after so many steps, one for each instruction. Without it, after 1,000,000,000\n  -h, --help       Writes this text\n\nWhat the program prints goes to standard output. Where it is not run, standard error says why: faults are told as govisd check tells them.\n\nExamples:\n  govisd run primes\n  govisd run shop --module example.com/shop --main example.com/shop/cmd\n\nExit status: 0 where the program ended, 1 where it was not run, 2 where it panicked or the command line is refused, 3 where its steps\nwere spent\n"
 }
 
 fn script_help() -> &'static str
@@ -64,6 +70,9 @@ pub fn command_help(name: &str) -> Option<&'static str>
     }
     if name == "serve" {
         return Some(serve_help());
+    }
+    if name == "run" {
+        return Some(run_help());
     }
     if name == "help" {
         return Some(program_help());
@@ -122,6 +131,9 @@ pub fn bad_count_text(option: CountOption) -> &'static str
         }
         CountOption::Connections => {
             "govisd: --connections takes a number from 0 to 18446744073709551615\ngovisd: the command line is refused\n"
+        }
+        CountOption::Steps => {
+            "govisd: --steps takes a number from 0 to 18446744073709551615\ngovisd: the command line is refused\n"
         }
     }
 }

@@ -1,14 +1,15 @@
 //! What the words of a command line ask for.
 ghost use Rattle.std.specs.Prelude.{◌≡◌, [], IfOk, codes, false, map, option_map, unwrap_or};
 ghost use Rattle.clap.specs.Walk.{first_of};
-ghost use Rattle.govisd.specs.Counts.{connections_in, in_workers, number_of, workers_in};
+ghost use Rattle.govisd.specs.Counts.{connections_in, in_workers, number_of, steps_in, workers_in};
 ghost use Rattle.clap.specs.Words.{app_of, found_of, rows_of};
 ghost use Rattle.clap.specs.declared.builder.command.Command.TheViews.{out-Command as fields_of};
-ghost use Rattle.govisd.specs.Asking.{Asks, Forms, asked_in, check_app, command_behind, explain_app, govisd_app, source_app, help_app, if_command, names_checker, names_command, order_in, said, said_daemon, said_order, script_app, script_in, serve_app, serve_in};
+ghost use Rattle.govisd.specs.Asking.{Asks, Forms, asked_in, check_app, command_behind, explain_app, govisd_app, source_app, help_app, if_command, main_app, names_checker, names_command, order_in, said, said_daemon, said_order, said_run, run_app, run_in, run_of_steps, script_app, script_in, serve_app, serve_in};
 
 use clap::error::ErrorKind;
 use clap::{Arg, ArgAction, ArgMatches, Command, Error};
 use govisd_folders::Order;
+use govisd_runs::RunOrder;
 use std::alloc::{AllocError, Global};
 use std::convert::AsStr;
 
@@ -30,6 +31,8 @@ pub enum CountOption {
     Workers,
     /// `--connections`, which takes any number below 2^64.
     Connections,
+    /// `--steps`, which takes any number below 2^64.
+    Steps,
 }
 
 /// What a command line asks for.
@@ -41,6 +44,8 @@ pub enum Request<'a> {
     Explain(Option<&'a str>),
     /// The check of a folder.
     Check(Order<'a>),
+    /// The run of a folder.
+    Run(RunOrder<'a>),
     /// A script with so many workers, 1 to 64.
     Script(usize),
     /// A daemon.
@@ -85,6 +90,26 @@ fn help_command<'a>(alloc: Global) -> Result<Command<'a>, AllocError>
 {
     let topic = Arg::new(alloc, "command");
     Command::new(alloc, "help").arg(topic)
+}
+
+// The command `run`, with a folder, the path of its module and that of a package.
+fn main_command<'a>(alloc: Global) -> Result<Command<'a>, AllocError>
+    ensures shape { IfOk result (λ c. app_of c ≡ main_app) }
+    ensures local { IfOk result (λ c. (fields_of c).has_globals ≡ false) }
+{
+    let root = Arg::new(alloc, "folder").required(true);
+    let path = Arg::new(alloc, "module").long("module");
+    let main = Arg::new(alloc, "main").long("main");
+    Command::new(alloc, "run").arg(root)?.arg(path)?.arg(main)
+}
+
+// The same with a number of steps.
+fn run_command<'a>(alloc: Global) -> Result<Command<'a>, AllocError>
+    ensures shape { IfOk result (λ c. app_of c ≡ run_app) }
+    ensures local { IfOk result (λ c. (fields_of c).has_globals ≡ false) }
+{
+    let steps = Arg::new(alloc, "steps").long("steps");
+    main_command(alloc)?.arg(steps)
 }
 
 // The command `script`, with a number of workers.
@@ -132,10 +157,12 @@ fn command<'a>(alloc: Global) -> Result<Command<'a>, AllocError>
     let help = help_command(alloc)?;
     let script = script_command(alloc)?;
     let serve = serve_command(alloc)?;
+    let run = run_command(alloc)?;
     source_commands(alloc)?
         .subcommand(help)?
         .subcommand(script)?
-        .subcommand(serve)
+        .subcommand(serve)?
+        .subcommand(run)
 }
 
 // The number that a word writes.
@@ -196,6 +223,49 @@ fn connections_told(found: &ArgMatches<'_>) -> Option<Option<u64>>
     ensures { result ≡ connections_in (first_of (codes "connections") (rows_of (found_of found.now))) }
 {
     connections_of(found.get_str("connections"))
+}
+
+// After so many steps: 1,000,000,000 where none are told, and nothing where what is told is no number.
+fn steps_of(word: Option<&str>) -> Option<u64>
+    ensures { result ≡ steps_in (option_map (λ w. w.now) word.entry) }
+{
+    match word {
+        None => Some(1_000_000_000),
+        Some(word) => number_of(word),
+    }
+}
+
+// The steps that are told behind a command.
+fn steps_told(found: &ArgMatches<'_>) -> Option<u64>
+    ensures { result ≡ steps_in (first_of (codes "steps") (rows_of (found_of found.now))) }
+{
+    steps_of(found.get_str("steps"))
+}
+
+// The run of so many steps that is asked for, by what stands behind the command.
+#[tactic(auto, using(crate::proofs::WordLemmas::value_in_rows))]
+fn run_for<'a>(found: &ArgMatches<'a>, steps: u64) -> RunOrder<'a>
+    ensures { said_run result ≡ run_of_steps steps (rows_of (found_of found.now)) }
+{
+    let folder = found.get_str("folder").unwrap_or(".");
+    let module_path = found.get_str("module");
+    let main_path = found.get_str("main");
+    RunOrder {
+        folder,
+        module_path,
+        main_path,
+        steps,
+    }
+}
+
+// The run that is asked for, by what stands behind the command.
+fn run_of<'a>(found: &ArgMatches<'a>) -> Request<'a>
+    ensures { said result ≡ run_in (rows_of (found_of found.now)) }
+{
+    match steps_told(found) {
+        Some(steps) => Request::Run(run_for(found, steps)),
+        None => Request::BadCount(CountOption::Steps),
+    }
 }
 
 // The script that is asked for, by what stands behind the command.
@@ -266,6 +336,9 @@ fn request_of<'a>(name: &str, found: &ArgMatches<'a>) -> Request<'a>
     if name == "serve" {
         return serve_of(found);
     }
+    if name == "run" {
+        return run_of(found);
+    }
     Request::Resolve
 }
 
@@ -280,7 +353,7 @@ fn is_checker(name: &str) -> bool
 fn is_command(name: &str) -> bool
     ensures { result ≡ names_command name.now }
 {
-    is_checker(name) || name == "script" || name == "serve"
+    is_checker(name) || name == "script" || name == "serve" || name == "run"
 }
 
 // A word, where it is the name of a command.

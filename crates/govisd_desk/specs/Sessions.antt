@@ -7,24 +7,29 @@ use Rattle.go_wire_core.specs.declared.request.Command.{Command}
 use Rattle.go_wire_core.specs.declared.request.Command.TheVariants.{Open, Edit, Build, List as ListOf, Doc, Complete, Define, Close}
 use Rattle.go_wire_core.specs.declared.reply.WireReply.{WireReply}
 use Rattle.go_wire_core.specs.declared.reply.WireReply.TheVariants.{Opened, Done, Built, Refused}
-use Rattle.go_hall.specs.submit_core.Published.{BeginsWith}
-use Rattle.go_hall.specs.submit_core.Trees.{tree_with}
-use Rattle.go_hall.specs.submit_core.declared.published.PublishedBatch.{PublishedBatch}
-use Rattle.go_hall.specs.snap_core.Snapshots.{SnapshotModel}
-use Rattle.go_hall.specs.Asked.{IsAnswer}
-use Rattle.go_hall.specs.Built.{IsBuilt}
-use Rattle.go_hall.specs.declared.faults.Fault.{Fault}
-use Rattle.go_hall.specs.Edits.{IsEditOf, IsEditRefusal}
-use Rattle.go_hall.specs.Queries.{IsCompleteAnswer, IsDefineAnswer, IsDocAnswer, IsListAnswer}
-use Rattle.go_hall.specs.Seat.{Seat}
+use Rattle.go_crossing_core.specs.submit_core.Published.{BeginsWith}
+use Rattle.go_crossing_core.specs.submit_core.Trees.{tree_with}
+use Rattle.go_crossing_core.specs.submit_core.declared.published.PublishedBatch.{PublishedBatch}
+use Rattle.go_crossing_core.specs.snap_core.Snapshots.{SnapshotModel}
+use Rattle.go_crossing_core.specs.hall.Asked.{IsAnswer}
+use Rattle.go_crossing_core.specs.hall.Built.{IsBuilt}
+use Rattle.go_crossing_core.specs.hall.declared.faults.Fault.{Fault}
+use Rattle.go_crossing_core.specs.hall.Edits.{IsEditOf, IsEditRefusal}
+use Rattle.go_crossing_core.specs.hall.Queries.{IsCompleteAnswer, IsDefineAnswer, IsDocAnswer, IsListAnswer}
+use Rattle.go_crossing_core.specs.hall.Refusals.{IsBuildRefusal, IsOpenRefusal}
+use Rattle.go_crossing_core.specs.hall.Seat.{Seat}
 use Rattle.govisd_desk.specs.Told.{TellsDeclaration, TellsDoc, TellsListing, TellsNames, place_of}
 
 -- ---- open
 
--- a session of the module begins, with an empty draft; or the open is refused, by O2 where the text is no path
+-- what refuses an open: O2 just where the text is no path, else what the hall refuses the module by
+abbrev pub RefusesOpen : List ℕ → Rule → Type 0
+RefusesOpen «module» rule = ((rule ≡ O2) × ¬ IsPath «module») ⊎ (IsPath «module» × IsOpenRefusal «module» rule)
+
+-- a session of the module begins, with an empty draft; or the open is refused
 abbrev pub IsOpenReply : List ℕ → WireReply → Option Seat → Type 0
 IsOpenReply «module» (Opened path) (Some seat) = IsPath «module» × (path ≡ «module») × (seat.draft ≡ tree_with «module» []) × (seat.submits ≡ 0)
-IsOpenReply «module» (Refused rule) None = IsPath «module» ⊎ (rule ≡ O2)
+IsOpenReply «module» (Refused rule) None = RefusesOpen «module» rule
 IsOpenReply «module» reply seat = ⊥
 
 -- ---- edit
@@ -44,12 +49,12 @@ pub record IsLater (old new : Seat) : Type 0 where
   pub id : new.id ≡ old.id
   pub told : new.told ≡ old.told
 
--- the draft is what the batches leave to its module, and these are the faults in it
+-- the draft is what the batches leave to its module, and these are the faults in it; or the build is refused, and the draft stays
 abbrev pub IsBuildReply : Seat → WireReply → Seat → Type 0
 IsBuildReply old (Built batch faults) new =
     IsLater old new × BeginsWith new.seen old.told × (new.submits ≡ old.submits + 1)
     × ((found : List Fault) × IsBuilt new.seen old.draft batch found × (faults.items ≡ map place_of found))
-IsBuildReply old (Refused rule) new = IsLater old new
+IsBuildReply old (Refused rule) new = IsLater old new × IsBuildRefusal old.id old.draft rule
 IsBuildReply old reply new = ⊥
 
 -- ---- queries

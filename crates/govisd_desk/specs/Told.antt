@@ -3,7 +3,6 @@ use Rattle.std.specs.Prelude.{◌≡◌, ℕ, List, map, Option, Some, None, opt
 use Rattle.std.specs.Global.{Global}
 use Rattle.std.specs.List.{AllZip}
 use Rattle.std.specs.declared.string.String.{String}
-use Rattle.go_text_core.specs.declared.rule.Rule.{Rule}
 use Rattle.go_text_core.specs.declared.rule.Rule.TheVariants.{M0, V3}
 use Rattle.go_wire_core.specs.declared.reply.FaultPlace.{FaultPlace}
 use Rattle.go_wire_core.specs.declared.reply.PackageEntry.{PackageEntry}
@@ -13,13 +12,13 @@ use Rattle.go_wire_core.specs.declared.reply.SymbolKind.TheVariants.{Const, Var,
 use Rattle.go_wire_core.specs.declared.reply.WireReply.{WireReply}
 use Rattle.go_wire_core.specs.declared.reply.WireReply.TheVariants.{Built, Listed, Described, Completed, Defined, Refused}
 use Rattle.go_graph_core.specs.Packages.{IsPackageName, trees_of}
-use Rattle.go_hall.specs.query_core.Entries.{AreDeps, AreImports, EntryOf}
+use Rattle.go_crossing_core.specs.query_core.Entries.{AreDeps, AreImports, EntryOf}
 use Rattle.go_decl_core.specs.declared.places.DeclKind.{DeclKind}
 use Rattle.go_decl_core.specs.declared.places.DeclKind.TheVariants as decl
-use Rattle.go_hall.specs.declared.faults.Fault.{Fault}
-use Rattle.go_hall.specs.query_core.declared.listing.Listing.{Listing}
-use Rattle.go_hall.specs.query_core.declared.documenting.PackageDoc.{PackageDoc}
-use Rattle.go_hall.specs.symbol_core.declared.symbols.Symbol.{Symbol as FoundSymbol}
+use Rattle.go_crossing_core.specs.hall.declared.faults.Fault.{Fault}
+use Rattle.go_crossing_core.specs.query_core.declared.listing.Listing.{Listing}
+use Rattle.go_crossing_core.specs.query_core.declared.documenting.PackageDoc.{PackageDoc}
+use Rattle.go_crossing_core.specs.symbol_core.declared.symbols.Symbol.{Symbol as FoundSymbol}
 
 -- a fault, with where it stands
 abbrev pub place_of : Fault → FaultPlace

@@ -1,12 +1,12 @@
 //! A place for one session.
-ghost use Rattle.std.specs.Prelude.{◌≡◌, ◌⊎◌, [], IfErr, IfOk, None};
+ghost use Rattle.std.specs.Prelude.{◌≡◌, [], IfErr, IfOk, None};
 ghost use Rattle.go_path_core.specs.Path.{IsPath};
-ghost use Rattle.go_hall.specs.submit_core.Trees.{tree_with};
-ghost use Rattle.govisd_desk.specs.Sessions.{GoesOn, IsOpenReply, RepliesOfNone, SeatReplies, is_close, module_of};
+ghost use Rattle.go_crossing_core.specs.submit_core.Trees.{tree_with};
+ghost use Rattle.govisd_desk.specs.Sessions.{GoesOn, IsOpenReply, RefusesOpen, RepliesOfNone, SeatReplies, is_close, module_of};
 
 use crate::asking::{build, complete, define, doc_of, edit, list};
-use go_hall::hall_core::Named;
-use go_hall::{Hall, Session};
+use go_crossing_core::hall::{Hall, Session};
+use go_crossing_core::hall_core::Named;
 use go_path_core::Module;
 use go_text_core::Rule;
 use go_wire_core::{Command, Text, WireReply};
@@ -14,6 +14,7 @@ use std::alloc::Global;
 use std::sync::Wait;
 
 // A session of the module that a text is.
+#[tactic(auto, using(crate::proofs::Opening::not_opened, crate::proofs::Opening::not_read))]
 fn opened<'a, L: Named, H: Wait>(
     rt: &H,
     alloc: Global,
@@ -21,7 +22,7 @@ fn opened<'a, L: Named, H: Wait>(
     path: &Text,
 ) -> Result<Session<'a, L>, Rule>
     ensures ok { IfOk result (λ s. IsPath path.now × (s.draft ≡ tree_with path.now []) × (s.submits ≡ 0)) }
-    ensures err { IfErr result (λ rule. IsPath path.now ⊎ (rule ≡ Rule.O2)) }
+    ensures err { IfErr result (λ rule. RefusesOpen path.now rule) }
 {
     let own = Module::read(alloc, path.as_str())?;
     let session = hall.open(rt, own)?;

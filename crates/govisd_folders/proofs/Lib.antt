@@ -1,4 +1,4 @@
-mod CheckingLemmas
+mod FindingLemmas
 mod FileNames
 mod FolderLemmas
 mod PuttingLemmas

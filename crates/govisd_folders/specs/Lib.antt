@@ -1,5 +1,9 @@
 pub mod Checks
+pub mod Finds
 pub mod Notes
 pub mod Puts
 pub mod Reads
 pub mod Telling
+pub mod emit_core
+pub mod part_core
+pub mod snap_core

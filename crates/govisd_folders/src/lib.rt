@@ -3,6 +3,7 @@
 #![tactic(auto)]
 
 mod checking;
+mod finding;
 mod notes;
 mod progress;
 mod putting;
@@ -10,3 +11,13 @@ mod reading;
 mod telling;
 
 pub use checking::{CheckAnswer, Order, check_folder};
+pub use finding::{FoundPackages, ReadFolder, read_folder};
+pub use notes::{name_or_quotes, note, note_rule, push};
+pub use progress::Progress;
+pub use putting::path_of;
+pub use telling::told;
+
+/// What the crates above name of `go_snap_core`.
+pub mod snap_core {
+    pub use go_snap_core::{PlacedFault, Snapshot, compile, faults_lie_in_files};
+}

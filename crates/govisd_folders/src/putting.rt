@@ -27,8 +27,12 @@ fn named_files(
     files.into_iter().collect(alloc)
 }
 
-// The path that a text writes, if it writes one.
-fn path_of(alloc: Global, text: &str) -> Result<Option<ImportPath>, AllocError>
+/// The path that a text writes, if it writes one.
+///
+/// # Errors
+///
+/// `AllocError` for want of memory.
+pub fn path_of(alloc: Global, text: &str) -> Result<Option<ImportPath>, AllocError>
     ensures { IfOk result (λ path. IsPathOf text.now path) }
 {
     match ImportPath::read(alloc, text) {

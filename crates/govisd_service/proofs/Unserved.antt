@@ -1,5 +1,5 @@
 -- Nothing of a script was served.
-use Rattle.std.specs.Prelude.{◌≡◌, ℕ, List, [], ◌++◌, Option, Some, None, IfSome, true}
+use Rattle.std.specs.Prelude.{ℕ, List, [], Option, Some, None, IfSome, true}
 use Rattle.std.proofs.Common.{refl, arith}
 use Rattle.std.proofs.KnownBytes.{Appends-nil}
 use Rattle.go_wire_core.specs.declared.serving.ServeEnd.TheVariants.{Memory}

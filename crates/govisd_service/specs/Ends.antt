@@ -1,5 +1,5 @@
 -- How scripts and connections end.
-use Rattle.std.specs.Prelude.{ℕ, List, Option, None, Bool, true, false, codes}
+use Rattle.std.specs.Prelude.{ℕ, List, Option, None, true, false, codes}
 use Rattle.go_wire_core.specs.Ends.{IsEnd}
 use Rattle.go_wire_core.specs.declared.serving.ServeEnd.{ServeEnd}
 use Rattle.govisd_desk.specs.hall.Seat.{Seat}

@@ -1,6 +1,6 @@
 -- What is known of a package between the steps of its check.
 use Rattle.std.specs.Prelude.{◌≡◌, List, map}
-use Rattle.go_known_core.specs.table_core.Entries.{Entry}
+use Rattle.go_ready_core.specs.table_core.Entries.{Entry}
 use Rattle.go_ready_core.specs.declared.ready.Ready.{Ready}
 use Rattle.go_ready_core.specs.Inlines.{AreFunctionsIn, initial_in}
 use Rattle.go_ready_core.specs.Packages.{PackageIn, scene_in}

@@ -4,7 +4,7 @@ use Rattle.std.specs.List.{HoldsAt}
 use Rattle.go_tree_nodes.specs.Rules.{Wf_file}
 use Rattle.go_tree_core.specs.Occurrences.{CoversAt, Follow, file_occs}
 use Rattle.go_expr_core.specs.Laws.{occurrence_place, use_place}
-use Rattle.go_snap_core.specs.Snapshots.{FoundFile}
+use Rattle.go_complete_core.specs.snap_core.Snapshots.{FoundFile}
 
 -- the file is of the grammar, its occurrences follow one another, and what its part has stands where they stand
 pub record HasSpots (f : FoundFile) : Type 0 where

@@ -10,9 +10,9 @@ use Rattle.go_block_core.specs.graph_core.Workspaces.{PackageModel}
 use Rattle.go_block_core.specs.Exports.{ExportsModel}
 use Rattle.go_near_core.specs.table_core.Entries.{Entry}
 use Rattle.go_near_core.specs.face_core.Packages.{PackageFacesModel}
-use Rattle.go_part_core.specs.summary_core.Summaries.{SummaryModel}
-use Rattle.go_part_core.specs.summary_core.Views.{exports_told, faces_told, types_told}
-use Rattle.go_part_core.specs.Parts.{IsPart, PartModel}
+use Rattle.go_near_core.specs.summary_core.Summaries.{SummaryModel}
+use Rattle.go_near_core.specs.summary_core.Views.{exports_told, faces_told, types_told}
+use Rattle.go_near_core.specs.part_core.Parts.{IsPart, PartModel}
 use Rattle.go_whole_core.specs.Inputs.{IsInputOf, Tells}
 
 -- the part of the package of a number is made from its input, by the parts that are there

@@ -5,8 +5,8 @@ use Rattle.go_graph_core.specs.Sources.{SourceModel}
 use Rattle.go_graph_core.specs.Workspaces.{PackageModel}
 use Rattle.go_block_core.specs.Holding.{package_block}
 use Rattle.go_symbol_core.specs.Symbols.{AreSymbols, symbol_shown}
-use Rattle.go_snap_core.specs.part_core.Inputs.{InputModel}
-use Rattle.go_snap_core.specs.part_core.Parts.{ContentOf}
+use Rattle.go_complete_core.specs.part_core.Inputs.{InputModel}
+use Rattle.go_complete_core.specs.part_core.Parts.{ContentOf}
 use Rattle.go_query_core.proofs.Documented.{names_are}
 use Rattle.go_query_core.proofs.documenting.own_doc.Goals as goal
 

@@ -1,0 +1,3 @@
+-- What the crates above name of go_query_core.
+pub use Rattle.go_hall.specs.query_core.Entries as Entries
+pub use Rattle.go_hall.specs.query_core.declared as declared

@@ -1,0 +1,19 @@
+-- What the crates above name of go_whole_core.
+pub use Rattle.go_meaning_core.specs.whole_core.Beside as Beside
+pub use Rattle.go_meaning_core.specs.whole_core.Checks as Checks
+pub use Rattle.go_meaning_core.specs.whole_core.Entries as Entries
+pub use Rattle.go_meaning_core.specs.whole_core.Inputs as Inputs
+pub use Rattle.go_meaning_core.specs.whole_core.Known as Known
+pub use Rattle.go_meaning_core.specs.whole_core.Laws as Laws
+pub use Rattle.go_meaning_core.specs.whole_core.Lists as Lists
+pub use Rattle.go_meaning_core.specs.whole_core.LocalLaws as LocalLaws
+pub use Rattle.go_meaning_core.specs.whole_core.Making as Making
+pub use Rattle.go_meaning_core.specs.whole_core.OneWhole as OneWhole
+pub use Rattle.go_meaning_core.specs.whole_core.Order as Order
+pub use Rattle.go_meaning_core.specs.whole_core.Parts as Parts
+pub use Rattle.go_meaning_core.specs.whole_core.PartsWhole as PartsWhole
+pub use Rattle.go_meaning_core.specs.whole_core.Theirs as Theirs
+pub use Rattle.go_meaning_core.specs.whole_core.Told as Told
+pub use Rattle.go_meaning_core.specs.whole_core.Values as Values
+pub use Rattle.go_meaning_core.specs.whole_core.Whole as Whole
+pub use Rattle.go_meaning_core.specs.whole_core.mirrors as mirrors

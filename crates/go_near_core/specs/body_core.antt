@@ -1,0 +1,3 @@
+-- What the crates above name of go_body_core.
+pub use Rattle.go_part_core.specs.body_core.Notes as Notes
+pub use Rattle.go_part_core.specs.body_core.Rules as Rules

@@ -1,0 +1,2 @@
+-- What the crates above name of go_known_core.
+pub use Rattle.go_known_core.proofs.Alike as Alike

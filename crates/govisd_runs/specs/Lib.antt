@@ -1,0 +1,4 @@
+pub mod Answers
+pub mod Choices
+pub mod Outcomes
+pub mod Runs

@@ -1,0 +1,89 @@
+//! What is answered of a run.
+ghost use Rattle.std.specs.Prelude.{◌≡◌, ◌++◌, IfOk, string_bytes};
+ghost use Rattle.govisd_folders.specs.Finds.{refused_line};
+ghost use Rattle.govisd_folders.specs.Notes.{refusal_line};
+ghost use Rattle.govisd_runs.specs.Outcomes.{HasRun, NothingRan, TellsRun};
+
+use go_launch_core::Run;
+use go_text_core::Rule;
+use govisd_folders::{CheckAnswer, name_or_quotes, note, note_rule};
+use std::alloc::{AllocError, Global};
+
+/// Nothing ran, for what is said.
+pub(crate) fn nothing_ran(alloc: Global, said: String) -> CheckAnswer
+    ensures { NothingRan (string_bytes said) result }
+{
+    CheckAnswer {
+        status: 1,
+        text: String::new(alloc),
+        said,
+    }
+}
+
+/// Nothing ran, since what has a name breaks a rule. That stands behind what is said already.
+///
+/// # Errors
+///
+/// `AllocError` for want of memory.
+pub(crate) fn refuse(
+    alloc: Global,
+    before: &str,
+    name: &str,
+    rule: Rule,
+) -> Result<CheckAnswer, AllocError>
+    ensures { IfOk result (NothingRan (before.now ++ refusal_line name.now rule)) }
+{
+    let mut said = String::from_str(alloc, before)?;
+    note_rule(&mut said, name, rule)?;
+    Ok(nothing_ran(alloc, said))
+}
+
+/// Nothing ran, for a reason of what has a name. That stands behind what is said already.
+///
+/// # Errors
+///
+/// `AllocError` for want of memory.
+pub(crate) fn refuse_for(
+    alloc: Global,
+    before: &str,
+    name: &str,
+    why: &str,
+) -> Result<CheckAnswer, AllocError>
+    ensures { IfOk result (NothingRan (before.now ++ refused_line name.now why.now)) }
+{
+    let mut said = String::from_str(alloc, before)?;
+    note(&mut said, name_or_quotes(name), why)?;
+    Ok(nothing_ran(alloc, said))
+}
+
+// A program ran and printed this, and this is said of how it was left.
+fn has_run(alloc: Global, status: u8, output: String, said: &str) -> Result<CheckAnswer, AllocError>
+    ensures { IfOk result (HasRun status (string_bytes output) said.now) }
+{
+    let said = String::from_str(alloc, said)?;
+    Ok(CheckAnswer {
+        status,
+        text: output,
+        said,
+    })
+}
+
+/// What a run came to, with what it printed.
+///
+/// # Errors
+///
+/// `AllocError` for want of memory.
+pub(crate) fn answer_of(alloc: Global, run: Run) -> Result<CheckAnswer, AllocError>
+    ensures { IfOk result (TellsRun run) }
+{
+    match run {
+        Run::Ended(output) => has_run(alloc, 0, output, ""),
+        Run::Panicked(output) => has_run(alloc, 2, output, "govisd: panic\n"),
+        Run::Spent(output) => has_run(
+            alloc,
+            3,
+            output,
+            "govisd: the steps are done, and the program goes on\n",
+        ),
+    }
+}

@@ -1,0 +1,10 @@
+//! The run of a folder's program: its files are read, its packages are compiled, and where nothing is amiss its main package runs.
+#![tactic(auto)]
+
+mod answers;
+mod blame;
+mod choosing;
+mod packages;
+mod running;
+
+pub use running::{RunOrder, run_folder};

@@ -1,0 +1,157 @@
+//! From a folder to what its program comes to.
+ghost use Rattle.std.specs.Prelude.{◌≡◌, ◌++◌, IfOk, option_map, string_bytes};
+ghost use Rattle.govisd_folders.specs.snap_core.Snapshots.{IsSnapshot};
+ghost use Rattle.govisd_folders.specs.Finds.{read_shown};
+ghost use Rattle.govisd_runs.specs.Answers.{AnswersSnapshot, IsAnswerOfRun, IsRunOn, TellsFaults, WorkspaceIsRun, is_clean};
+
+use crate::answers::nothing_ran;
+use crate::packages::run_main;
+use go_graph_core::Workspace;
+use govisd_folders::snap_core::{PlacedFault, Snapshot, compile, faults_lie_in_files};
+use govisd_folders::{CheckAnswer, Progress, ReadFolder, push, read_folder, told};
+use std::alloc::{AllocError, Global};
+
+/// What is to be run.
+#[derive(Clone, Copy)]
+pub struct RunOrder<'a> {
+    /// The folder.
+    pub folder: &'a str,
+    /// The path of its module; if none is given, the name of the folder, which is the last component of its path from the root, without links.
+    pub module_path: Option<&'a str>,
+    /// The path of the package that is run; if none is given, the one package of the folder that is called `main`.
+    pub main_path: Option<&'a str>,
+    /// How many steps are done at most, one for each instruction.
+    pub steps: u64,
+}
+
+// Whether there is no fault, and nothing was left out.
+fn is_clean(faults: &[PlacedFault], notes: &str) -> bool
+    ensures { result ≡ is_clean faults.now notes.now }
+{
+    if !faults.is_empty() {
+        return false;
+    }
+    if !notes.is_empty() {
+        return false;
+    }
+    true
+}
+
+// Nothing ran, since there are faults, or something was left out.
+fn tell_faults(
+    alloc: Global,
+    module_path: &str,
+    snapshot: &Snapshot,
+    notes: &str,
+    passed: &str,
+) -> Result<CheckAnswer, AllocError>
+    requires { IsSnapshot snapshot.now.sources snapshot.now.parts snapshot.now.faults }
+    ensures { IfOk result (TellsFaults module_path.now snapshot.now.sources snapshot.now.faults notes.now passed.now) }
+{
+    faults_lie_in_files();
+    let text = told(
+        alloc,
+        false,
+        module_path,
+        snapshot.sources(),
+        snapshot.faults(),
+    )?;
+    let mut said = String::from_str(alloc, notes)?;
+    push(&mut said, passed)?;
+    push(&mut said, text.as_str())?;
+    Ok(nothing_ran(alloc, said))
+}
+
+// Runs the program of a snapshot, unless something is amiss.
+fn run_snapshot(
+    alloc: Global,
+    order: &RunOrder<'_>,
+    module_path: &str,
+    snapshot: &Snapshot,
+    notes: &str,
+    passed: &str,
+) -> Result<CheckAnswer, AllocError>
+    requires { IsSnapshot snapshot.now.sources snapshot.now.parts snapshot.now.faults }
+    ensures { IfOk result (AnswersSnapshot (is_clean snapshot.now.faults notes.now) order.now.folder.now (option_map (λ m. m.now) order.now.main_path) order.now.steps module_path.now snapshot.now.sources snapshot.now.parts snapshot.now.faults notes.now passed.now) }
+{
+    let clean = is_clean(snapshot.faults(), notes);
+    if clean {
+        let objects = snapshot.objects(alloc)?;
+        return run_main(
+            alloc,
+            snapshot.sources(),
+            &objects,
+            passed,
+            order.folder,
+            order.main_path,
+            order.steps,
+        );
+    }
+    tell_faults(alloc, module_path, snapshot, notes, passed)
+}
+
+// Runs the program of a workspace, unless something is amiss.
+fn run_workspace(
+    alloc: Global,
+    order: &RunOrder<'_>,
+    module_path: &str,
+    workspace: &Workspace,
+    notes: &str,
+    passed: &str,
+) -> Result<CheckAnswer, AllocError>
+    ensures { IfOk result (WorkspaceIsRun order.now.folder.now (option_map (λ m. m.now) order.now.main_path) order.now.steps module_path.now workspace.now notes.now passed.now) }
+{
+    let snapshot = compile(alloc, workspace)?;
+    run_snapshot(alloc, order, module_path, &snapshot, notes, passed)
+}
+
+// The answer on what came of the reading of a folder.
+fn answer_on(
+    alloc: Global,
+    order: &RunOrder<'_>,
+    read: ReadFolder,
+) -> Result<CheckAnswer, AllocError>
+    ensures { IfOk result (IsRunOn order.now.folder.now (option_map (λ m. m.now) order.now.main_path) order.now.steps (read_shown read)) }
+{
+    match read {
+        ReadFolder::Refused(said) => Ok(nothing_ran(alloc, said)),
+        ReadFolder::Found(found) => run_workspace(
+            alloc,
+            order,
+            found.module_path.as_str(),
+            &found.workspace,
+            found.notes.as_str(),
+            found.passed.as_str(),
+        ),
+    }
+}
+
+// Reads a folder, and runs its program.
+fn run_read(
+    rt: &HostRuntime,
+    order: &RunOrder<'_>,
+    progress: &mut Progress<'_>,
+) -> Result<CheckAnswer, AllocError>
+    ensures { IfOk result (IsAnswerOfRun order.now.folder.now (option_map (λ m. m.now) order.now.module_path) (option_map (λ m. m.now) order.now.main_path) order.now.steps) }
+{
+    let read = read_folder(rt, order.folder, order.module_path, progress)?;
+    answer_on(rt.alloc(), order, read)
+}
+
+/// Runs the program of a folder: its Go packages are read and compiled as [`check_folder`](govisd_folders::check_folder) does it, and where there is no
+/// fault and nothing was left out, the package that is to be run runs from the code of all, in at most so many steps. Nothing is written into the
+/// folder. The answer has what the program printed, and as its status 0 where it ended, 2 where it panicked, and 3 where all steps are done and it goes
+/// on. Where nothing ran the status is 1, and it is said why: the faults; that no package, or that several, are called `main`; that the package has no
+/// function `main`; or the place of the first function of which no code is made and that the program may reach.
+///
+/// # Errors
+///
+/// `AllocError` for want of memory.
+pub fn run_folder(rt: &HostRuntime, order: &RunOrder<'_>) -> Result<CheckAnswer, AllocError>
+    ensures { IfOk result (IsAnswerOfRun order.now.folder.now (option_map (λ m. m.now) order.now.module_path) (option_map (λ m. m.now) order.now.main_path) order.now.steps) }
+{
+    let mut progress = Progress::begin(rt);
+    let answer = run_read(rt, order, &mut progress);
+    progress.end();
+    answer
+}
