@@ -29,7 +29,7 @@ type prober struct {
 type probed struct {
 	object types.Object
 	code   string // of an error that says that it may not stand there
-	errors int    // all that there are, but for what is not used
+	errors int    // all in what was checked, but for what is not used
 	panics bool   // go/types panics, as that of Go 1.19 does on some packages with errors
 }
 

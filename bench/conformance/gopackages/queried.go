@@ -3,6 +3,7 @@ package main
 import (
 	"bufio"
 	"encoding/json"
+	"fmt"
 	"go/ast"
 	"go/token"
 	"go/types"
@@ -308,6 +309,9 @@ func (q *questioner) extentOf(told *toldUse, one *usage) extent {
 // probe puts a name in a place, and holds what go/types says against its scopes.
 func (q *questioner) probe(told *toldUse, one *usage, name string, object types.Object, rule string) {
 	found := q.put(one, name, q.extentOf(told, one))
+	if !q.file.Accepted {
+		found.errors++ // of the package, or of one that it imports
+	}
 	isSame := found.object == nil || object != nil && q.j.decl(found.object) == q.j.decl(object)
 	what := ""
 	if found.panics {
@@ -318,10 +322,19 @@ func (q *questioner) probe(told *toldUse, one *usage, name string, object types.
 		what = found.whatRefused(rule, one.role)
 	}
 	if what == "" {
-		q.odd(told, one, name, "by the scopes: "+rule, "by go/types: "+found.code)
+		q.odd(told, one, name, "by the scopes: "+rule, "by go/types: "+q.said(found))
 	} else {
 		q.file.Counts["put in place: "+what]++
 	}
+}
+
+// said tells what go/types says of a name that was put in a place.
+func (q *questioner) said(found probed) string {
+	decl := "no declaration"
+	if found.object != nil {
+		decl = q.j.decl(found.object)
+	}
+	return fmt.Sprintf("%s %s, %d errors", decl, found.code, found.errors)
 }
 
 // whatTaken says what go/types does with a name that may stand in a place, or nothing where it says something else.
