@@ -45,6 +45,10 @@ def run_by_go(go, folder, seconds):
     return ran.returncode, ran.stderr
 
 
+# In `println(x/y, f())` the specification leaves open whether the division or the call is first: Go calls, and what `f` prints comes before the panic.
+OPEN = "panicked before calls that Go makes first"
+
+
 def verdict(own, other):
     """What of two runs of a program agrees: its end, or None where they differ."""
     (status, output, _), (end, wanted) = own, other
@@ -52,6 +56,8 @@ def verdict(own, other):
         return "steps done" if end in (ENDED, PANICKED, "late") and wanted.startswith(output) else None
     if status in (ENDED, PANICKED) and (status, output) == (end, wanted):
         return {ENDED: "ended", PANICKED: "panicked"}[status]
+    if status == end == PANICKED and wanted.startswith(output):
+        return OPEN
     return None
 
 

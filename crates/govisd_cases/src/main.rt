@@ -2,12 +2,18 @@
 //!
 //! `govisd_cases KIND FILE.. [-- KIND FILE..]..` reads of each file a text, a table of cases or the archive of a workspace, and writes the answers of
 //! the kind before it in lines. The kinds for texts and tables are at the head of data/cases.txt, and those for snapshots of workspaces in
-//! `govisd_snapshot`. The status is 2 where there is no kind, and 1 where a file cannot be read.
+//! `govisd_snapshot`. Of the kind `script` a file has the lines of sessions, which are served as `govisd script` does, and `broken` serves it where reading or
+//! writing fails. The status is 2 where there is no kind, and 1 where a file cannot be read.
 #![tactic(auto)]
+
+mod script;
 
 use govisd_show::Lines;
 use std::alloc::{AllocError, Global};
 use std::process::ExitCode;
+use std::sync::Wait;
+use std::thread::Threads;
+use std::time::Clock;
 use std::{env, fs, io};
 
 /// What is answered to a file of these bytes. The last bytes are those of the file before it of the same kind, and none before the first.
@@ -41,8 +47,9 @@ fn show(rt: &HostRuntime, kind: &str, file: &str, last: &[u8]) -> io::Result<Vec
 
 /// Takes a word: `--` ends a kind and its files, a word without a kind before it is the kind, and each behind it a file. Gives the number of the word
 /// that is the kind then, and 0 for none.
-fn show_word(
+fn show_word<T: Threads + Wait + Clock + Sync>(
     rt: &HostRuntime,
+    threads: &T,
     words: &[String],
     kind: usize,
     number: usize,
@@ -61,8 +68,11 @@ fn show_word(
     if kind == 0 {
         return Ok(number);
     }
-    let bytes = show(rt, name.as_str(), word.as_str(), last.as_slice())?;
-    *last = bytes;
+    match name.as_str() {
+        "script" => script::show_script(rt, threads, word.as_str())?,
+        "broken" => script::show_faults(rt, threads, word.as_str())?,
+        name => *last = show(rt, name, word.as_str(), last.as_slice())?,
+    }
     Ok(kind)
 }
 
@@ -71,7 +81,7 @@ fn main(rt: HostRuntime) -> io::Result<ExitCode> {
     let mut last = Vec::new(rt.alloc());
     let mut kind = 0usize;
     for number in 1..words.len() {
-        kind = show_word(&rt, words.as_slice(), kind, number, &mut last)?;
+        kind = show_word(&rt, &rt, words.as_slice(), kind, number, &mut last)?;
     }
     Ok(ExitCode::from(if kind == 0 { 2 } else { 0 }))
 }
