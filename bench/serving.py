@@ -524,15 +524,20 @@ def fill_workspace(daemon, modules, packages):
     return peers, time.time() - began
 
 
+def write_folders(folder, modules, packages):
+    """The packages of the workspace, each in a folder of its own."""
+    for module in range(modules):
+        for place in range(packages):
+            own = os.path.join(folder, f"m{module}", f"p{place}")
+            os.makedirs(own)
+            with open(os.path.join(own, "p.go"), "w", encoding="utf-8") as file:
+                file.write(package_of_workspace(f"ex.com/m{module}", place))
+
+
 def seconds_of_check(program, modules, packages):
     """The seconds of `govisd check` on the same packages in folders."""
     with tempfile.TemporaryDirectory() as folder:
-        for m in range(modules):
-            for p in range(packages):
-                own = os.path.join(folder, f"m{m}", f"p{p}")
-                os.makedirs(own)
-                with open(os.path.join(own, "p.go"), "w", encoding="utf-8") as file:
-                    file.write(package_of_workspace(f"ex.com/m{m}", p))
+        write_folders(folder, modules, packages)
         began = time.time()
         ended = subprocess.run([program, "check", folder, "--module", "ex.com"], capture_output=True, text=True, check=False)
         if ended.returncode:

@@ -39,7 +39,7 @@ class Sources:
             if text is not None:
                 name = re.escape(parts[count])
                 way = re.search(rf"(?m)^pub use Rattle\.(\w+)\.(\S+) as {name}$|^pub use Rattle\.(\w+)\.((?:\S+\.)?{name})$", text)
-                if not way or depth > 12:
+                if not way or depth > 40:
                     return None
                 return self.module(way[1] or way[3], (way[2] or way[4]).split(".") + parts[count + 1 :], depth + 1)
         return None

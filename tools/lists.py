@@ -13,15 +13,13 @@ import re
 import sys
 from collections import Counter, defaultdict
 
-# Small crates at the bottom: whoever names one lists it.
-SMALL = set("go_text_core go_token_core go_scan_core go_tree_nodes go_path_core go_term_core go_universe_core".split())
 # Crates that list all that they name: their lists are short enough, and programs are listed by none.
 WHOLE = set(
     """go_text_core go_token_core go_scan_core go_universe_core go_tree_nodes go_tree_copies go_tree_core go_parse_types go_parse_exprs
     go_parse_stmts go_parse_core go_path_core go_cycle_core go_decl_core
     govisd govisd_show govisd_probe govisd_cases""".split()
 )
-# Crates that take all but small crates through one or two others, also where they do not name these: what stands above would else have several ways to
+# Crates that take all that lies below through one or two others, also where they do not name these: what stands above would else have several ways to
 # most crates. They stand in the order of crates.txt, which is that of what they take.
 SERIAL = {
     "go_ready_core": ["go_known_core"],
@@ -39,14 +37,19 @@ SERIAL = {
     "go_hall_core": ["go_board_core"],
     "go_spelling_core": ["go_snap_core"],
     "go_place_core": ["go_spelling_core"],
+    "go_hint_core": ["go_place_core"],
     "go_complete_core": ["go_place_core"],
-    "go_query_core": ["go_complete_core"],
-    "go_hall": ["go_hall_core", "go_query_core"],
+    "go_query_core": ["go_hint_core", "go_complete_core"],
+    "go_type_doc_core": ["go_query_core"],
+    "go_hall": ["go_hall_core", "go_type_doc_core"],
     "go_crossing_core": ["go_hall"],
     "govisd_desk": ["go_crossing_core"],
     "govisd_service": ["govisd_desk"],
     "govisd_folders": ["go_snap_core"],
 }
+# Crates with types that reach themselves: a crate that handles such types lists where they are declared, also where it names them through another, since the
+# toolchain finds what such a type means only there ("no module that this path begins with is at hand for the term").
+BESIDE = {"go_tree_nodes", "go_term_core"}
 # Modules that are named as a word of the library, which a reader would take them for: what they are passed on as.
 PASSED_AS = {"All": "AllPackages"}
 PASSED = re.compile(r"(?m)\n?/// What the crates above name of `\w+`\.\npub mod \w+ \{\n.*?\n\}\n", re.S)
@@ -80,6 +83,9 @@ class Repository:
         self.there = defaultdict(Counter)
         for crate in self.lists:
             self.read(crate)
+        # what is listed beside the way by which it is named
+        self.beside = {it: {d for d in listed if d in BESIDE and self.there[it, d]} for it, listed in self.lists.items()}
+        self.lists = {it: [d for d in listed if d not in self.beside[it]] for it, listed in self.lists.items()}
 
     def read(self, crate):
         """Reads the files of a crate, without what it passes on."""
@@ -183,8 +189,8 @@ class Names:
 
 
 # How many paths of crates.txt there may be in all: more than there are, so that a new crate does not move what others list. rattle-kit-13b reads a crate's
-# sources anew for each path, twice a gate: half a million paths cost it some 23 minutes, of which those on the longest chain of crates count whole.
-BUDGET = 700_000
+# sources anew for each path, twice a gate: 480,000 paths cost it some 20 minutes, of which those on the longest chain of crates count whole.
+BUDGET = 350_000
 
 
 def budgeted(repository, names, named):
@@ -205,7 +211,7 @@ def budgeted(repository, names, named):
 
     for k, through in SERIAL.items():
         below = set().union(*[reached(it) for it in through])
-        edges[k] = {*through} | {d for d in edges[k] if d in SMALL or d not in below or is_made(k, d) or ways(d) < 1000}
+        edges[k] = {*through} | {d for d in edges[k] if d not in below or is_made(k, d) or ways(d) < 1000}
     height = {}
 
     def high(k):
@@ -217,7 +223,7 @@ def budgeted(repository, names, named):
     def weight(a, b):
         return len(names.logic[a].get(b, ())) + len(names.code[a].get(b, ()))
 
-    fixed = {(a, b) for a in edges for b in edges[a] if b in SMALL or a in WHOLE or not weight(a, b) or is_made(a, b)}
+    fixed = {(a, b) for a in edges for b in edges[a] if a in WHOLE or not weight(a, b) or is_made(a, b)}
     while True:
         paths, reach, ups = {}, {}, {k: 1 for k in order}
         for k in order:
@@ -371,7 +377,7 @@ class Writer:
             name = (head.split() or [""])[0]
             if name in self.repository.lists:
                 of_kit = [it for it in self.repository.lists[name] if it not in self.repository.lists]
-                line = " ".join([f"{head}:", *sorted(self.ways.lists[name], key=order.index), *of_kit])
+                line = " ".join([f"{head}:", *sorted({*self.ways.lists[name], *self.repository.beside[name]}, key=order.index), *of_kit])
             lines.append(line)
         with open(f"{self.repository.root}/crates.txt", "w", encoding="utf-8") as file:
             file.write("\n".join(lines))

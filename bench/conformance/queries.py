@@ -1,6 +1,6 @@
 #!/usr/bin/env python3
-"""Compares what `govisd script` answers to `complete`, `define` and `list` with Go's own tools: with go/types, as `gopackages query` tells it, and with
-`go list`. README.md beside this file says what is compared, and which forms differ on purpose."""
+"""Compares what `govisd script` answers to `complete`, `define`, `doc` with a type and `list` with Go's own tools: with go/types, as `gopackages query` and
+`gopackages document` tell it, and with `go list`. README.md beside this file says what is compared, and which forms differ on purpose."""
 import argparse
 import collections
 import glob
@@ -11,6 +11,7 @@ import subprocess
 import sys
 
 import listing
+import member_files
 from generate import Wild
 
 FILES = 300  # generated files of one package each
@@ -18,7 +19,6 @@ IN_MODULE = 100  # of these in each module
 IN_RUN = 25  # workspaces in one run of the program: it takes at most 32 modules
 OUTSIDE = 8  # outside functions of workspaces names are put in the place of so many times fewer identifiers: the whole package is checked for each
 MOST_SHOWN = 20
-NOT_SERVED = {"err": "V3"}
 
 
 def write(file, text):
@@ -120,6 +120,15 @@ def in_bytes(names):
     return sorted(names, key=str.encode)
 
 
+def form_of_members(told, names):
+    """The form in which names of members may differ, by faults of the types of a package, or nothing."""
+    if names.issubset(told["repeated"]):
+        return "members that are declared twice (B5)"
+    if told["cyclic"]:
+        return "in a package in which a type reaches itself (Y1)"
+    return ""
+
+
 class Question:
     """An identifier that is used, with what go/types says of it."""
 
@@ -129,35 +138,33 @@ class Question:
         self.of_types = use["context"] in ("value", "key")
 
     def completed(self, reply):
-        if self.of_types:
-            self.completed_by_types(reply)
-            return
         wanted = in_bytes(self.use["names"])
         given = reply.get("ok", {}).get("names")
+        kind = self.kind()
         if given == wanted:
-            self.tally.add(f"complete, {self.use['context']}: the same names")
-            self.tally.add(f"complete, {self.use['context']}: names in all", len(wanted))
-            return
-        if given is not None:
-            reply = {"only govisd": in_bytes(set(given) - set(wanted)), "only Go": in_bytes(set(wanted) - set(given))}
-        self.tally.differ(f"complete, {self.use['context']}", f"{self.where} {reply}")
-
-    def completed_by_types(self, reply):
-        """Behind values and for keys names are compared where they are answered and were put in place, in packages that go/types accepts."""
-        kind = "behind a value" if self.use["context"] == "value" else "for a key"
-        given = reply.get("ok", {}).get("names")
-        if reply.get("err") == NOT_SERVED["err"]:
-            self.tally.add(f"complete, {kind}: not served (V3)")
-        elif given is None:
-            self.tally.differ(f"complete, {kind}", f"{self.where} {reply}")
-        elif not self.told["accepted"] or not self.use["probed"]:
-            self.tally.add(f"complete, {kind}: answered, and not compared")
-        elif given == in_bytes(self.use["names"]):
             self.tally.add(f"complete, {kind}: the same names")
-        elif not given:
-            self.tally.add(f"complete, {kind}: none, behind what govisd alone refuses")
+            self.tally.add(f"complete, {kind}: names in all", len(wanted))
+        elif given is not None and self.form(given, wanted):
+            self.tally.add(f"complete, {kind}: {self.form(given, wanted)}")
         else:
-            self.tally.differ(f"complete, {kind}", f"{self.where} {given} {self.use['names']}")
+            if given is not None:
+                reply = {"only govisd": in_bytes(set(given) - set(wanted)), "only Go": in_bytes(set(wanted) - set(given))}
+            self.tally.differ(f"complete, {kind}", f"{self.where} {reply}")
+
+    def kind(self):
+        return {"value": "behind a value", "key": "for a key"}.get(self.use["context"], self.use["context"])
+
+    def form(self, given, wanted):
+        """The form in which names behind a value or for a key may differ, or nothing."""
+        if not self.of_types:
+            return ""
+        if self.use["late"]:
+            return "behind a type for which go/types of Go 1.19 has no fields"
+        if not self.use["typed"] and not self.told["accepted"]:
+            return "of what has no type for go/types, in a package that it refuses"
+        if self.use["apart"] and not self.told["accepted"]:
+            return "of a name that is not exported, a method expression or a member that is declared twice"
+        return form_of_members(self.told, set(given) ^ set(wanted))
 
     def defined(self, reply):
         rule, decl = reply.get("err"), reply.get("ok", {}).get("decl")
@@ -194,28 +201,82 @@ def ask_file(script, session, tally, told):
         tally.differ("go/types is not what its scopes are", f"{told['archive']} {odd}")
 
 
-def told_by(given, files, *options):
-    """What go/types says of archives, file by file."""
-    lines = said_by([given.peer, "query", *options, *files]).splitlines()
+class TypeQuestion:
+    """A name, asked for the members of the type that it names, with what go/types has behind a variable of it."""
+
+    def __init__(self, tally, told):
+        self.tally, self.told = tally, told
+        self.kind = "own" if told["from"] == told["package"] else "of another package"
+        self.where = f"{told['archive']} {told['package']}.{told['name']} from {told['from']}"
+
+    def documented(self, reply):
+        told, rule = self.told, reply.get("err", "")
+        given = reply.get("ok", {}).get("symbols")
+        if rule == told["rule"] and (rule or given == told["members"]):
+            self.tally.add(f"doc, a type, {self.kind}: " + (f"refused by {rule}" if rule else "the same members"))
+            self.tally.add(f"doc, a type, {self.kind}: members in all", len(given or ()))
+            self.tally.add(f"doc, a type, {self.kind}: comments in all", sum(it["doc"] != "" for it in given or ()))
+        elif told["late"]:
+            self.tally.add(f"doc, a type, {self.kind}: a type for which go/types of Go 1.19 has no fields")
+        elif given is not None and not rule and self.form(given):
+            self.tally.add(f"doc, a type, {self.kind}: {self.form(given)}")
+        else:
+            self.tally.differ(f"doc, a type, {self.kind}", f"{self.where} {self.told_apart(reply)}")
+
+    def form(self, given):
+        members, repeated = self.told["members"], set(self.told["repeated"])
+        differing = [it for it in given if it not in members] + [it for it in members if it not in given]
+        return form_of_members(self.told, {it["name"] for it in differing if repeated.isdisjoint(it["path"])})
+
+    def told_apart(self, reply):
+        if "ok" not in reply or self.told["rule"]:
+            return f"{reply} and not {self.told['rule'] or self.told['members']}"
+        given, wanted = reply["ok"]["symbols"], self.told["members"]
+        return {"only govisd": [it for it in given if it not in wanted], "only Go": [it for it in wanted if it not in given]}
+
+
+def ask_type(script, session, tally, told):
+    """Asks what stands behind a variable of a type."""
+    request = {"cmd": "doc", "from": told["from"], "path": told["package"], "type": told["name"], "s": session}
+    script.ask(TypeQuestion(tally, told).documented, **request)
+
+
+def told_by(given, mode, files, *options):
+    """What go/types says of archives, file by file, or type by type."""
+    lines = said_by([given.peer, mode, *options, *files]).splitlines()
     return [json.loads(line) for line in lines]
 
 
-def ask_files(given, tally):
-    """The 300 files, each a package of its own, of three modules."""
-    folder = os.path.join(given.folder, "files")
+def wild_texts(module, seeds):
+    """Files of few names, much shadowed, each a package of its own."""
+    return {f"{module}/p{seed:03}/in.go": Wild(seed).file() for seed in seeds}
+
+
+def member_texts(module, seeds):
+    """Files of types with few names of members, each a package of its own, and the one that they import."""
+    texts = {f"{module}/lib/lib.go": member_files.LIBRARY}
+    texts.update((f"{module}/p{seed:03}/in.go", member_files.Dotted(seed).file(f"{module}/lib")) for seed in seeds)
+    return texts
+
+
+def ask_files(given, tally, make, folder):
+    """Files, each a package of its own, of several modules."""
+    folder = os.path.join(given.folder, folder)
     os.makedirs(folder, exist_ok=True)
     script, asked = Script(given.govisd), []
-    for first in range(1, FILES + 1, IN_MODULE):
+    for first in range(1, given.files + 1, IN_MODULE):
         module = f"ex.com/f{first:03}"
-        texts = {f"{module}/p{seed:03}/in.go": Wild(seed).file() for seed in range(first, first + IN_MODULE)}
+        texts = make(module, range(first, min(first + IN_MODULE, given.files + 1)))
         archive = os.path.join(folder, f"{first:03}.txt")
         write(archive, "".join(f"-- {place} --\n{text}" for place, text in texts.items()))
         session = len(asked) + 1
         script.put(session, module, texts)
         asked.append((session, archive))
     for session, archive in asked:
-        for told in told_by(given, [archive], "-every", str(given.every)):
+        for told in told_by(given, "query", [archive], "-every", str(given.every)):
             ask_file(script, session, tally, told)
+        for told in told_by(given, "document", [archive], "-beside"):
+            ask_type(script, session, tally, told)
     script.run()
 
 
@@ -236,11 +297,13 @@ def ask_workspaces(given, tally, files):
                 texts = members(it.read())
             sessions[file] = len(sessions) + 1
             script.put(sessions[file], module_of(texts), texts)
-        for told in told_by(given, some, "-list", given.listing, "-every", str(given.sparse), "-outside", str(given.sparse * OUTSIDE)):
+        for told in told_by(given, "query", some, "-list", given.listing, "-every", str(given.sparse), "-outside", str(given.sparse * OUTSIDE)):
             if told["package"]:
                 ask_file(script, sessions[told["archive"]], tally, told)
             else:
                 tally.add("archives on which go/types panics")
+        for told in told_by(given, "document", some, "-list", given.listing):
+            ask_type(script, sessions[told["archive"]], tally, told)
         script.run()
 
 
@@ -266,19 +329,22 @@ def main():
     arguments = argparse.ArgumentParser()
     for word in ("--govisd", "--peer", "--go", "--cache", "--folder", "--listing"):
         arguments.add_argument(word, required=True)
+    arguments.add_argument("--files", type=int, default=FILES)
     arguments.add_argument("--every", type=int, default=1)
     arguments.add_argument("--sparse", type=int, default=100)
-    arguments.add_argument("parts", nargs="+", choices=("files", "workspaces", "lists"))
+    arguments.add_argument("parts", nargs="+", choices=("files", "members", "workspaces", "lists"))
     given = arguments.parse_args()
     tally, files = Tally(), sorted(glob.glob(os.path.join(given.folder, "archives", "*.txt")))
     if "files" in given.parts:
-        ask_files(given, tally)
+        ask_files(given, tally, wild_texts, "files")
+    if "members" in given.parts:
+        ask_files(given, tally, member_texts, "members")
     if "workspaces" in given.parts:
         ask_workspaces(given, tally, files)
     if "lists" in given.parts:
         ask_lists(given, tally, files)
     tally.report()
-    few = not any(what.startswith(("complete", "list")) for what in tally.counts)
+    few = not any(what.startswith(("complete", "doc", "list")) for what in tally.counts)
     if few:
         print("FAILED: nothing was compared")
     return 1 if tally.differing or few else 0

@@ -13,6 +13,7 @@
 //	gopackages own MODULE FOLDER WHOLE       writes such a workspace again, without what only govisd refuses
 //	gopackages checked PROGRAM FOLDER MODULE what `govisd check` finds in it
 //	gopackages query [-list LISTING] [-every N] [-outside N] FILE..   what each identifier denotes and which names may stand in its place, for queries.py
+//	gopackages document [-list LISTING] [-beside] FILE..   what stands behind a variable of each type, for queries.py
 //	gopackages refused PROGRAM FOLDER MODULE WHOLE   whether `govisd check` refuses of the whole what is left out of the folder, and nothing else
 //
 // The status is 0 where nothing differs but in the ways that are named, 1 where something does, 2 where a run fails.
@@ -102,6 +103,7 @@ func main() {
 	listed := flag.String("list", "", "what the go command refuses, for workspaces of several packages")
 	every := flag.Int("every", 1, "each so many identifiers have all names put in their place")
 	outside := flag.Int("outside", 1, "outside functions each so many, of which also -every holds")
+	beside := flag.Bool("beside", false, "types of a package are asked from the one before it too, which does not import it")
 	flag.BoolVar(&onlyRefusals, "refusals", false, "the answers tell no more than what is refused")
 	if len(os.Args) < 3 {
 		fail(fmt.Errorf("usage: gopackages generate FOLDER COUNT SEED | several FOLDER COUNT SEED | table FOLDER | ask PROGRAM FOLDER FILE.. | list GO FOLDER FILE.. | judge FILE.. | fake FILE.. | compare ANSWERS FILE.."))
@@ -133,6 +135,11 @@ func main() {
 			goList = readListing(*listed)
 		}
 		queryAll(words, *every, *outside)
+	case mode == "document":
+		if *listed != "" {
+			goList = readListing(*listed)
+		}
+		documentAll(words, *beside)
 	case mode == "reduce" && len(words) > 2:
 		reduceAll(words[0], words[1], false, words[2:])
 	case mode == "own" && len(words) == 3:

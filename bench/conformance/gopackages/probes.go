@@ -34,10 +34,24 @@ type probed struct {
 }
 
 // An extent is where errors stand that are about an identifier: between two places, and at the end of a call of it. Errors of one code that stand there are
-// about something else: of a name before a dot, about the whole; of one behind a package, about what stands before the dot.
+// about something else: of a name before a dot, about the whole; of one behind a package, about what stands before the dot. So are errors inside what stands
+// before its dot, and that something cannot be called which is not what is called by this identifier.
 type extent struct {
 	from, to, behind token.Pos
 	other            string
+	left, called     ast.Expr
+}
+
+// isOfOther tells whether an error of a code that stands in the extent is about something else.
+func (where *extent) isOfOther(one *types.Error, code string) bool {
+	if where.left != nil && where.left.Pos() < one.Pos && one.Pos < where.left.End() {
+		return true
+	}
+	if code == "InvalidCall" {
+		end := token.Pos(reflect.ValueOf(*one).FieldByName("go116end").Int())
+		return where.called == nil || where.called.End() != end
+	}
+	return code == where.other
 }
 
 // config makes a configuration that counts errors, and notes the first of those that stand there and say that a name may not.
@@ -50,7 +64,7 @@ func (p *prober) config(found *probed, where extent) *types.Config {
 		if !ok || found.code != "" || (e.Pos < where.from || where.to < e.Pos) && e.Pos != where.behind {
 			return
 		}
-		if code := codeName(int(reflect.ValueOf(e).FieldByName("go116code").Int())); outright[code] && code != where.other {
+		if code := codeName(int(reflect.ValueOf(e).FieldByName("go116code").Int())); outright[code] && !where.isOfOther(&e, code) {
 			found.code = code
 		}
 	}}

@@ -28,6 +28,8 @@ type toldFile struct {
 	Assembled bool           `json:"assembled"`
 	Accepted  bool           `json:"accepted"` // by go/types, and so is all that it imports
 	Clashes   []string       `json:"clashes"`  // the names that both an import and the package bind
+	Repeated  []string       `json:"repeated"` // the names of members that a type declares twice, here or in what is imported
+	Cyclic    bool           `json:"cyclic"`   // whether a type reaches itself there
 	Declared  [][2]int       `json:"declared"` // the identifiers that are not used
 	Uses      []*toldUse     `json:"uses"`
 	Counts    map[string]int `json:"counts"` // what became of the names that were put in place
@@ -45,6 +47,9 @@ type toldUse struct {
 	Rule    string   `json:"rule"` // or why it may not stand there
 	Names   []string `json:"names"`
 	Probed  bool     `json:"probed"` // whether each name was put in its place
+	Typed   bool     `json:"typed"`  // whether go/types has a type of what stands before its dot, or of its literal
+	Late    bool     `json:"late"`   // whether that is a type for which go/types of Go 1.19 has no fields
+	Apart   bool     `json:"apart"`  // whether it rests on what go/types and govisd take for different things
 }
 
 // A questioner tells of the files of a package.
@@ -53,12 +58,14 @@ type questioner struct {
 	pkg     *types.Package
 	names   []string
 	parents map[ast.Node]ast.Node
+	late    map[*ast.SelectorExpr]bool
+	apart   *apart
 	file    *toldFile
 }
 
-// candidates gives the names that are put in place: those that the workspace writes, the predeclared ones, and one that nothing has.
+// candidates gives the names that are put in place: those that the workspace writes, the predeclared ones with the method of one, and one that nothing has.
 func (j *judgement) candidates() []string {
-	all := map[string]bool{"_": true, "fresh9": true}
+	all := map[string]bool{"_": true, "fresh9": true, "Error": true}
 	for _, name := range predeclaredNames {
 		all[name] = true
 	}
@@ -97,7 +104,7 @@ func parentsOf(tree *ast.File) map[ast.Node]ast.Node {
 func (q *questioner) extent(one *usage) extent {
 	var node ast.Node = one.ident
 	for {
-		where := extent{from: node.Pos(), to: one.ident.End()}
+		where := extent{from: node.Pos(), to: one.ident.End(), left: one.left}
 		switch outer := q.parents[node].(type) {
 		case *ast.ParenExpr, *ast.StarExpr:
 		case *ast.SelectorExpr:
@@ -107,7 +114,7 @@ func (q *questioner) extent(one *usage) extent {
 			}
 		case *ast.CallExpr:
 			if outer.Fun == node {
-				where.behind = outer.Rparen
+				where.behind, where.called = outer.Rparen, outer.Fun
 			}
 			return where
 		default:
@@ -212,8 +219,11 @@ func (q *questioner) scopeOf(ident *ast.Ident) *types.Scope {
 	return q.pkg.Scope()
 }
 
-// left says what stands before the dot of a name: a package, something that is refused, or a value.
+// left says what stands before the dot of a name: a package, something that is refused, a type among it, or a value.
 func (q *questioner) left(one *usage, scope *types.Scope) (string, *types.Package) {
+	if q.j.info.Types[one.left].IsType() {
+		return "refused", nil
+	}
 	x, ok := one.left.(*ast.Ident)
 	if !ok {
 		return "value", nil
@@ -244,6 +254,7 @@ func (q *questioner) use(one *usage, isProbed bool) *toldUse {
 	} else if one.literal != nil {
 		told.Context = "key"
 	}
+	q.typed(told, one)
 	for _, name := range q.names {
 		object, isClash, rule := types.Object(nil), false, "S4"
 		switch told.Context {
@@ -253,9 +264,14 @@ func (q *questioner) use(one *usage, isProbed bool) *toldUse {
 		case "package":
 			object = shown.Scope().Lookup(name)
 			rule = ruleOfShown(one.role, name, object)
-		case "value", "key":
-			q.member(told, one, name)
-			continue
+		case "refused":
+			if _, isName := one.left.(*ast.Ident); name == "_" && !isName {
+				rule = "S8"
+			}
+		case "value":
+			object, rule = q.behindValue(one, name)
+		case "key":
+			object, rule = q.keyOf(one, name)
 		}
 		q.name(told, one, name, object, rule, isClash)
 	}
@@ -356,6 +372,8 @@ func (p probed) whatRefused(rule, role string) string {
 	switch {
 	case p.code != "":
 		return "refused by both"
+	case isOfOther(rule):
+		return "refused by both, by go/types at another element"
 	case isOwn && p.object != nil:
 		return "taken by go/types, refused by " + rule
 	case rule == "N8":
@@ -366,28 +384,6 @@ func (p probed) whatRefused(rule, role string) string {
 		return "refused, of which go/types says nothing, since another error keeps it from it"
 	}
 	return ""
-}
-
-// member puts a name behind the dot of a value, or for a key, and notes whether it may stand there. Its own name go/types was asked of before.
-func (q *questioner) member(told *toldUse, one *usage, name string) {
-	var found probed
-	switch {
-	case name == one.ident.Name:
-		found.object = q.j.info.Uses[one.ident]
-	case told.Probed:
-		found = q.put(one, name, q.extentOf(told, one))
-	default:
-		return
-	}
-	rule := ""
-	if found.object == nil || found.code != "" {
-		rule = "none"
-	} else if one.literal == nil {
-		rule = ruleOfKind(one.role, found.object)
-	} else if !isKey(one, name) {
-		rule = "none"
-	}
-	q.note(told, one, name, found.object, rule)
 }
 
 // note notes whether a name may stand in a place, and of the name that stands there what it denotes.
@@ -401,20 +397,6 @@ func (q *questioner) note(told *toldUse, one *usage, name string, object types.O
 			told.Decl = q.j.decl(object)
 		}
 	}
-}
-
-// isKey tells whether all elements of a literal have keys, and no other key than this one is spelled so.
-func isKey(one *usage, name string) bool {
-	for _, element := range one.literal.Elts {
-		pair, ok := element.(*ast.KeyValueExpr)
-		if !ok {
-			return false
-		}
-		if key, ok := pair.Key.(*ast.Ident); ok && key != one.ident && key.Name == name {
-			return false
-		}
-	}
-	return true
 }
 
 // clashes gives the names that both an import of a file and the package bind.
@@ -462,10 +444,12 @@ func query(file string, every, outside int, out *json.Encoder) error {
 	for _, where := range places {
 		from := path.Dir(where)
 		told := &toldFile{Archive: file, Package: from, File: path.Base(where), Declared: [][2]int{}, Uses: []*toldUse{}, Counts: map[string]int{}, Odd: []string{}}
-		told.Accepted = hard(j.errors[from]) == nil && !j.isAboveRefused(from)
+		told.Accepted = j.isAccepted(from)
 		if pkg := j.checked[from]; pkg != nil && !j.broken[from] {
 			told.Assembled = true
-			q := &questioner{prober: &prober{j: j, from: from}, pkg: pkg, names: names}
+			q := &questioner{prober: &prober{j: j, from: from}, pkg: pkg, names: names, late: j.lateSelectors()}
+			q.apart = j.apartIn(from)
+			told.Repeated, told.Cyclic = q.apart.names(), q.apart.isCyclic
 			q.tellFile(j.files[where], told, every, outside)
 		}
 		if err := out.Encode(told); err != nil {

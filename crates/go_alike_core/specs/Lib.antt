@@ -7,7 +7,6 @@ pub mod embed_core
 pub mod entry_core
 pub mod face_core
 pub mod graph_core
-pub mod handle_core
 pub mod level_core
 pub mod scope_core
 pub mod select_core

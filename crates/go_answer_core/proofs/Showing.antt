@@ -4,8 +4,8 @@ use Rattle.std.specs.Prelude.{Contains, slice_get}
 use Rattle.std.specs.Str.{bytes_eq, chars}
 use Rattle.std.proofs.lemmas.Slice.Eq.{bytes_eq-Decides}
 use Rattle.go_text_core.specs.Text.{exported}
-use Rattle.go_term_core.specs.decl_core.declared.keys.DeclRef.{DeclRef}
-use Rattle.go_term_core.proofs.Members.{In, contained_in, filter_in, in_back, in_contained, in_either, in_filter, in_front, in_map, map_in, ordered_same}
+use Rattle.go_fault_core.specs.decl_core.declared.keys.DeclRef.{DeclRef}
+use Rattle.go_report_core.specs.term_core.Members.{In, contained_in, filter_in, in_back, in_contained, in_either, in_filter, in_front, in_map, map_in, ordered_same}
 use Rattle.go_fault_core.specs.block_core.Exports.{exported_names}
 use Rattle.go_fault_core.specs.block_core.Tables.{in_block, with_first}
 use Rattle.go_report_core.specs.expr_core.Independence.{either}

@@ -4,12 +4,12 @@ use Rattle.std.specs.Prelude.{slice_get}
 use Rattle.std.specs.Option.{option_map}
 use Rattle.std.proofs.lemmas.List.{map-append, take_all, take_more, length-map}
 use Rattle.std.proofs.lemmas.Option.{slice_get-map, slice_get_read}
-use Rattle.go_term_core.specs.declared.term.TypeTerm.{TypeTerm}
-use Rattle.go_term_core.specs.declared.term.Signature.{Signature}
-use Rattle.go_term_core.specs.decl_core.declared.keys.DeclRef.{DeclRef}
-use Rattle.go_term_core.specs.decl_core.declared.tops.TopDecl.{TopDecl}
-use Rattle.go_term_core.specs.decl_core.Shown.{decl_shown}
-use Rattle.go_term_core.specs.decl_core.TopDecls.{TopDeclTree}
+use Rattle.go_report_core.specs.term_core.declared.term.TypeTerm.{TypeTerm}
+use Rattle.go_report_core.specs.term_core.declared.term.Signature.{Signature}
+use Rattle.go_fault_core.specs.decl_core.declared.keys.DeclRef.{DeclRef}
+use Rattle.go_fault_core.specs.decl_core.declared.tops.TopDecl.{TopDecl}
+use Rattle.go_fault_core.specs.decl_core.Shown.{decl_shown}
+use Rattle.go_fault_core.specs.decl_core.TopDecls.{TopDeclTree}
 use Rattle.go_report_core.specs.local_core.declared.Fault.{Fault}
 use Rattle.go_face_core.specs.declared.face.Face.{Face}
 use Rattle.go_face_core.specs.Faces.{TheFace, face_shown}

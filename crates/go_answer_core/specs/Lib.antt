@@ -5,6 +5,7 @@ pub mod Shown
 pub mod Sites
 pub mod mirrors
 pub mod block_core
+pub mod decl_core
 pub mod denote_core
 pub mod expr_core
 pub mod face_core
@@ -12,3 +13,4 @@ pub mod handle_core
 pub mod literal_core
 pub mod local_core
 pub mod report_core
+pub mod term_core

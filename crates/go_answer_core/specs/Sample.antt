@@ -4,16 +4,16 @@ use Rattle.go_text_core.specs.declared.rule.Rule.TheVariants.{B5, B1, Y7}
 use Rattle.go_tree_nodes.specs.declared.decls.ValueKind.TheVariants as value_kinds
 use Rattle.go_tree_nodes.specs.Trees.{One, Integer}
 use Rattle.go_tree_nodes.specs.Samples.{at, called}
-use Rattle.go_term_core.specs.decl_core.declared.keys.DeclRef.{DeclRef}
-use Rattle.go_term_core.specs.decl_core.declared.places.DeclKind.TheVariants as kinds
-use Rattle.go_term_core.specs.decl_core.TopDecls.{TopDeclTree, ValueForm, top_decl}
+use Rattle.go_fault_core.specs.decl_core.declared.keys.DeclRef.{DeclRef}
+use Rattle.go_fault_core.specs.decl_core.declared.places.DeclKind.TheVariants as kinds
+use Rattle.go_fault_core.specs.decl_core.TopDecls.{TopDeclTree, ValueForm, top_decl}
 use Rattle.go_fault_core.specs.block_core.Blocks.{BlocksModel, blocks_model}
 use Rattle.go_fault_core.specs.block_core.Faults.{block_fault}
 use Rattle.go_fault_core.specs.block_core.declared.fault.BlockRule.TheVariants as block_rules
 use Rattle.go_fault_core.specs.Places.{fault_in}
 use Rattle.go_fault_core.specs.declared.places.PackageFault.{PackageFault}
-use Rattle.go_term_core.specs.declared.term.Basic.TheVariants as basics
-use Rattle.go_term_core.specs.Terms.{Predeclared}
+use Rattle.go_report_core.specs.term_core.declared.term.Basic.TheVariants as basics
+use Rattle.go_report_core.specs.term_core.Terms.{Predeclared}
 use Rattle.go_face_core.specs.declared.face.Face.TheVariants as faces
 use Rattle.go_face_core.specs.Faces.{TheFace, variable_face}
 use Rattle.go_answer_core.specs.Outer.{fault, outer_faults}

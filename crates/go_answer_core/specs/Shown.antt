@@ -2,7 +2,7 @@
 --
 -- docs/RULES.md, "Faces of declarations". The Go specification, "Exported identifiers".
 use Rattle.std.specs.Prelude.{ℕ, Bool, false, List, [], ◌∷◌, ◌++◌, ◌||◌, Option, Some, None, map, if◌then◌else◌}
-use Rattle.go_term_core.specs.decl_core.declared.keys.DeclRef.{DeclRef}
+use Rattle.go_fault_core.specs.decl_core.declared.keys.DeclRef.{DeclRef}
 use Rattle.go_fault_core.specs.block_core.Blocks.{BlocksModel}
 use Rattle.go_fault_core.specs.block_core.Exports.{exported_names}
 use Rattle.go_face_core.specs.Faces.{TheFace}

@@ -26,6 +26,11 @@ pub mod block_core {
     pub use go_fault_core::block_core::{Binding, Blocks, Imported, Target};
 }
 
+/// What the crates above name of `go_decl_core`.
+pub mod decl_core {
+    pub use go_fault_core::decl_core::{DeclRef, Outline};
+}
+
 /// What the crates above name of `go_denote_core`.
 pub mod denote_core {
     pub use go_report_core::denote_core::Outcome;
@@ -49,4 +54,9 @@ pub mod local_core {
 /// What the crates above name of `go_report_core`.
 pub mod report_core {
     pub use go_report_core::settle_faults;
+}
+
+/// What the crates above name of `go_term_core`.
+pub mod term_core {
+    pub use go_report_core::term_core::{MemberPlace, Signature, TypeTerm};
 }

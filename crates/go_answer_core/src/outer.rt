@@ -1,13 +1,13 @@
 //! The faults of a file that are asked of its package as a whole.
 ghost use Rattle.std.specs.Prelude.{◌≡◌, ◌++◌, IfOk, OnOk, drop, map, slice_get};
-ghost use Rattle.go_term_core.specs.decl_core.Shown.{decl_shown};
+ghost use Rattle.go_fault_core.specs.decl_core.Shown.{decl_shown};
 ghost use Rattle.go_answer_core.specs.Outer.{block_faults_in, looped_decl_faults, looped_if, outer_faults, type_faults_in};
 ghost use Rattle.go_answer_core.specs.mirrors.Steps.{is_set};
 
 use go_fault_core::PackageFault;
 use go_fault_core::block_core::{BlockFault, Blocks};
+use go_fault_core::decl_core::TopDecl;
 use go_report_core::local_core::Fault;
-use go_term_core::decl_core::TopDecl;
 use go_text_core::Rule;
 use std::alloc::{AllocError, Global};
 

@@ -13,7 +13,7 @@ pub use slot::Slot;
 
 /// What the crates above name of `go_part_core`.
 pub mod part_core {
-    pub use go_submit_core::part_core::PartInput;
+    pub use go_submit_core::part_core::{Part, PartInput};
 }
 
 /// What the crates above name of `go_snap_core`.

@@ -8,3 +8,18 @@ mod members;
 
 pub use keys::key_names;
 pub use members::names_behind;
+
+/// What the crates above name of `go_handle_core`.
+pub mod handle_core {
+    pub use go_handle_core::{Decl, DeclSite, Home, SignatureRef, TypeRef, typed};
+}
+
+/// What the crates above name of `go_select_core`.
+pub mod select_core {
+    pub use go_select_core::EmbedPath;
+}
+
+/// What the crates above name of `go_table_core`.
+pub mod table_core {
+    pub use go_table_core::TypeTable;
+}

@@ -11,4 +11,5 @@ pub use Rattle.go_graph_core.specs.Sources as Sources
 pub use Rattle.go_graph_core.proofs.ToldApart as ToldApart
 pub use Rattle.go_graph_core.specs.Workspaces as Workspaces
 pub use Rattle.go_graph_core.proofs.Zips as Zips
+pub use Rattle.go_graph_core.specs.contracts as contracts
 pub use Rattle.go_graph_core.specs.declared as declared

@@ -7,8 +7,8 @@ ghost use Rattle.go_block_core.specs.mirrors.Shown.{bound_shown, text_shown};
 use crate::exports::NamedDecl;
 use crate::imports::{ImportForm, Imported, NamedImport};
 use go_decl_core::DeclKey;
+use go_decl_core::path_core::ImportPath;
 use go_graph_core::parse_types::add;
-use go_path_core::ImportPath;
 use go_text_core::{Name, Rule};
 use std::alloc::{AllocError, Global};
 

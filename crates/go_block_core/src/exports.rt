@@ -5,8 +5,8 @@ ghost use Rattle.go_block_core.specs.Blocks.{exports_of};
 
 use crate::block::Blocks;
 use go_decl_core::DeclRef;
+use go_decl_core::path_core::ImportPath;
 use go_graph_core::Package;
-use go_path_core::ImportPath;
 use go_text_core::Name;
 use std::alloc::{AllocError, Global};
 use std::marker::Model;

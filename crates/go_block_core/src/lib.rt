@@ -41,10 +41,15 @@ pub use naming::{import_names, import_specs};
 
 /// What the crates above name of `go_graph_core`.
 pub mod graph_core {
-    pub use go_graph_core::{Package, SourceFile};
+    pub use go_graph_core::{Package, SourceFile, Workspace};
 }
 
 /// What the crates above name of `go_open_core`.
 pub mod open_core {
     pub use go_open_core::{DeclId, NameList, OpenBlocks, ShortDecl, ShortName};
+}
+
+/// What the crates above name of `go_text_core`.
+pub mod text_core {
+    pub use go_text_core::Rule;
 }

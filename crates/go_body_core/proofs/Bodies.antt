@@ -2,7 +2,7 @@
 use Rattle.std.proofs.Common.{◌≡◌, ℕ, Bool, false, List, ◌++◌, map, Option, Result, Ok, Err, subst, sym, ap, ◌∙◌}
 use Rattle.std.specs.Result.{IfOk}
 use Rattle.go_tree_nodes.specs.Trees.{FuncTree}
-use Rattle.go_term_core.specs.Terms.{Term}
+use Rattle.go_env_core.specs.term_core.Terms.{Term}
 use Rattle.go_local_core.specs.declared.Fault.{Fault}
 use Rattle.go_local_core.specs.Law.{Rules, Out}
 use Rattle.go_local_core.specs.Tables.{walked, out_by_intervals}

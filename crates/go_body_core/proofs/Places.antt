@@ -8,7 +8,7 @@ use Rattle.go_piece_core.specs.tree_core.Occurrences.{func_occs}
 use Rattle.go_local_core.specs.Steps.{Piece, Header, Spec, Act, Condition, Given, Steps, Done, Check, Declare, Inner}
 use Rattle.go_local_core.specs.Outline.{func_steps, func_opens, func_closes}
 use Rattle.go_local_core.specs.Tables.{walked, out_by_intervals}
-use Rattle.go_term_core.specs.Terms.{Term, Sign}
+use Rattle.go_env_core.specs.term_core.Terms.{Term, Sign}
 use Rattle.go_env_core.specs.handle_core.Declarations.{Declaration}
 use Rattle.go_piece_core.specs.expr_core.Looks.{Looks, WrittenRules}
 use Rattle.go_piece_core.specs.expr_core.Laws.{use_place, occurrence_place}

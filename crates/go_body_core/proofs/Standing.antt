@@ -5,7 +5,7 @@ use Rattle.std.specs.Result.{IfOk, OnOk}
 use Rattle.go_tree_nodes.specs.Trees.{SignatureTree}
 use Rattle.go_tree_nodes.specs.declared.names.Ident.{Ident}
 use Rattle.go_piece_core.specs.operand_core.declared.types.Operand.{Operand}
-use Rattle.go_term_core.specs.Terms.{Term}
+use Rattle.go_env_core.specs.term_core.Terms.{Term}
 use Rattle.go_local_core.specs.Steps.{Piece}
 use Rattle.go_env_core.specs.names_core.declared.look.OpenNames.{OpenNames}
 use Rattle.go_env_core.specs.names_core.Scope.{open_look, look_in_scope}

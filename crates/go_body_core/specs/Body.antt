@@ -3,7 +3,7 @@
 -- docs/RULES.md, "Bodies of functions". The Go specification, "Blocks", "Declarations and scope", "Statements".
 use Rattle.std.specs.Prelude.{◌≡◌, ℕ, false, List, ◌++◌, Option}
 use Rattle.go_tree_nodes.specs.Trees.{FuncTree}
-use Rattle.go_term_core.specs.Terms.{Term}
+use Rattle.go_env_core.specs.term_core.Terms.{Term}
 use Rattle.go_local_core.specs.declared.Fault.{Fault}
 use Rattle.go_local_core.specs.Binding.{Local}
 use Rattle.go_local_core.specs.Law.{Out}

@@ -9,6 +9,7 @@ pub mod WellFormed
 pub mod codes
 pub mod mirrors
 pub mod block_core
+pub mod decl_core
 pub mod denote_core
 pub mod entry_core
 pub mod env_core
@@ -23,5 +24,6 @@ pub mod piece_core
 pub mod scope_core
 pub mod settle_core
 pub mod table_core
+pub mod term_core
 pub mod tree_core
 pub mod written_core

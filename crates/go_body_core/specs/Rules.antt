@@ -4,7 +4,7 @@
 use Rattle.std.specs.Prelude.{ℕ, zero, suc, Bool, true, false, List, [], ◌∷◌, ◌++◌, Option, Some, None}
 use Rattle.go_tree_nodes.specs.Trees.{FuncTree}
 use Rattle.go_piece_core.specs.operand_core.declared.types.Operand.{Operand}
-use Rattle.go_term_core.specs.Terms.{Term}
+use Rattle.go_env_core.specs.term_core.Terms.{Term}
 use Rattle.go_tree_nodes.specs.declared.names.Ident.{Ident}
 use Rattle.go_local_core.specs.Steps.{Piece}
 use Rattle.go_local_core.specs.Pieces.{ident_place, piece_declares}

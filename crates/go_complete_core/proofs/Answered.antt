@@ -5,15 +5,15 @@ use Rattle.std.specs.Option.{option_map}
 use Rattle.std.specs.List.Sorted.{IsStrictlySortedBy}
 use Rattle.go_text_core.specs.Text.{is_blank}
 use Rattle.go_text_core.specs.declared.rule.Rule.TheVariants.{S8}
-use Rattle.go_graph_core.specs.Packages.{trees_of}
-use Rattle.go_graph_core.specs.Workspaces.{by_bytes}
+use Rattle.go_block_core.specs.graph_core.Packages.{trees_of}
+use Rattle.go_block_core.specs.graph_core.Workspaces.{by_bytes}
 use Rattle.go_tree_nodes.specs.declared.names.Ident.{Ident}
 use Rattle.go_tree_nodes.specs.declared.usage.Usage.{Usage}
 use Rattle.go_tree_nodes.specs.declared.usage.Usage.TheVariants as usages
 use Rattle.go_tree_nodes.specs.Trees.{ExprTree, Integer, Text, Named, Paren, Unary, Binary, Select, Call, Literal, StructLiteral, FileTree}
 use Rattle.go_open_core.specs.Blocks.{found_in}
-use Rattle.go_scope_core.specs.Models.{ScopesModel, scopes_model}
-use Rattle.go_scope_core.specs.Scopes.{scope_blocks}
+use Rattle.go_entry_core.specs.scope_core.Models.{ScopesModel, scopes_model}
+use Rattle.go_entry_core.specs.scope_core.Scopes.{scope_blocks}
 use Rattle.go_local_core.specs.Binding.{NameLook}
 use Rattle.go_local_core.specs.mirrors.Walk.{look_in}
 use Rattle.go_term_core.specs.Terms.{Term, Sign}
@@ -27,21 +27,22 @@ use Rattle.go_expr_core.specs.Looks.{look_of_place}
 use Rattle.go_expr_core.specs.Places.{is_name}
 use Rattle.go_expr_core.specs.Denoting.{ident_answer}
 use Rattle.go_expr_core.specs.Uses.{Context, NameAt, SelectorBehind, rule}
-use Rattle.go_summary_core.specs.face_core.Packages.{PackageFacesModel, exported_in}
+use Rattle.go_fitting_core.specs.face_core.Packages.{PackageFacesModel, exported_in}
 use Rattle.go_place_core.specs.env_core.declared.meaning.Meaning.{Meaning}
 use Rattle.go_place_core.specs.env_core.Looks.{TheLooks}
 use Rattle.go_place_core.specs.env_core.Found.{exported_shown, found_exported}
 use Rattle.go_place_core.specs.func_core.Stands.{FileStand, looks_where, outer_meanings}
-use Rattle.go_summary_core.specs.Views.{faces_told}
+use Rattle.go_fitting_core.specs.summary_core.Views.{faces_told}
 use Rattle.go_place_core.specs.part_core.Parts.{IsPart, PartModel, package_seen, seen_by}
-use Rattle.go_context_core.specs.Alone.{HasLocals, fits_some}
-use Rattle.go_context_core.specs.Laws.{is_declared}
-use Rattle.go_context_core.proofs.Deciding.{things_decide}
+use Rattle.go_fitting_core.specs.context_core.Alone.{HasLocals, fits_some}
+use Rattle.go_fitting_core.specs.context_core.Laws.{is_declared}
+use Rattle.go_fitting_core.specs.context_core.Deciding.{things_decide}
 use Rattle.go_spot_core.specs.Used.{SpotTree, NameSpot, BehindSpot, BehindNameSpot, KeySpot}
 use Rattle.go_spot_core.specs.Contexts.{context_of_spot}
 use Rattle.go_spot_core.specs.Opened.{FileUsed, file_names}
 use Rattle.go_fitting_core.specs.Fitting.{fits_alone, fits_behind, fits_shown, package_at, thing_at}
-use Rattle.go_place_core.specs.Completions.{AreNamesFor, Completes, is_of_types, stand_of}
+use Rattle.go_place_core.specs.Completed.{Completes}
+use Rattle.go_place_core.specs.Completions.{AreNamesFor, is_of_types, stand_of}
 use Rattle.go_place_core.specs.Laws.{IsPlacedIn}
 use Rattle.go_place_core.proofs.Placing.{none_has, spots_are_places}
 use Rattle.go_complete_core.specs.mirrors.Answering.{ArePassing, name_of, AreBehind, AreBehindName, AreBehindSome, AreAnswered}
@@ -170,7 +171,7 @@ module _ (p : PartModel) (made : IsPart p.input p.content) (n : ℕ) (f : FileTr
       ∙ ap (λ (s : ScopesModel). sight_at stand.scene (found_in (scope_blocks s) name)) (sym has.scopes)
 
   found : (r : Option (List (List ℕ))) → SpotResult stand names_there scopes seen u.used.spot u.used.ident r → Completes p n f u r
-  found None k = record { made = made; names = names_there; place = placed.place; of_types = k }
+  found None k = record { made = made; placed = placed; of_types = k }
   found (Some list) k = record { made = made; names = names_there; place = placed.place; of_names = k.0; are = k.1 }
 
   pub complete : (r : Option (List (List ℕ))) → AreAnswered scopes (faces_told p.input.reached) u.used.spot r → Completes p n f u r

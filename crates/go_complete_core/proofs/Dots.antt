@@ -20,14 +20,14 @@ use Rattle.go_denote_core.specs.Selectors.{dot_of, exported_answer, usage_place}
 use Rattle.go_expr_core.specs.Uses.{Context, SelectorBehind}
 use Rattle.go_term_core.specs.declared.term.MemberPlace.TheVariants as places
 use Rattle.go_fitting_core.specs.handle_core.Declarations.{Declaration, InFile}
-use Rattle.go_summary_core.specs.face_core.declared.face.Face.TheVariants as faces
-use Rattle.go_summary_core.specs.face_core.declared.shown.ShownFace.{ShownFace}
-use Rattle.go_summary_core.specs.face_core.declared.shown.ShownFace.TheVariants as shows
-use Rattle.go_summary_core.specs.face_core.Faces.{TheFace}
+use Rattle.go_fitting_core.specs.face_core.declared.face.Face.TheVariants as faces
+use Rattle.go_fitting_core.specs.face_core.declared.shown.ShownFace.{ShownFace}
+use Rattle.go_fitting_core.specs.face_core.declared.shown.ShownFace.TheVariants as shows
+use Rattle.go_fitting_core.specs.face_core.Faces.{TheFace}
 use Rattle.go_term_core.specs.Terms.{Term, Sign}
 use Rattle.go_place_core.specs.env_core.Found.{exported_face, exported_shown}
-use Rattle.go_context_core.specs.Laws.{is_declared}
-use Rattle.go_context_core.specs.Alone.{fits}
+use Rattle.go_fitting_core.specs.context_core.Laws.{is_declared}
+use Rattle.go_fitting_core.specs.context_core.Alone.{fits}
 use Rattle.go_fitting_core.specs.Fitting.{fits_shown, thing_of_face}
 use Rattle.go_place_core.specs.Completions.{is_of_types}
 use Rattle.go_complete_core.proofs.Standing.{package_found}

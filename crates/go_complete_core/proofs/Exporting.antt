@@ -7,12 +7,12 @@ use Rattle.go_decl_core.specs.declared.keys.DeclRef.{DeclRef}
 use Rattle.go_block_core.specs.Exports.{exported_names}
 use Rattle.go_open_core.specs.Blocks.{in_block, names_in}
 use Rattle.go_open_core.proofs.Names.{same_bytes}
-use Rattle.go_summary_core.specs.face_core.declared.shown.ShownFace.{ShownFace}
-use Rattle.go_summary_core.specs.face_core.declared.shown.ShownFace.TheVariants as shows
-use Rattle.go_summary_core.specs.face_core.Faces.{TheFace}
-use Rattle.go_summary_core.specs.face_core.Packages.{DeclaredOf, PackageFacesModel, names_seen, package_faces, shown_by}
-use Rattle.go_summary_core.specs.face_core.Displaying.{shows_its_block}
-use Rattle.go_summary_core.specs.Summaries.{SummaryModel}
+use Rattle.go_fitting_core.specs.face_core.declared.shown.ShownFace.{ShownFace}
+use Rattle.go_fitting_core.specs.face_core.declared.shown.ShownFace.TheVariants as shows
+use Rattle.go_fitting_core.specs.face_core.Faces.{TheFace}
+use Rattle.go_fitting_core.specs.face_core.Packages.{DeclaredOf, PackageFacesModel, names_seen, package_faces, shown_by}
+use Rattle.go_fitting_core.specs.face_core.Displaying.{shows_its_block}
+use Rattle.go_fitting_core.specs.summary_core.Summaries.{SummaryModel}
 use Rattle.go_place_core.specs.part_core.Inputs.{InputModel, path_in}
 use Rattle.go_place_core.specs.part_core.Parts.{ContentOf, IsPart}
 use Rattle.go_fitting_core.specs.Fitting.{ShowsItsExports}

@@ -36,7 +36,7 @@ use Rattle.go_denote_core.specs.Answers.{of_value, value_of_type, package_answer
 use Rattle.go_denote_core.specs.Selectors.{usage_place, exported_answer, dot_of, field_answer, method_answer, member_answer, value_selector, selector_answer}
 use Rattle.go_denote_core.specs.Arguments.{fits_type, arguments_of, is_free}
 use Rattle.go_denote_core.specs.Calls.{of_results, all_fit, func_call, of_conversion, convert_argument, conversion, of_length, length_argument, length_call, panic_call, is_printable, print_call, builtin_call, judged_call, of_builtin, free_call, call_answer}
-use Rattle.go_literal_core.specs.Literals.{literal_denotes}
+use Rattle.go_expr_core.specs.literal_core.Literals.{literal_denotes}
 use Rattle.go_expr_core.specs.declared.things.Judged.{Judged}
 use Rattle.go_expr_core.specs.Looks.{Looks, look_of_place}
 use Rattle.go_expr_core.specs.Places.{inside, under_place, left_place, whole, is_name, is_literal, is_lone_call}

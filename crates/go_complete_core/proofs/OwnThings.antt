@@ -14,22 +14,22 @@ use Rattle.go_decl_core.specs.declared.places.DeclKind.{DeclKind}
 use Rattle.go_decl_core.specs.declared.places.DeclKind.TheVariants as kinds
 use Rattle.go_decl_core.specs.Outer.{kind_of_value, kind_of_func}
 use Rattle.go_decl_core.specs.TopDecls.{TopDeclTree, FormTree, ValueForm, TypeForm, FuncForm, kind_of_form, top_decls}
-use Rattle.go_graph_core.specs.Packages.{Trees, tree_shown}
+use Rattle.go_block_core.specs.graph_core.Packages.{Trees, tree_shown}
 use Rattle.go_block_core.specs.Declarations.{PackageDeclaration, decl_ref, declaration, has_receiver, is_method_form, unless_method, top_declared, file_declared, files_declared, package_declared}
 use Rattle.go_block_core.specs.Holding.{package_block}
 use Rattle.go_block_core.specs.Tables.{in_block}
 use Rattle.go_block_core.proofs.HoldingLaws.{package_holds}
-use Rattle.go_table_core.specs.Entries.{Entry}
-use Rattle.go_written_core.specs.Written.{InFile, Meaning}
+use Rattle.go_entry_core.specs.table_core.Entries.{Entry}
+use Rattle.go_entry_core.specs.written_core.Written.{InFile, Meaning}
 use Rattle.go_entry_core.specs.Entries.{file_at}
 use Rattle.go_entry_core.specs.Meanings.{file_meaning}
 use Rattle.go_entry_core.specs.Outlines.{FileOutline, IsOutline, outline_of}
 use Rattle.go_needs_core.specs.Needs.{needed, NeedsLead, IsEndless, known_in, AreValues}
-use Rattle.go_summary_core.specs.face_core.declared.face.Face.TheVariants as faces
-use Rattle.go_summary_core.specs.face_core.Faces.{TheFace, variable_face}
-use Rattle.go_summary_core.specs.face_core.Laws.{FileDecl, Stands, package_decls, written_there}
-use Rattle.go_summary_core.specs.face_core.Written.{WrittenOf, form_as_written, value_as_written, written_of, written_at, face_found, position_of, package_written}
-use Rattle.go_summary_core.specs.face_core.Places.{positions_are_exact}
+use Rattle.go_fitting_core.specs.face_core.declared.face.Face.TheVariants as faces
+use Rattle.go_fitting_core.specs.face_core.Faces.{TheFace, variable_face}
+use Rattle.go_fitting_core.specs.face_core.Laws.{FileDecl, Stands, package_decls, written_there}
+use Rattle.go_fitting_core.specs.face_core.Written.{WrittenOf, form_as_written, value_as_written, written_of, written_at, face_found, position_of, package_written}
+use Rattle.go_fitting_core.specs.face_core.Places.{positions_are_exact}
 use Rattle.go_place_core.specs.env_core.Scenes.{SceneModel}
 use Rattle.go_place_core.specs.env_core.Looks.{TheLooks}
 use Rattle.go_place_core.specs.env_core.Found.{face_at, own_face}
@@ -38,9 +38,9 @@ use Rattle.go_place_core.specs.func_core.Stands.{outer_looks}
 use Rattle.go_place_core.specs.ready_core.Packages.{PackageIn, outlines_in, scene_in, stand_in}
 use Rattle.go_place_core.specs.ready_core.Values.{AreDeclared, decls_in, needs_in, file_decl_needs, declared_in, some_decl_face, face_there}
 use Rattle.go_place_core.specs.ready_core.Lists.{mapped_at}
-use Rattle.go_context_core.specs.declared.things.Thing.{Thing}
-use Rattle.go_context_core.specs.declared.things.Thing.TheVariants as things
-use Rattle.go_context_core.specs.Alone.{thing_of_decl}
+use Rattle.go_fitting_core.specs.context_core.declared.things.Thing.{Thing}
+use Rattle.go_fitting_core.specs.context_core.declared.things.Thing.TheVariants as things
+use Rattle.go_fitting_core.specs.context_core.Alone.{thing_of_decl}
 use Rattle.go_fitting_core.specs.Fitting.{thing_of_face}
 use Rattle.go_place_core.proofs.Placing.{first_has, none_has, is_first_or_more, more_has, one_has}
 

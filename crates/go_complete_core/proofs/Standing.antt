@@ -18,27 +18,27 @@ use Rattle.go_block_core.specs.Blocks.{file_binding}
 use Rattle.go_open_core.specs.declared.DeclId.{DeclId}
 use Rattle.go_open_core.specs.Blocks.{found_in, in_block, is_listed, list_names, names_in, or_else}
 use Rattle.go_open_core.proofs.Names.{listed-block, listed-names, same_bytes}
-use Rattle.go_scope_core.specs.Models.{scopes_model}
-use Rattle.go_scope_core.specs.Scopes.{Denoted, Universe, Package, File, Local, scope_blocks}
-use Rattle.go_scope_core.proofs.Lookups.{by_parts, in_scope}
-use Rattle.go_names_core.specs.Scope.{some_meaning}
+use Rattle.go_entry_core.specs.scope_core.Models.{scopes_model}
+use Rattle.go_entry_core.specs.scope_core.Scopes.{Denoted, Universe, Package, File, Local, scope_blocks}
+use Rattle.go_entry_core.specs.scope_core_lemmas.Lookups.{by_parts, in_scope}
+use Rattle.go_place_core.specs.names_core.Scope.{some_meaning}
 use Rattle.go_local_core.specs.mirrors.Walk.{Names, latest, look_in, names_of}
 use Rattle.go_denote_core.specs.declared.things.Found.{Found}
 use Rattle.go_denote_core.specs.declared.things.Found.TheVariants as founds
 use Rattle.go_term_core.specs.declared.term.MemberPlace.TheVariants as places
 use Rattle.go_fitting_core.specs.handle_core.Declarations.{Declaration, InFile, Package as PackageOf}
-use Rattle.go_summary_core.specs.face_core.declared.face.Face.TheVariants as faces
-use Rattle.go_summary_core.specs.face_core.Faces.{TheFace}
-use Rattle.go_summary_core.specs.face_core.Packages.{face_in}
+use Rattle.go_fitting_core.specs.face_core.declared.face.Face.TheVariants as faces
+use Rattle.go_fitting_core.specs.face_core.Faces.{TheFace}
+use Rattle.go_fitting_core.specs.face_core.Packages.{face_in}
 use Rattle.go_place_core.specs.env_core.declared.meaning.Meaning.{Meaning}
 use Rattle.go_place_core.specs.env_core.declared.meaning.Meaning.TheVariants as meanings
 use Rattle.go_place_core.specs.env_core.Scenes.{SceneModel}
 use Rattle.go_place_core.specs.env_core.Found.{TheFound, found_face, found_target, found_binding, found_universe, found_of, own_face}
 use Rattle.go_place_core.specs.body_core.Rules.{outside_in}
-use Rattle.go_context_core.specs.declared.things.Thing.{Thing}
-use Rattle.go_context_core.specs.declared.things.Thing.TheVariants as things
-use Rattle.go_context_core.specs.Alone.{local_names, thing_of_decl, thing_of_predeclared}
-use Rattle.go_context_core.specs.Laws.{thing_found_as}
+use Rattle.go_fitting_core.specs.context_core.declared.things.Thing.{Thing}
+use Rattle.go_fitting_core.specs.context_core.declared.things.Thing.TheVariants as things
+use Rattle.go_fitting_core.specs.context_core.Alone.{local_names, thing_of_decl, thing_of_predeclared}
+use Rattle.go_fitting_core.specs.context_core.Laws.{thing_found_as}
 use Rattle.go_fitting_core.specs.Fitting.{thing_of_face, thing_of_target, thing_at, path_of_target, package_at}
 use Rattle.go_place_core.specs.Laws.{is_local}
 

@@ -2,22 +2,23 @@
 ghost use Rattle.std.specs.Prelude.{◌≡◌, [], All, Contains, IfOk, IfErr};
 ghost use Rattle.std.specs.Option.{option_map};
 ghost use Rattle.go_tree_nodes.specs.Shapes.{file_of, shape};
-ghost use Rattle.go_summary_core.specs.Views.{faces_told};
+ghost use Rattle.go_fitting_core.specs.summary_core.Views.{faces_told};
 ghost use Rattle.go_spot_core.specs.Opened.{file_names};
 ghost use Rattle.go_spot_core.specs.Shown.{spot_shown};
 ghost use Rattle.go_spot_core.specs.Spots.{spot_seen};
 ghost use Rattle.go_fitting_core.specs.Fitting as alone;
 ghost use Rattle.go_fitting_core.specs.Fitting.{ShowsItsExports};
-ghost use Rattle.go_place_core.specs.Completions.{Completes, texts_of};
+ghost use Rattle.go_place_core.specs.Completed.{Completes};
+ghost use Rattle.go_place_core.specs.Completions.{texts_of};
 ghost use Rattle.go_complete_core.specs.mirrors.Answering.{AreAnswered, AreBehindName, AreBehindSome, name_of};
 
-use go_context_core::scopes_with;
 use go_denote_core::Stand;
+use go_entry_core::scope_core::Scopes;
+use go_fitting_core::context_core::scopes_with;
+use go_fitting_core::summary_core::ReachedSummaries;
 use go_fitting_core::{fits_alone, names_alone, names_behind, package_named};
 use go_place_core::part_core::Part;
-use go_scope_core::Scopes;
 use go_spot_core::{FoundSpot, Spot};
-use go_summary_core::ReachedSummaries;
 use go_text_core::Rule;
 use go_tree_nodes::{Expr, File, Ident, Usage};
 use std::alloc::Global;

@@ -14,7 +14,12 @@ pub mod answer_core {
 
 /// What the crates above name of `go_part_core`.
 pub mod part_core {
-    pub use go_place_core::part_core::{Part, part_has_occurrences};
+    pub use go_place_core::part_core::{Part, part_has_occurrences, types_of};
+}
+
+/// What the crates above name of `go_shown_core`.
+pub mod shown_core {
+    pub use go_fitting_core::shown_core::{deps_shown, imports_shown};
 }
 
 /// What the crates above name of `go_snap_core`.

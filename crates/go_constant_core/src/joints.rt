@@ -3,7 +3,7 @@ ghost use Rattle.std.specs.Prelude.{◌≡◌, ◌++◌, IfOk, OnOk};
 ghost use Rattle.std.specs.List.{concat};
 
 use crate::pieces::{Block, Piece, add_blocks, shared_pieces};
-use go_text_core::add;
+use go_token_core::text_core::add;
 use std::alloc::{AllocError, Global};
 
 /// How many bytes a piece has at most that is made of two.

@@ -23,3 +23,13 @@ pub use laws::{
 pub use operators::{binary, unary};
 pub use texts::ConstantText;
 pub use values::{Constant, is_zero, natural, text_length};
+
+/// What the crates above name of `go_text_core`.
+pub mod text_core {
+    pub use go_token_core::text_core::Rule;
+}
+
+/// What the crates above name of `go_token_core`.
+pub mod token_core {
+    pub use go_token_core::Operator;
+}

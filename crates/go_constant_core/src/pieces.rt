@@ -2,7 +2,7 @@
 ghost use Rattle.std.specs.Prelude.{◌≡◌, ◌++◌, IfOk, OnOk};
 ghost use Rattle.std.specs.List.{concat};
 
-use go_text_core::add;
+use go_token_core::text_core::add;
 use std::alloc::{AllocError, Global};
 use std::marker::Model;
 use std::sync::Arc;

@@ -9,7 +9,7 @@ use crate::joints::{PIECE, joined_blocks};
 use crate::left::{Left, compared};
 use crate::parts::Parts;
 use crate::pieces::{Block, Piece};
-use go_text_core::add;
+use go_token_core::text_core::add;
 use std::alloc::{AllocError, Global};
 use std::cmp::Ordering;
 use std::marker::Model;

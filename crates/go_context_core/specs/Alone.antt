@@ -7,8 +7,8 @@ use Rattle.go_text_core.specs.Text.{is_blank}
 use Rattle.go_universe_core.specs.declared.Predeclared.{Predeclared}
 use Rattle.go_universe_core.specs.declared.Predeclared.TheVariants as universe
 use Rattle.go_tree_nodes.specs.declared.names.Ident.{Ident}
-use Rattle.go_decl_core.specs.declared.places.DeclKind.{DeclKind}
-use Rattle.go_decl_core.specs.declared.places.DeclKind.TheVariants as kinds
+use Rattle.go_scope_core.specs.decl_core.declared.places.DeclKind.{DeclKind}
+use Rattle.go_scope_core.specs.decl_core.declared.places.DeclKind.TheVariants as kinds
 use Rattle.go_scope_core.specs.block_core.declared.binding.Target.{Target}
 use Rattle.go_scope_core.specs.block_core.declared.binding.Target.TheVariants as targets
 use Rattle.go_scope_core.specs.block_core.Blocks.{BlocksModel}

@@ -10,3 +10,13 @@ mod things;
 pub use alone::{names_alone, scopes_with, stands_alone};
 pub use laws::things_decide;
 pub use things::Thing;
+
+/// What the crates above name of `go_block_core`.
+pub mod block_core {
+    pub use go_scope_core::block_core::Target;
+}
+
+/// What the crates above name of `go_scope_core`.
+pub mod scope_core {
+    pub use go_scope_core::{InScope, Scopes};
+}

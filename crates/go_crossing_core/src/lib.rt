@@ -29,3 +29,8 @@ pub mod query_core {
 pub mod symbol_core {
     pub use go_hall::symbol_core::Symbol;
 }
+
+/// What the crates above name of `go_type_doc_core`.
+pub mod type_doc_core {
+    pub use go_hall::type_doc_core::{Member, MemberKind, TypeDoc};
+}

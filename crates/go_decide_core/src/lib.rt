@@ -28,6 +28,11 @@ pub mod operand_core {
     pub use go_denote_core::operand_core::{Operand, TypeForm, TypeLooks, ValueType};
 }
 
+/// What the crates above name of `go_path_core`.
+pub mod path_core {
+    pub use go_mset_core::path_core::ImportPath;
+}
+
 /// What the crates above name of `go_select_core`.
 pub mod select_core {
     pub use go_mset_core::select_core::{
@@ -45,5 +50,13 @@ pub mod table_core {
     pub use go_mset_core::table_core::{
         DeclaredMethod, DefinedType, PackageTypes, TypeTable, identical_under,
         identical_under_but_for_tags, is_named_type,
+    };
+}
+
+/// What the crates above name of `go_term_core`.
+pub mod term_core {
+    pub use go_denote_core::term_core::{
+        Basic, MemberPlace, Params, Signature, TypeTerm, copy, copy_signature, identical,
+        identical_but_for_tags, is_no_type,
     };
 }

@@ -9,4 +9,6 @@ pub mod Shown
 pub mod Table
 pub mod TopDecls
 pub mod mirrors
+pub mod text_core
 pub mod tree_core
+pub mod tree_nodes

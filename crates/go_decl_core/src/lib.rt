@@ -25,7 +25,25 @@ pub use places::{DeclKind, Place, Places};
 pub use tops::{DeclForm, Outline, TopDecl, kind_of_value};
 pub use type_places::last_ident;
 
+/// What the crates above name of `go_path_core`.
+pub mod path_core {
+    pub use go_path_core::ImportPath;
+}
+
+/// What the crates above name of `go_text_core`.
+pub mod text_core {
+    pub use go_text_core::{Name, add, boxed, same_id};
+}
+
 /// What the crates above name of `go_tree_core`.
 pub mod tree_core {
     pub use go_tree_core::Role;
+}
+
+/// What the crates above name of `go_tree_nodes`.
+pub mod tree_nodes {
+    pub use go_tree_nodes::{
+        File, ImportDecl, ImportName, ImportSpec, ImportSpecs, Results, Signature, TextLiteral,
+        Usage,
+    };
 }

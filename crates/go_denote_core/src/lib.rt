@@ -41,3 +41,16 @@ pub mod operand_core {
         form_basic, increment, is_condition, refused_binary, refused_unary, unary, update,
     };
 }
+
+/// What the crates above name of `go_term_core`.
+pub mod term_core {
+    pub use go_operand_core::term_core::{
+        Basic, Field, FieldLine, LocalPlace, MemberPlace, Params, Signature, TypeTerm, copy,
+        copy_signature, identical, identical_but_for_tags, is_no_type,
+    };
+}
+
+/// What the crates above name of `go_tree_core`.
+pub mod tree_core {
+    pub use go_operand_core::tree_core::Role;
+}

@@ -20,6 +20,16 @@ pub use laws::{
 pub use member::{Hits, Member, has_method};
 pub use owner::{Embedded, Owner, embeds};
 
+/// What the crates above name of `go_decl_core`.
+pub mod decl_core {
+    pub use go_type_core::decl_core::{DeclForm, DeclRef, Outline, Places, TopDecl, place_order};
+}
+
+/// What the crates above name of `go_path_core`.
+pub mod path_core {
+    pub use go_type_core::path_core::ImportPath;
+}
+
 /// What the crates above name of `go_settle_core`.
 pub mod settle_core {
     pub use go_type_core::settle_core::{
@@ -33,6 +43,11 @@ pub mod table_core {
         DeclaredMethod, DefinedType, PackageTypes, StructField, TypeEntry, TypeTable,
         identical_under, identical_under_but_for_tags, is_named_type,
     };
+}
+
+/// What the crates above name of `go_term_core`.
+pub mod term_core {
+    pub use go_type_core::term_core::{Field, MemberPlace, TypeTerm, copy};
 }
 
 /// What the crates above name of `go_type_core`.

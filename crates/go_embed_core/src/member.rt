@@ -3,18 +3,18 @@ ghost use Rattle.std.specs.Prelude.{◌≡◌, ◌⊎◌, ◌↔◌, IsTrue, map
 ghost use Rattle.std.specs.List.{list_any};
 ghost use Rattle.std.specs.Str.{bytes_eq, chars};
 ghost use Rattle.go_text_core.specs.Text.{exported};
-ghost use Rattle.go_term_core.specs.Terms.{ErrorType};
-ghost use Rattle.go_term_core.specs.Shapes.{line_shapes, shape};
+ghost use Rattle.go_type_core.specs.term_core.Terms.{ErrorType};
+ghost use Rattle.go_type_core.specs.term_core.Shapes.{line_shapes, shape};
 ghost use Rattle.go_type_core.specs.table_core.Entries.{same_id, has_method};
 ghost use Rattle.go_type_core.specs.table_core.Shown.{member_shown};
 ghost use Rattle.go_embed_core.specs.Owners.{term_found, is_spelled_in, nobody};
 ghost use Rattle.go_embed_core.specs.OwnersShown.{name_shown, member_package_shown};
 ghost use Rattle.go_embed_core.specs.mirrors.Tallies.{together, hits_shown, tallies, tally_of, method_tally, field_tally, interface_tally};
 
-use go_path_core::ImportPath;
-use go_term_core::FieldLine;
 use go_text_core::Name;
+use go_type_core::path_core::ImportPath;
 use go_type_core::table_core::StructField;
+use go_type_core::term_core::FieldLine;
 use go_type_core::{DeclaredMethod, Field, Method, TypeTerm};
 
 /// A member of a type, with the package where it is written.

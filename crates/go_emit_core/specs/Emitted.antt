@@ -5,7 +5,7 @@ use Rattle.std.specs.Prelude.{ℕ, suc, Bool, true, false, ◌&&◌, nat_lt, Lis
 use Rattle.std.specs.List.{flat_map, prefix_len}
 use Rattle.go_tree_nodes.specs.Trees.{FileTree, FuncTree}
 use Rattle.go_decl_core.specs.TopDecls.{TopDeclTree, FormTree, ValueForm, TypeForm, FuncForm, top_decls}
-use Rattle.go_term_core.specs.declared.term.MemberPlace.TheVariants as places
+use Rattle.go_meaning_core.specs.term_core.declared.term.MemberPlace.TheVariants as places
 use Rattle.go_meaning_core.specs.denote_core.declared.things.Outcome.{Outcome}
 use Rattle.go_meaning_core.specs.denote_core.declared.things.Outcome.TheVariants as outcomes
 use Rattle.go_meaning_core.specs.handle_core.Declarations.{Declaration, InFile}

@@ -28,3 +28,4 @@ pub mod summary_core
 pub mod used_core
 pub mod value_core
 pub mod whole_core
+pub mod written_core

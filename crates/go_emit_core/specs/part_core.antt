@@ -4,3 +4,4 @@ pub use Rattle.go_meaning_core.specs.part_core.Laws as Laws
 pub use Rattle.go_meaning_core.specs.part_core.Parts as Parts
 pub use Rattle.go_meaning_core.specs.part_core.Slots as Slots
 pub use Rattle.go_meaning_core.specs.part_core.contracts as contracts
+pub use Rattle.go_meaning_core.specs.part_core.declared as declared

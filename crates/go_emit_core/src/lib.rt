@@ -19,7 +19,7 @@ pub use object::{emit, emit_all};
 
 /// What the crates above name of `go_answer_core`.
 pub mod answer_core {
-    pub use go_meaning_core::answer_core::{Answer, Site};
+    pub use go_meaning_core::answer_core::{Answer, HeldLocal, Site};
 }
 
 /// What the crates above name of `go_face_core`.
@@ -52,8 +52,18 @@ pub mod package_core {
 /// What the crates above name of `go_part_core`.
 pub mod part_core {
     pub use go_meaning_core::part_core::{
-        Part, PartFile, PartInput, Parts, compile_part, one_part, part_has_occurrences,
+        Part, PartFile, PartInput, Parts, compile_part, one_part, part_has_occurrences, types_of,
     };
+}
+
+/// What the crates above name of `go_ready_core`.
+pub mod ready_core {
+    pub use go_meaning_core::ready_core::{PackageAt, package_outlines};
+}
+
+/// What the crates above name of `go_summary_core`.
+pub mod summary_core {
+    pub use go_meaning_core::summary_core::view_of;
 }
 
 /// What the crates above name of `go_tree_core`.

@@ -5,11 +5,11 @@ use Rattle.std.specs.List.{filter, enumerate_from}
 use Rattle.std.proofs.lemmas.Bool.{false_from_ne_true}
 use Rattle.std.proofs.lemmas.List.{map-append, take_all}
 use Rattle.std.proofs.lemmas.List.Elements.{filter-append}
-use Rattle.go_term_core.specs.decl_core.declared.keys.DeclKey.{DeclKey}
-use Rattle.go_term_core.specs.decl_core.declared.tops.Outline.{Outline}
-use Rattle.go_term_core.specs.decl_core.declared.tops.TopDecl.{TopDecl}
-use Rattle.go_term_core.specs.decl_core.Shown.{decl_shown}
-use Rattle.go_term_core.specs.decl_core.TopDecls.{TopDeclTree, FormTree, ValueForm, TypeForm, FuncForm}
+use Rattle.go_written_core.specs.decl_core.declared.keys.DeclKey.{DeclKey}
+use Rattle.go_written_core.specs.decl_core.declared.tops.Outline.{Outline}
+use Rattle.go_written_core.specs.decl_core.declared.tops.TopDecl.{TopDecl}
+use Rattle.go_written_core.specs.decl_core.Shown.{decl_shown}
+use Rattle.go_written_core.specs.decl_core.TopDecls.{TopDeclTree, FormTree, ValueForm, TypeForm, FuncForm}
 use Rattle.go_table_core.specs.Entries.{Entry}
 use Rattle.go_table_core.specs.Tables.{KeysRise}
 use Rattle.go_written_core.specs.Written.{InFile, Meaning}

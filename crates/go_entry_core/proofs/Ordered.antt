@@ -4,11 +4,11 @@ use Rattle.std.specs.Prelude.{nat_eq, nat_lt, ⊤}
 use Rattle.std.specs.List.{flat_map, enumerate_from}
 use Rattle.std.proofs.lemmas.Bool.{and_from, or_left, or_right, eq-eqb, lt-ltb}
 use Rattle.std.proofs.lemmas.List.Elements.{All-head, All-tail}
-use Rattle.go_term_core.specs.decl_core.declared.keys.DeclRef.{DeclRef}
-use Rattle.go_term_core.specs.decl_core.TopDecls.{TopDeclTree, FormTree, ValueForm, TypeForm, FuncForm, top_decls}
-use Rattle.go_term_core.specs.decl_core.Outer.{Outer, Manner, Whole, Part, Embedded, outer_names}
-use Rattle.go_term_core.specs.decl_core.Laws.{KnownDecl, known, wholes, if_whole}
-use Rattle.go_term_core.specs.decl_core.Numbers.{numbers_are_places}
+use Rattle.go_written_core.specs.decl_core.declared.keys.DeclRef.{DeclRef}
+use Rattle.go_written_core.specs.decl_core.TopDecls.{TopDeclTree, FormTree, ValueForm, TypeForm, FuncForm, top_decls}
+use Rattle.go_written_core.specs.decl_core.Outer.{Outer, Manner, Whole, Part, Embedded, outer_names}
+use Rattle.go_written_core.specs.decl_core.Laws.{KnownDecl, known, wholes, if_whole}
+use Rattle.go_written_core.specs.decl_core.Numbers.{numbers_are_places}
 use Rattle.go_table_core.specs.Entries.{Entry}
 use Rattle.go_table_core.specs.Tables.{AreOf, KeysRise}
 use Rattle.go_written_core.specs.Written.{InFile, Meaning}

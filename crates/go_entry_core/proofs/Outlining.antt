@@ -2,12 +2,12 @@
 use Rattle.std.proofs.Common.{◌≡◌, ℕ, ◌+◌, ◌<◌, List, [], ◌∷◌, ◌++◌, length, get_or, take, map, All, Ok, Err, Result, refl, sym, ap, ◌∙◌, append-nil}
 use Rattle.std.proofs.lemmas.List.{map-append, take_more}
 use Rattle.std.proofs.lemmas.List.Elements.{All-map, All-same}
-use Rattle.go_tree_nodes.specs.Trees.{FileTree}
+use Rattle.go_written_core.specs.tree_nodes.Trees.{FileTree}
 use Rattle.go_scope_core.specs.parse_core.declared.error.SynFault.{SynFault}
-use Rattle.go_term_core.specs.decl_core.declared.tops.Outline.{Outline}
-use Rattle.go_term_core.specs.decl_core.Outer.{places_of}
-use Rattle.go_term_core.specs.decl_core.Shown.{decl_shown}
-use Rattle.go_term_core.specs.decl_core.TopDecls.{top_decls}
+use Rattle.go_written_core.specs.decl_core.declared.tops.Outline.{Outline}
+use Rattle.go_written_core.specs.decl_core.Outer.{places_of}
+use Rattle.go_written_core.specs.decl_core.Shown.{decl_shown}
+use Rattle.go_written_core.specs.decl_core.TopDecls.{top_decls}
 use Rattle.go_scope_core.specs.graph_core.Packages.{Trees, trees_of}
 use Rattle.go_scope_core.specs.graph_core.Sources.{SourceModel, source}
 use Rattle.go_scope_core.specs.graph_core.Assemblies.{one_more}

@@ -4,9 +4,9 @@ use Rattle.std.specs.Prelude.{slice_get}
 use Rattle.std.specs.List.Sorted.{IsPartitionPoint, IsPartitionedBy}
 use Rattle.std.proofs.lemmas.Bool.{true≢false, cases_order, false_from_ne_true}
 use Rattle.std.proofs.lemmas.Option.{slice_get_within, slice_get-map, slice_get-get_or, get_or_from_slice_get}
-use Rattle.go_term_core.specs.decl_core.declared.keys.DeclKey.{DeclKey}
-use Rattle.go_term_core.specs.decl_core.declared.keys.DeclRef.{DeclRef}
-use Rattle.go_term_core.specs.Terms.{Term, NoType, Predeclared, ErrorType, Defined, PointerTo, StructOf, InterfaceOf}
+use Rattle.go_written_core.specs.decl_core.declared.keys.DeclKey.{DeclKey}
+use Rattle.go_written_core.specs.decl_core.declared.keys.DeclRef.{DeclRef}
+use Rattle.go_written_core.specs.term_core.Terms.{Term, NoType, Predeclared, ErrorType, Defined, PointerTo, StructOf, InterfaceOf}
 use Rattle.go_table_core.specs.declared.entry.TypeEntry.{TypeEntry}
 use Rattle.go_table_core.specs.Entries.{Entry, same_key}
 use Rattle.go_table_core.specs.Shown.{entry_shown}
@@ -14,7 +14,7 @@ use Rattle.go_table_core.specs.Tables.{KeysRise}
 use Rattle.go_table_core.proofs.Keys.{not_before_itself, ref_before_on, rise_first, rise_rest, same_key_from, same_key_true}
 use Rattle.go_entry_core.specs.Entries.{is_type_of}
 use Rattle.go_entry_core.specs.mirrors.Gaining.{IsMeantAt}
-use Rattle.go_term_core.specs.decl_core.Order.{is_ref_before}
+use Rattle.go_written_core.specs.decl_core.Order.{is_ref_before}
 
 -- a type of a key
 pub type_is : (k : DeclKey) (t : Term) → is_type_of k t ≡ true → t ≡ Defined k

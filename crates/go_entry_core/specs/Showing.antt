@@ -2,7 +2,7 @@
 use Rattle.std.specs.Prelude.{◌≡◌, ℕ, List, [], ◌∷◌, Option, None, if◌then◌else◌}
 use Rattle.std.specs.Str.{bytes_eq, chars}
 use Rattle.go_text_core.specs.Text.{exported}
-use Rattle.go_term_core.specs.decl_core.declared.keys.DeclRef.{DeclRef}
+use Rattle.go_written_core.specs.decl_core.declared.keys.DeclRef.{DeclRef}
 use Rattle.go_scope_core.specs.block_core.Blocks.{BlocksModel, exports_of}
 use Rattle.go_scope_core.specs.block_core.Exports.{ExportsModel}
 use Rattle.go_scope_core.specs.block_core.Tables.{in_block}

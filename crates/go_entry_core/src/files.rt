@@ -4,8 +4,8 @@ ghost use Rattle.go_scope_core.specs.graph_core.Packages.{trees_of};
 ghost use Rattle.go_entry_core.specs.Outlines.{IsOutline, outline_of, outline_shown};
 
 use go_scope_core::graph_core::SourceFile;
-use go_term_core::decl_core::{Outline, outline};
 use go_text_core::add;
+use go_written_core::decl_core::{Outline, outline};
 use std::alloc::{AllocError, Global};
 
 /// The outlines of those of a package's files that have a tree, in order: in a package that assembles of all its files in order of name.

@@ -27,9 +27,21 @@ pub mod block_core {
     };
 }
 
+/// What the crates above name of `go_decl_core`.
+pub mod decl_core {
+    pub use go_written_core::decl_core::{
+        DeclForm, DeclKey, DeclKind, DeclRef, Outline, TopDecl, place_order,
+    };
+}
+
 /// What the crates above name of `go_graph_core`.
 pub mod graph_core {
     pub use go_scope_core::graph_core::{Package, SourceFile};
+}
+
+/// What the crates above name of `go_scope_core`.
+pub mod scope_core {
+    pub use go_scope_core::Scopes;
 }
 
 /// What the crates above name of `go_written_core`.

@@ -7,9 +7,9 @@ ghost use Rattle.go_entry_core.specs.Showing.{shown_in, with_shown};
 ghost use Rattle.go_entry_core.specs.mirrors.Indexing.{by_spelling, decl_if, HasPlaces, is_below, IsNameOrder, spelling_at};
 
 use crate::file_names::ImportedNames;
-use go_path_core::ImportPath;
 use go_scope_core::block_core::{DeclRef, Exports, NamedDecl};
 use go_text_core::is_exported;
+use go_written_core::path_core::ImportPath;
 use indexmap::IndexMap;
 use std::alloc::{AllocError, Global};
 use std::cmp::Ordering;

@@ -5,14 +5,14 @@
 use Rattle.std.specs.Prelude.{ℕ, Bool, true, false, List, Option, Some, None, slice_index_or}
 use Rattle.go_universe_core.specs.declared.Predeclared.{Predeclared}
 use Rattle.go_universe_core.specs.declared.Predeclared.TheVariants as universe
-use Rattle.go_term_core.specs.decl_core.declared.keys.DeclRef.{DeclRef}
+use Rattle.go_inline_core.specs.decl_core.declared.keys.DeclRef.{DeclRef}
 use Rattle.go_inline_core.specs.block_core.declared.binding.Binding.{Binding}
 use Rattle.go_inline_core.specs.block_core.declared.binding.Target.{Target}
 use Rattle.go_inline_core.specs.block_core.declared.binding.Target.TheVariants as targets
 use Rattle.go_inline_core.specs.block_core.Blocks.{file_binding}
-use Rattle.go_term_core.specs.declared.term.MemberPlace.TheVariants as places
-use Rattle.go_term_core.specs.declared.term.Basic.TheVariants as basics
-use Rattle.go_term_core.specs.Terms.{Term, Predeclared as Basic, ErrorType, InterfaceOf, NoMethod, Sign}
+use Rattle.go_expr_core.specs.term_core.declared.term.MemberPlace.TheVariants as places
+use Rattle.go_expr_core.specs.term_core.declared.term.Basic.TheVariants as basics
+use Rattle.go_expr_core.specs.term_core.Terms.{Term, Predeclared as Basic, ErrorType, InterfaceOf, NoMethod, Sign}
 use Rattle.go_expr_core.specs.constant_core.declared.values.Constant.{Constant}
 use Rattle.go_expr_core.specs.constant_core.declared.values.Constant.TheVariants as constants
 use Rattle.go_expr_core.specs.operand_core.declared.types.ValueType.{ValueType}

@@ -17,7 +17,7 @@ use Rattle.go_open_core.specs.Blocks.{NoneHas, IsInnermost}
 use Rattle.go_inline_core.specs.scope_core.Models.{ScopesModel}
 use Rattle.go_inline_core.specs.scope_core.Scopes as scopes
 use Rattle.go_inline_core.specs.scope_core.Scopes.{Denoted, scope_blocks}
-use Rattle.go_term_core.specs.Terms.{Term}
+use Rattle.go_expr_core.specs.term_core.Terms.{Term}
 use Rattle.go_inline_core.specs.table_core.Entries.{find_entry}
 use Rattle.go_inline_core.specs.embed_core.Owners as owners
 use Rattle.go_inline_core.specs.embed_core.Owners.{AFieldOf, AMethodOf, AnInterfaces, TheErrorMethod, members_of, owner_in}

@@ -5,6 +5,7 @@ pub mod Looks
 pub mod Scenes
 pub mod mirrors
 pub mod block_core
+pub mod decl_core
 pub mod entry_core
 pub mod face_core
 pub mod handle_core
@@ -13,4 +14,5 @@ pub mod names_core
 pub mod scope_core
 pub mod settle_core
 pub mod table_core
+pub mod term_core
 pub mod written_core

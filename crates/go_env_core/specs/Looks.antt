@@ -1,6 +1,6 @@
 -- All that an expression is judged by at a place of a package, by what names mean where they stand.
 use Rattle.std.specs.Prelude.{◌≡◌, ℕ, List, [], Option, Some, None}
-use Rattle.go_term_core.specs.Terms.{Term, Sign}
+use Rattle.go_expr_core.specs.term_core.Terms.{Term, Sign}
 use Rattle.go_inline_core.specs.table_core.Entries.{Entry, find_entry}
 use Rattle.go_expr_core.specs.operand_core.TypeRules.{TypeRules}
 use Rattle.go_face_core.specs.decide_core.Rules.{term_rules, param_types_of, results_of, typed}
@@ -11,7 +11,7 @@ use Rattle.go_expr_core.specs.local_core.declared.Fault.{Fault}
 use Rattle.go_expr_core.specs.local_core.Binding.{NameLook}
 use Rattle.go_expr_core.specs.literal_core.Look.{LiteralRules}
 use Rattle.go_expr_core.specs.Looks.{Looks, WrittenRules, everywhere}
-use Rattle.go_tree_nodes.specs.Starts.{type_start}
+use Rattle.go_expr_core.specs.tree_nodes.Starts.{type_start}
 use Rattle.go_inline_core.specs.Types.{InlineOf, inline_at}
 use Rattle.go_face_core.specs.Faces.{TheFace}
 use Rattle.go_inline_core.specs.names_core.Scope.{open_look}

@@ -12,6 +12,7 @@ use go_expr_core::denote_core::{Exported, Found, Names, Selection};
 use go_expr_core::literal_core::{LiteralField, Literals};
 use go_expr_core::local_core::Fault;
 use go_expr_core::operand_core::{TypeForm, TypeLooks};
+use go_expr_core::tree_nodes::{TypeExpr, type_start};
 use go_face_core::Face;
 use go_face_core::handle_core::{
     Decl, SignatureRef, TypeRef, is_assignable, is_convertible, is_identical, selection, typed,
@@ -20,7 +21,6 @@ use go_face_core::select_core::EmbedPath;
 use go_inline_core::names_core::OpenNames;
 use go_inline_core::table_core::TypeTable;
 use go_inline_core::{InlineType, InlineTypes};
-use go_tree_nodes::{TypeExpr, type_start};
 use std::alloc::{AllocError, Global};
 
 /// A place of a file of a package, as its expressions see it.

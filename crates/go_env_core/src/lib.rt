@@ -23,17 +23,22 @@ pub use scene::Scene;
 
 /// What the crates above name of `go_block_core`.
 pub mod block_core {
-    pub use go_inline_core::block_core::{DeclRef, Imported, import_specs};
+    pub use go_inline_core::block_core::{Blocks, DeclRef, Imported, import_specs};
+}
+
+/// What the crates above name of `go_decl_core`.
+pub mod decl_core {
+    pub use go_inline_core::decl_core::{DeclForm, Outline, Places, TopDecl};
 }
 
 /// What the crates above name of `go_entry_core`.
 pub mod entry_core {
-    pub use go_inline_core::entry_core::{ImportedNames, outlines};
+    pub use go_inline_core::entry_core::{FileNames, ImportedNames, ShownPackages, outlines};
 }
 
 /// What the crates above name of `go_face_core`.
 pub mod face_core {
-    pub use go_face_core::{Face, FaceTable, WrittenFaces, written_faces};
+    pub use go_face_core::{Face, FaceTable, WrittenFaces, lend, written_faces};
 }
 
 /// What the crates above name of `go_handle_core`.
@@ -61,4 +66,9 @@ pub mod scope_core {
 /// What the crates above name of `go_select_core`.
 pub mod select_core {
     pub use go_face_core::select_core::EmbedPath;
+}
+
+/// What the crates above name of `go_written_core`.
+pub mod written_core {
+    pub use go_inline_core::written_core::{TypeNames, WrittenIn, write_type};
 }

@@ -3,12 +3,12 @@ use Rattle.std.proofs.Common.{◌≡◌, ℕ, suc, ◌+◌, ◌<◌, Bool, List,
 use Rattle.std.specs.Prelude.{Option, Some, None}
 use Rattle.std.proofs.lemmas.List.{map-append}
 use Rattle.std.proofs.Math.Seq.{set-append_seam}
-use Rattle.go_text_core.specs.declared.span.Span.{Span}
+use Rattle.go_tree_nodes.specs.text_core.declared.span.Span.{Span}
 use Rattle.go_tree_nodes.specs.declared.exprs.Key.{Key}
 use Rattle.go_tree_nodes.specs.declared.exprs.«Item» as declared_item
 use Rattle.go_tree_nodes.specs.Trees.{ExprTree, ItemTrees, Call}
 use Rattle.go_tree_nodes.specs.Shapes.{shape, items_of, shape_key}
-use Rattle.go_term_core.specs.tree_core.declared.occurrence.Role.TheVariants as roles
+use Rattle.go_literal_core.specs.tree_core.declared.occurrence.Role.TheVariants as roles
 use Rattle.go_literal_core.specs.denote_core.declared.things.Stand.{Stand}
 use Rattle.go_literal_core.specs.denote_core.declared.things.Stand.TheVariants as stands
 use Rattle.go_literal_core.specs.declared.things.Mode.{Mode}

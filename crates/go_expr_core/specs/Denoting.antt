@@ -2,7 +2,7 @@
 --
 -- docs/RULES.md, "Expressions: roles, order, faults of parts". The Go specification, "Expressions".
 use Rattle.std.specs.Prelude.{true, false, List, [], ◌∷◌, Option, Some}
-use Rattle.go_token_core.specs.declared.kind.Operator.{Operator}
+use Rattle.go_tree_nodes.specs.token_core.declared.kind.Operator.{Operator}
 use Rattle.go_literal_core.specs.constant_core.declared.values.Constant.{Constant}
 use Rattle.go_literal_core.specs.constant_core.declared.values.Constant.TheVariants as constants
 use Rattle.go_literal_core.specs.constant_core.Values.{natural}
@@ -14,7 +14,7 @@ use Rattle.go_tree_nodes.specs.declared.usage.Usage.{Usage}
 use Rattle.go_tree_nodes.specs.declared.usage.Usage.TheVariants as usages
 use Rattle.go_tree_nodes.specs.Terminals.{value_of}
 use Rattle.go_tree_nodes.specs.Trees.{TypeTree, ExprTree, ItemTrees, Integer, Text, Named, Paren, Unary, Binary, Select, Call, Literal, StructLiteral, NoItems, Item}
-use Rattle.go_text_core.specs.declared.span.Span.{Span}
+use Rattle.go_tree_nodes.specs.text_core.declared.span.Span.{Span}
 use Rattle.go_literal_core.specs.operand_core.declared.types.ValueType.{ValueType}
 use Rattle.go_literal_core.specs.operand_core.declared.types.ValueType.TheVariants as value_types
 use Rattle.go_literal_core.specs.denote_core.declared.things.Stand.{Stand}

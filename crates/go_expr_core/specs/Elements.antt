@@ -2,8 +2,8 @@
 --
 -- docs/RULES.md, "Composite literals". The Go specification, "Composite literals".
 use Rattle.std.specs.Prelude.{ℕ, Bool, true, false, List, [], ◌∷◌, length, Option, Some, None}
-use Rattle.go_text_core.specs.declared.rule.Rule.{Rule}
-use Rattle.go_text_core.specs.declared.rule.Rule.TheVariants.{Y4}
+use Rattle.go_tree_nodes.specs.text_core.declared.rule.Rule.{Rule}
+use Rattle.go_tree_nodes.specs.text_core.declared.rule.Rule.TheVariants.{Y4}
 use Rattle.go_tree_nodes.specs.declared.exprs.Key.{Key}
 use Rattle.go_tree_nodes.specs.Trees.{ItemTrees, NoItems, Item}
 use Rattle.go_tree_nodes.specs.Counts.{item_count}

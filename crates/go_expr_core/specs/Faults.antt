@@ -2,9 +2,9 @@
 --
 -- docs/RULES.md, "Expressions: roles, order, faults of parts". The Go specification, "Operators", "Calls", "Composite literals".
 use Rattle.std.specs.Prelude.{ℕ, suc, Bool, true, false, List, [], ◌∷◌, ◌++◌, Option, Some, None}
-use Rattle.go_text_core.specs.declared.span.Span.{Span}
-use Rattle.go_text_core.specs.declared.rule.Rule.{Rule}
-use Rattle.go_token_core.specs.declared.kind.Operator.{Operator}
+use Rattle.go_tree_nodes.specs.text_core.declared.span.Span.{Span}
+use Rattle.go_tree_nodes.specs.text_core.declared.rule.Rule.{Rule}
+use Rattle.go_tree_nodes.specs.token_core.declared.kind.Operator.{Operator}
 use Rattle.go_tree_nodes.specs.Trees.{ExprTree, ItemTrees, Integer, Text, Named, Paren, Unary, Binary, Select, Call, Literal, StructLiteral, NoItems, Item}
 use Rattle.go_tree_nodes.specs.Starts.{type_name_start, type_start}
 use Rattle.go_literal_core.specs.denote_core.declared.things.Stand.{Stand}

@@ -18,4 +18,6 @@ pub mod denote_core
 pub mod literal_core
 pub mod local_core
 pub mod operand_core
+pub mod term_core
 pub mod tree_core
+pub mod tree_nodes

@@ -3,9 +3,9 @@
 -- docs/RULES.md, "Operands and operators". The Go specification, "Operators", "Address operators"; "Conversions": `(*T)(x)` writes a
 -- pointer type with a star.
 use Rattle.std.specs.Prelude.{Bool, true, false, if◌then◌else◌, Option, Some, None, Result, Ok, Err}
-use Rattle.go_text_core.specs.declared.rule.Rule.{Rule}
-use Rattle.go_token_core.specs.declared.kind.Operator.{Operator}
-use Rattle.go_token_core.specs.declared.kind.Operator.TheVariants as operators
+use Rattle.go_tree_nodes.specs.text_core.declared.rule.Rule.{Rule}
+use Rattle.go_tree_nodes.specs.token_core.declared.kind.Operator.{Operator}
+use Rattle.go_tree_nodes.specs.token_core.declared.kind.Operator.TheVariants as operators
 use Rattle.go_literal_core.specs.operand_core.declared.types.Operand.{Operand}
 use Rattle.go_literal_core.specs.operand_core.TypeRules.{TypeRules}
 use Rattle.go_literal_core.specs.operand_core.Operators.{binary_operand, refused_binary}

@@ -17,10 +17,10 @@ use crate::notes::{note_fault, note_use};
 use crate::places::is_call;
 use crate::things::Use;
 use go_literal_core::denote_core::{Answer, Denoted, arguments_of, call_answer, is_free};
+use go_literal_core::tree_core::Role;
 use go_literal_core::{KeyMark, Keys, key_answer, key_marks, keys_among, misfits};
 use go_local_core::Fault;
-use go_term_core::tree_core::Role;
-use go_text_core::Rule;
+use go_tree_nodes::text_core::Rule;
 use go_tree_nodes::{Item, Key};
 use std::alloc::{AllocError, Global};
 

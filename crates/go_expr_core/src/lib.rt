@@ -33,7 +33,9 @@ pub mod constant_core {
 
 /// What the crates above name of `go_denote_core`.
 pub mod denote_core {
-    pub use go_literal_core::denote_core::{Builtin, Exported, Found, Names, Outcome, Selection};
+    pub use go_literal_core::denote_core::{
+        Builtin, Exported, Found, Names, Outcome, Selection, Stand,
+    };
 }
 
 /// What the crates above name of `go_literal_core`.
@@ -51,7 +53,19 @@ pub mod operand_core {
     pub use go_literal_core::operand_core::{Operand, TypeForm, TypeLooks, ValueType};
 }
 
+/// What the crates above name of `go_term_core`.
+pub mod term_core {
+    pub use go_literal_core::term_core::{
+        Field, FieldLine, LocalPlace, MemberPlace, Signature, TypeTerm,
+    };
+}
+
 /// What the crates above name of `go_tree_core`.
 pub mod tree_core {
-    pub use go_term_core::tree_core::Role;
+    pub use go_literal_core::tree_core::Role;
+}
+
+/// What the crates above name of `go_tree_nodes`.
+pub mod tree_nodes {
+    pub use go_tree_nodes::{TypeExpr, type_start};
 }

@@ -5,8 +5,8 @@ ghost use Rattle.go_expr_core.specs.Operators as operators;
 use crate::things::Judged;
 use go_literal_core::denote_core::{Denoted, Names};
 use go_literal_core::operand_core::{Operand, binary, refused_binary, refused_unary, unary};
-use go_text_core::Rule;
-use go_token_core::Operator;
+use go_tree_nodes::text_core::Rule;
+use go_tree_nodes::token_core::Operator;
 use std::alloc::{AllocError, Global};
 
 fn of_operand<T: Drop, S: Drop, D: Drop>(made: Result<Operand<T>, Rule>) -> Judged<T, S, D>

@@ -1,6 +1,6 @@
 //! The walk over an expression.
 ghost use Rattle.std.specs.Prelude.{◌≡◌, ◌<◌, ◌++◌, [], ◌∷◌, length, slice_set, IfOk, OnOk};
-ghost use Rattle.go_term_core.specs.tree_core.declared.occurrence.Role.TheVariants as roles;
+ghost use Rattle.go_literal_core.specs.tree_core.declared.occurrence.Role.TheVariants as roles;
 ghost use Rattle.go_literal_core.specs.denote_core.declared.things.Stand.TheVariants as stands;
 ghost use Rattle.go_literal_core.specs.Literals.{literal_denotes as type_denotes};
 ghost use Rattle.go_tree_nodes.specs.Shapes.{shape, items_of, shape_key};
@@ -37,8 +37,8 @@ use go_literal_core::denote_core::{Denoted, Stand, dot_of};
 use go_literal_core::operand_core::{Operand, ValueType};
 use go_literal_core::{KeyMark, Mode, element_target, literal_denotes, literal_mode, literal_rule};
 use go_local_core::Fault;
-use go_text_core::Span;
-use go_token_core::Operator;
+use go_tree_nodes::text_core::Span;
+use go_tree_nodes::token_core::Operator;
 use go_tree_nodes::{
     Expr, Ident, Item, Key, TextLiteral, TypeExpr, TypeName, type_name_start, type_start,
 };

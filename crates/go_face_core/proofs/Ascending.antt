@@ -3,7 +3,7 @@ use Rattle.std.proofs.Common.{◌≡◌, ℕ, ◌+◌, inl, inr, List, [], ◌�
 use Rattle.std.specs.Prelude.{⊤}
 use Rattle.std.specs.List.{flat_map, enumerate_from}
 use Rattle.std.proofs.lemmas.List.Elements.{All-head, All-tail}
-use Rattle.go_term_core.specs.decl_core.TopDecls.{TopDeclTree}
+use Rattle.go_entry_core.specs.decl_core.TopDecls.{TopDeclTree}
 use Rattle.go_handle_core.specs.table_core.Entries.{Entry}
 use Rattle.go_entry_core.specs.written_core.Written.{InFile, Meaning}
 use Rattle.go_entry_core.specs.Entries.{Meanings, file_at}

@@ -1,9 +1,9 @@
 -- Loops over the declarations of a package.
 use Rattle.std.proofs.Common.{◌≡◌, ℕ, ◌+◌, ◌<◌, List, [], ◌∷◌, ◌++◌, length, get_or, take, map, sym, ap, ◌∙◌, append_assoc}
 use Rattle.std.proofs.lemmas.List.{map-append, map_more}
-use Rattle.go_term_core.specs.decl_core.declared.tops.Outline.{Outline}
-use Rattle.go_term_core.specs.decl_core.declared.tops.TopDecl.{TopDecl}
-use Rattle.go_term_core.specs.decl_core.Shown.{decl_shown}
+use Rattle.go_entry_core.specs.decl_core.declared.tops.Outline.{Outline}
+use Rattle.go_entry_core.specs.decl_core.declared.tops.TopDecl.{TopDecl}
+use Rattle.go_entry_core.specs.decl_core.Shown.{decl_shown}
 use Rattle.go_handle_core.specs.table_core.Entries.{Entry}
 use Rattle.go_entry_core.specs.written_core.Written.{InFile, Meaning}
 use Rattle.go_entry_core.specs.Entries.{Meanings, file_at}

@@ -7,9 +7,9 @@ use Rattle.std.specs.declared.cmp.Ordering.{Ordering}
 use Rattle.std.specs.declared.cmp.Ordering.TheVariants.{Less, Equal, Greater}
 use Rattle.std.proofs.lemmas.Bool.{and_parts, and_from, or_cases, eqb-true, eq-eqb, ltb-true}
 use Rattle.std.proofs.lemmas.Cmp.{nat_cmp_total, on_total, then_total, ranked}
-use Rattle.go_term_core.specs.decl_core.declared.keys.DeclRef.{DeclRef}
+use Rattle.go_entry_core.specs.decl_core.declared.keys.DeclRef.{DeclRef}
 use Rattle.go_face_core.specs.Written.{same_decl_place, IsDeclBefore}
-use Rattle.go_term_core.specs.decl_core.Order.{place_cmp}
+use Rattle.go_entry_core.specs.decl_core.Order.{place_cmp}
 
 pub place_total : IsTotalOrder place_cmp
 place_total = then_total (on_total (λ d. d.file) nat_cmp_total) (on_total (λ d. d.number) nat_cmp_total)

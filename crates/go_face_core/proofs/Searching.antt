@@ -8,14 +8,14 @@ use Rattle.std.specs.declared.cmp.Ordering.TheVariants.{Less, Equal, Greater}
 use Rattle.std.proofs.lemmas.Bool.{cases_lt}
 use Rattle.std.proofs.lemmas.List.Sorted.{searchable_from_sorted}
 use Rattle.std.proofs.lemmas.Option.{slice_get_within, get_or_from_slice_get, slice_get-get_or}
-use Rattle.go_term_core.specs.decl_core.declared.keys.DeclRef.{DeclRef}
+use Rattle.go_entry_core.specs.decl_core.declared.keys.DeclRef.{DeclRef}
 use Rattle.go_face_core.specs.declared.shown.DeclaredFace.{DeclaredFace}
 use Rattle.go_face_core.specs.declared.written.WrittenDecl.{WrittenDecl}
 use Rattle.go_face_core.specs.Faces.{face_shown}
 use Rattle.go_face_core.specs.Held.{declared_shown, written_shown}
 use Rattle.go_face_core.specs.Packages.{decls_declared, face_among}
 use Rattle.go_face_core.specs.Written.{DeclsRise, decls_of, position_of, same_decl_place}
-use Rattle.go_term_core.specs.decl_core.Order.{place_cmp}
+use Rattle.go_entry_core.specs.decl_core.Order.{place_cmp}
 use Rattle.go_face_core.proofs.Placed.{place_total, same_equal, equal_same, before_less, not_less_back, less_apart}
 
 module _ {A : Type 0} (key : A → DeclRef) where

@@ -1,7 +1,7 @@
 -- The names of a package block as other packages see them.
 use Rattle.std.proofs.Common.{◌≡◌, ℕ, ◌+◌, ◌<◌, List, [], ◌∷◌, ◌++◌, length, get_or, take, map, Option, refl, sym, ap, ◌∙◌}
 use Rattle.std.proofs.lemmas.List.{map_more}
-use Rattle.go_term_core.specs.decl_core.declared.keys.DeclRef.{DeclRef}
+use Rattle.go_entry_core.specs.decl_core.declared.keys.DeclRef.{DeclRef}
 use Rattle.go_entry_core.specs.block_core.declared.exports.NamedDecl.{NamedDecl}
 use Rattle.go_entry_core.specs.block_core.Exports.{name_and_decl}
 use Rattle.go_entry_core.specs.block_core.Tables.{with_first}

@@ -2,7 +2,7 @@
 use Rattle.std.specs.Prelude.{◌≡◌, ℕ, true, false, List, Some, None, Contains}
 use Rattle.std.specs.Str.{chars}
 use Rattle.go_text_core.specs.Text.{exported}
-use Rattle.go_term_core.specs.decl_core.declared.keys.DeclRef.{DeclRef}
+use Rattle.go_entry_core.specs.decl_core.declared.keys.DeclRef.{DeclRef}
 use Rattle.go_entry_core.specs.block_core.Tables.{in_block}
 use Rattle.go_face_core.specs.declared.shown.ShownFace.TheVariants as shows
 use Rattle.go_face_core.specs.Packages.{DeclaredOf, PackageFacesModel, decls_declared, exported_in, face_among, face_by, face_in, names_seen, package_faces, shown_by, with_faces}

@@ -3,8 +3,8 @@ ghost use Rattle.std.specs.Prelude.{◌≡◌, ◌++◌, ◌∷◌, [], All, IfO
 ghost use Rattle.go_tree_nodes.specs.Shapes.{func_of, shape_value_spec};
 ghost use Rattle.go_tree_nodes.specs.declared.decls.ValueKind.TheVariants as value_kinds;
 ghost use Rattle.go_tree_nodes.specs.TypeShapes.{shape_signature};
-ghost use Rattle.go_term_core.specs.decl_core.Shown.{decl_shown, form_shown};
-ghost use Rattle.go_term_core.specs.decl_core.TopDecls.{FuncForm, TypeForm, ValueForm};
+ghost use Rattle.go_entry_core.specs.decl_core.Shown.{decl_shown, form_shown};
+ghost use Rattle.go_entry_core.specs.decl_core.TopDecls.{FuncForm, TypeForm, ValueForm};
 ghost use Rattle.go_entry_core.specs.written_core.Written.{in_file};
 ghost use Rattle.go_entry_core.specs.Entries.{package_meanings};
 ghost use Rattle.go_entry_core.specs.Outlines.{IsOutline, outline_shown};
@@ -14,12 +14,12 @@ ghost use Rattle.go_face_core.specs.Written.{DeclsRise, decls_of, file_written, 
 use crate::settling::{settled_signature, settled_type, typed};
 use crate::written::{WrittenDecl, WrittenFaces, WrittenForm};
 use go_entry_core::block_core::Blocks;
+use go_entry_core::decl_core::{DeclForm, DeclKey, DeclKind, DeclRef, Outline, TopDecl};
 use go_entry_core::written_core::{TypeNames, WrittenIn};
 use go_entry_core::{FileNames, ImportedNames};
+use go_handle_core::path_core::ImportPath;
 use go_handle_core::table_core::TypeTable;
-use go_path_core::ImportPath;
-use go_term_core::TypeTerm;
-use go_term_core::decl_core::{DeclForm, DeclKey, DeclKind, DeclRef, Outline, TopDecl};
+use go_handle_core::term_core::TypeTerm;
 use go_text_core::add;
 use go_tree_nodes::{ValueKind, ValueSpec};
 use std::alloc::{AllocError, Global};

@@ -9,9 +9,9 @@ use Rattle.go_tree_nodes.specs.declared.files.Receiver.{Receiver}
 use Rattle.go_tree_nodes.specs.declared.types.TypeName.{TypeName}
 use Rattle.go_tree_nodes.specs.Starts.{type_name_start}
 use Rattle.go_tree_nodes.specs.Trees.{FuncTree}
-use Rattle.go_term_core.specs.decl_core.TopDecls.{TopDeclTree, FormTree, ValueForm, TypeForm, FuncForm}
-use Rattle.go_term_core.specs.declared.term.MemberPlace.TheVariants as places
-use Rattle.go_term_core.specs.Terms.{Term, NoType, Predeclared, ErrorType, Defined, PointerTo, StructOf, InterfaceOf}
+use Rattle.go_embed_core.specs.decl_core.TopDecls.{TopDeclTree, FormTree, ValueForm, TypeForm, FuncForm}
+use Rattle.go_embed_core.specs.term_core.declared.term.MemberPlace.TheVariants as places
+use Rattle.go_embed_core.specs.term_core.Terms.{Term, NoType, Predeclared, ErrorType, Defined, PointerTo, StructOf, InterfaceOf}
 use Rattle.go_embed_core.specs.table_core.Entries.{Entry, find_entry, term_in}
 use Rattle.go_embed_core.specs.type_core.declared.build.TypeFault.{TypeFault}
 use Rattle.go_embed_core.specs.Faults.{term_faults, declared_faults, hidden_faults, can_be_base}

@@ -16,6 +16,11 @@ pub mod block_core {
     pub use go_entry_core::block_core::{Binding, BlockFault, Blocks, Imported, NamedDecl, Target};
 }
 
+/// What the crates above name of `go_decl_core`.
+pub mod decl_core {
+    pub use go_embed_core::decl_core::{DeclForm, DeclRef, Outline, TopDecl, place_order};
+}
+
 /// What the crates above name of `go_entry_core`.
 pub mod entry_core {
     pub use go_entry_core::{ImportedNames, outlines, type_entries};
@@ -24,6 +29,11 @@ pub mod entry_core {
 /// What the crates above name of `go_graph_core`.
 pub mod graph_core {
     pub use go_entry_core::graph_core::Package;
+}
+
+/// What the crates above name of `go_path_core`.
+pub mod path_core {
+    pub use go_path_core::ImportPath;
 }
 
 /// What the crates above name of `go_type_core`.

@@ -4,8 +4,8 @@ ghost use Rattle.go_entry_core.specs.Outlines.{outline_shown};
 ghost use Rattle.go_fault_core.specs.Places.{all_located, located, file_place_of};
 
 use go_embed_core::MemberFault;
-use go_term_core::MemberPlace;
-use go_term_core::decl_core::Outline;
+use go_embed_core::decl_core::Outline;
+use go_embed_core::term_core::MemberPlace;
 use go_text_core::Rule;
 use std::alloc::{AllocError, Global};
 

@@ -9,7 +9,7 @@ use Rattle.go_tree_nodes.specs.declared.decls.ValueKind.{ValueKind}
 use Rattle.go_tree_nodes.specs.declared.decls.ValueKind.TheVariants as kinds
 use Rattle.go_tree_nodes.specs.Trees.{Separated, One, Then, TypeTree, ExprTree, ValueSpecTree, TypeSpecTree, Specs, Single, Group, ValueTree, TypeDeclTree, of_specs}
 use Rattle.go_tree_nodes.specs.WrittenTypes.{expr_types, exprs_types, values_types, some_type, spec_types, specs_types}
-use Rattle.go_term_core.specs.Terms.{Term, Sign}
+use Rattle.go_func_core.specs.term_core.Terms.{Term, Sign}
 use Rattle.go_func_core.specs.handle_core.Declarations.{Declaration}
 use Rattle.go_top_core.specs.local_core.Steps.{Spec, Condition}
 use Rattle.go_top_core.specs.denote_core.declared.things.Stand.TheVariants as stands

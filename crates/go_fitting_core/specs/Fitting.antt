@@ -7,11 +7,11 @@ use Rattle.go_text_core.specs.Text.{is_blank}
 use Rattle.go_tree_nodes.specs.declared.usage.Usage.{Usage}
 use Rattle.go_decl_core.specs.declared.keys.DeclRef.{DeclRef}
 use Rattle.go_decl_core.specs.declared.keys.DeclKey.{DeclKey}
-use Rattle.go_block_core.specs.declared.binding.Target.{Target}
-use Rattle.go_block_core.specs.declared.binding.Target.TheVariants as targets
+use Rattle.go_context_core.specs.block_core.declared.binding.Target.{Target}
+use Rattle.go_context_core.specs.block_core.declared.binding.Target.TheVariants as targets
 use Rattle.go_open_core.specs.Blocks.{found_in, names_in}
-use Rattle.go_scope_core.specs.Models.{ScopesModel}
-use Rattle.go_scope_core.specs.Scopes.{Denoted, Universe, Package, File, Local, scope_blocks}
+use Rattle.go_context_core.specs.scope_core.Models.{ScopesModel}
+use Rattle.go_context_core.specs.scope_core.Scopes.{Denoted, Universe, Package, File, Local, scope_blocks}
 use Rattle.go_denote_core.specs.declared.things.Stand.{Stand}
 use Rattle.go_denote_core.specs.Selectors.{usage_place}
 use Rattle.go_context_core.specs.declared.things.Thing.{Thing}

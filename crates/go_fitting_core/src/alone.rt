@@ -2,9 +2,9 @@
 ghost use Rattle.std.specs.Prelude.{◌≡◌, ◌↔◌, ℕ, List, true, Contains, IfOk, IfErr, filter, map, string_bytes};
 ghost use Rattle.std.specs.List.Sorted.{IsStrictlySortedBy};
 ghost use Rattle.std.specs.Option.{option_map};
-ghost use Rattle.go_block_core.specs.graph_core.Workspaces.{by_bytes};
+ghost use Rattle.go_context_core.specs.graph_core.Workspaces.{by_bytes};
 ghost use Rattle.go_open_core.specs.Blocks.{found_in};
-ghost use Rattle.go_scope_core.specs.Scopes.{denoted_of, scope_blocks};
+ghost use Rattle.go_context_core.specs.scope_core.Scopes.{denoted_of, scope_blocks};
 ghost use Rattle.go_shown_core.specs.Shown.{texts};
 ghost use Rattle.go_shown_core.specs.summary_core.Views.{faces_told};
 ghost use Rattle.go_fitting_core.specs.Fitting as fitting;
@@ -12,12 +12,12 @@ ghost use Rattle.go_fitting_core.specs.mirrors.Steps.{key_of_target, key_at};
 
 use crate::listing::{in_order, owned};
 use crate::things::exported_fits;
-use go_block_core::Target;
+use go_context_core::block_core::Target;
+use go_context_core::scope_core::{InScope, Scopes};
 use go_context_core::stands_alone;
 use go_decl_core::DeclKey;
 use go_denote_core::Stand;
 use go_path_core::ImportPath;
-use go_scope_core::{InScope, Scopes};
 use go_shown_core::summary_core::ReachedSummaries;
 use go_text_core::{Rule, is_blank};
 use std::alloc::{AllocError, Global};

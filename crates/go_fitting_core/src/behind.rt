@@ -1,7 +1,7 @@
 //! The names that fit behind the name of a package.
 ghost use Rattle.std.specs.Prelude.{◌≡◌, ◌↔◌, ℕ, List, true, All, Contains, IfOk, IfErr, filter, map, string_bytes};
 ghost use Rattle.std.specs.List.Sorted.{IsStrictlySortedBy};
-ghost use Rattle.go_block_core.specs.graph_core.Workspaces.{by_bytes};
+ghost use Rattle.go_context_core.specs.graph_core.Workspaces.{by_bytes};
 ghost use Rattle.go_open_core.specs.Blocks.{names_in};
 ghost use Rattle.go_denote_core.specs.Selectors as selectors;
 ghost use Rattle.go_shown_core.specs.Shown.{texts};

@@ -10,3 +10,18 @@ mod things;
 
 pub use alone::{fits_alone, names_alone, package_named};
 pub use behind::names_behind;
+
+/// What the crates above name of `go_context_core`.
+pub mod context_core {
+    pub use go_context_core::scopes_with;
+}
+
+/// What the crates above name of `go_shown_core`.
+pub mod shown_core {
+    pub use go_shown_core::{deps_shown, imports_shown};
+}
+
+/// What the crates above name of `go_summary_core`.
+pub mod summary_core {
+    pub use go_shown_core::summary_core::ReachedSummaries;
+}

@@ -1,7 +1,7 @@
 //! Names in byte order.
 ghost use Rattle.std.specs.Prelude.{◌≡◌, ◌↔◌, ℕ, List, Contains, IfOk, map, string_bytes};
 ghost use Rattle.std.specs.List.Sorted.{IsStrictlySortedBy};
-ghost use Rattle.go_block_core.specs.graph_core.Workspaces.{by_bytes};
+ghost use Rattle.go_context_core.specs.graph_core.Workspaces.{by_bytes};
 ghost use Rattle.go_shown_core.specs.Shown.{texts};
 
 use std::alloc::{AllocError, Global};

@@ -5,3 +5,4 @@ pub mod Names
 pub mod Operators
 pub mod Slots
 pub mod mirrors
+pub mod tree_nodes

@@ -17,4 +17,6 @@ pub mod local_core
 pub mod names_core
 pub mod scope_core
 pub mod settle_core
+pub mod term_core
 pub mod tree_core
+pub mod written_core

@@ -1,2 +1,3 @@
 -- What the crates above name of go_scope_core.
+pub use Rattle.go_body_core.specs.scope_core.Laws as Laws
 pub use Rattle.go_body_core.specs.scope_core.Models as Models

@@ -13,7 +13,7 @@ pub use laws::{
 
 /// What the crates above name of `go_block_core`.
 pub mod block_core {
-    pub use go_body_core::block_core::{Imported, import_specs};
+    pub use go_body_core::block_core::{Blocks, Imported, import_specs};
 }
 
 /// What the crates above name of `go_body_core`.
@@ -21,19 +21,24 @@ pub mod body_core {
     pub use go_body_core::{BodyUse, Local, check_body};
 }
 
+/// What the crates above name of `go_decl_core`.
+pub mod decl_core {
+    pub use go_body_core::decl_core::Places;
+}
+
 /// What the crates above name of `go_entry_core`.
 pub mod entry_core {
-    pub use go_body_core::entry_core::{ImportedNames, outlines};
+    pub use go_body_core::entry_core::{FileNames, ImportedNames, ShownPackages, outlines};
 }
 
 /// What the crates above name of `go_env_core`.
 pub mod env_core {
-    pub use go_body_core::env_core::{Meaning, Scene, outer_names, stand};
+    pub use go_body_core::env_core::{Here, Meaning, Scene, outer_names, stand};
 }
 
 /// What the crates above name of `go_face_core`.
 pub mod face_core {
-    pub use go_body_core::face_core::{Face, FaceTable, WrittenFaces, written_faces};
+    pub use go_body_core::face_core::{Face, FaceTable, WrittenFaces, lend, written_faces};
 }
 
 /// What the crates above name of `go_handle_core`.
@@ -64,4 +69,9 @@ pub mod select_core {
 /// What the crates above name of `go_tree_core`.
 pub mod tree_core {
     pub use go_body_core::tree_core::Role;
+}
+
+/// What the crates above name of `go_written_core`.
+pub mod written_core {
+    pub use go_body_core::written_core::{TypeNames, WrittenIn, write_type};
 }

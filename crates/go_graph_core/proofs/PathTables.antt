@@ -10,7 +10,7 @@ use Rattle.std.proofs.lemmas.List.{take_more, map-append, length-map}
 use Rattle.std.proofs.lemmas.Map.Keys.{sorted_tail}
 use Rattle.std.proofs.lemmas.Slice.Eq.{bytes_eq-Decides}
 use lib.Dec.{ltb}
-use Rattle.go_text_core.proofs.Each.{true_or_false}
+use Rattle.go_path_core.specs.text_core.Each.{true_or_false}
 use Rattle.go_graph_core.specs.Workspaces.{PackageModel, by_bytes}
 use Rattle.go_graph_core.proofs.Places.{IsOrdered, same_text, path_below}
 

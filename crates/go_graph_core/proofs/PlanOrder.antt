@@ -13,7 +13,7 @@ use Rattle.std.proofs.lemmas.List.Sorted.{Contains-permutation}
 use Rattle.std.proofs.lemmas.Map.Keys.{IsDistinct-from_apart, IsDistinct-IsPermutation}
 use Rattle.std.proofs.lemmas.Map.Made.{AllPairs-from_IsDistinct, IsDistinct-from_AllPairs}
 use Rattle.std.proofs.lemmas.Option.{slice_get_within}
-use Rattle.go_text_core.proofs.Each.{true_or_false}
+use Rattle.go_path_core.specs.text_core.Each.{true_or_false}
 use Rattle.go_reach_core.specs.cycle_core.declared.edge.Edge.{Edge}
 use Rattle.go_reach_core.specs.cycle_core.Cycle.{IsOnCycle, IsAfter}
 use Rattle.go_graph_core.specs.declared.imports.Standing.{Standing}

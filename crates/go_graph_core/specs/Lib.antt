@@ -7,3 +7,4 @@ pub mod Sources
 pub mod Workspaces
 pub mod mirrors
 pub mod parse_core
+pub mod token_core

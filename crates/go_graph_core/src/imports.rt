@@ -2,9 +2,9 @@
 ghost use Rattle.std.specs.Prelude.{◌≡◌, IfOk, OnOk, OnErr};
 ghost use Rattle.std.specs.List.{AllZip};
 ghost use Rattle.std.specs.Map.{keys_of};
-ghost use Rattle.go_token_core.specs.Values.{IsPlain};
-ghost use Rattle.go_tree_nodes.specs.Shapes.{shape_import_specs};
-ghost use Rattle.go_tree_nodes.specs.Terminals.{value_of};
+ghost use Rattle.go_parse_core.specs.token_core.Values.{IsPlain};
+ghost use Rattle.go_parse_core.specs.tree_nodes.Shapes.{shape_import_specs};
+ghost use Rattle.go_parse_core.specs.tree_nodes.Terminals.{value_of};
 ghost use Rattle.go_graph_core.specs.Workspaces.{IsWorkspace};
 ghost use Rattle.go_graph_core.specs.Imports.{import_texts, texts_in, IsTarget};
 ghost use Rattle.go_graph_core.specs.mirrors.Targets.{IsStanding, HaveStandings, Adds, AreTargets, ArePackageTargets};
@@ -14,9 +14,9 @@ use crate::path_table::PathTable;
 use crate::source::SourceFile;
 use crate::workspace::PackageSource;
 use go_parse_core::parse_types::add;
+use go_parse_core::tree_nodes::{ImportSpec, ImportSpecs};
+use go_path_core::text_core::Rule;
 use go_path_core::{ImportPath, PathText, may_import_text};
-use go_text_core::Rule;
-use go_tree_nodes::{ImportSpec, ImportSpecs};
 use std::alloc::{AllocError, Global};
 use std::str;
 

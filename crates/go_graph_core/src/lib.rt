@@ -29,3 +29,8 @@ pub use workspace::{PackageSource, Workspace};
 pub mod parse_types {
     pub use go_parse_core::parse_types::add;
 }
+
+/// What the crates above name of `go_token_core`.
+pub mod token_core {
+    pub use go_parse_core::token_core::{KEYWORDS, characters_of};
+}

@@ -7,9 +7,9 @@ ghost use Rattle.go_graph_core.specs.mirrors.Targets.{IsSettled, AreSettled, Are
 
 use crate::imports::{ImportAt, ImportOutcome, Standing, standings, targets};
 use crate::workspace::Workspace;
+use go_path_core::text_core::Rule;
 use go_reach_core::cycle_core::{Edge, Ranked, rank_and_order};
 use go_reach_core::{Reached, find_reached, starts_of};
-use go_text_core::Rule;
 use std::alloc::{AllocError, Global};
 use std::marker::Model;
 use std::sync::Arc;

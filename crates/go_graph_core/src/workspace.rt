@@ -9,8 +9,8 @@ ghost use Rattle.go_graph_core.specs.Workspaces.{by_bytes, names_of_files, IsWor
 
 use crate::source::SourceFile;
 use go_parse_core::parse_types::add;
+use go_path_core::text_core::Rule;
 use go_path_core::{ImportPath, Module};
-use go_text_core::Rule;
 use std::alloc::{AllocError, Global};
 use std::marker::Model;
 use std::sync::Arc;

@@ -1,8 +1,8 @@
 -- Answers from the last batch of a board.
-use Rattle.std.proofs.Common.{◌≡◌, ◌⊎◌, ℕ, true, false, List, Result, Ok, Err, Some, length, inl, inr, sym, subst}
+use Rattle.std.proofs.Common.{◌≡◌, ℕ, true, List, Result, Ok, Err, Some, length, inr, subst}
 use Rattle.go_text_core.specs.declared.rule.Rule.{Rule}
 use Rattle.go_graph_core.specs.Workspaces.{is_path_inside}
-use Rattle.go_query_core.specs.snap_core.Snapshots.{SnapshotModel}
+use Rattle.go_type_doc_core.specs.snap_core.Snapshots.{SnapshotModel}
 use Rattle.go_hall_core.specs.submit_core.Published.{BeginsWith, IsOneWorker, last_of, sources_of}
 use Rattle.go_hall_core.specs.submit_core.declared.published.PublishedBatch.{PublishedBatch}
 use Rattle.go_hall.specs.Asked.{BeginsTold, IsAnswer, IsLastAnswer}

@@ -1,5 +1,5 @@
 -- What an edit changes, in the words of files and texts.
-use Rattle.std.proofs.Common.{◌≡◌, ◌≢◌, ◌⊎◌, ℕ, zero, suc, ◌<◌, Bool, true, false, not, cond, inl, inr, ⊎_elim, List, [], ◌∷◌, ◌++◌, length, map, Option, Some, None, refl, sym, ap, ◌∙◌, subst, arith, All}
+use Rattle.std.proofs.Common.{◌≡◌, ◌≢◌, ◌⊎◌, ℕ, zero, suc, ◌<◌, Bool, true, false, not, cond, inl, inr, ⊎_elim, List, [], ◌∷◌, map, Option, Some, None, refl, sym, ap, ◌∙◌, subst, arith, All}
 use Rattle.std.specs.Prelude.{◌↔◌, Contains, slice_index_or}
 use Rattle.std.specs.Str.{bytes_eq}
 use Rattle.std.proofs.lemmas.List.Elements.{All-contains, All-map, Contains-append_cases, Contains-append_left, Contains-append_right, filter_passes}
@@ -7,9 +7,9 @@ use Rattle.std.proofs.lemmas.List.Sorted.{Contains-permutation, IsPermutation-sy
 use Rattle.std.proofs.lemmas.Slice.Eq.{bytes_eq-Decides}
 use Rattle.go_text_core.proofs.Each.{true_or_false}
 use Rattle.go_graph_core.specs.Sources.{SourceModel}
-use Rattle.go_graph_core.specs.Workspaces.{PackageModel, Puts, files_at, put_files}
+use Rattle.go_graph_core.specs.Workspaces.{PackageModel, files_at, put_files}
 use Rattle.go_hall.specs.Edits.{IsEdited, edited_texts, files_or_none, other_files, text_there, texts_of}
-use Rattle.go_hall.specs.Laws.{ChangesOneFile, EditsChangeOneFile, HasText}
+use Rattle.go_hall.specs.Laws.{EditsChangeOneFile, HasText}
 
 abbrev Text : Type 0
 Text = List ℕ × List ℕ

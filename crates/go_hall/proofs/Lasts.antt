@@ -1,10 +1,10 @@
 -- The batches of a board by their numbers.
-use Rattle.std.proofs.Common.{◌≡◌, ℕ, ◌+◌, ◌-◌, ◌<◌, ◌≤◌, List, [], Option, Some, None, Bor, length, take, refl, sym, ap, ◌∙◌, subst, arith}
+use Rattle.std.proofs.Common.{◌≡◌, ℕ, ◌-◌, ◌<◌, ◌≤◌, List, [], Option, Some, None, Bor, length, take, sym, ap, ◌∙◌, subst, arith}
 use Rattle.std.specs.Prelude.{MatchOption, ⊤, slice_get}
 use Rattle.std.specs.Option.{option_copied}
 use Rattle.go_graph_core.specs.Workspaces.{PackageModel, packages_inside}
-use Rattle.go_query_core.specs.snap_core.Snapshots.{SnapshotModel}
-use Rattle.go_query_core.specs.snap_core.declared.fault.PlacedFault.{PlacedFault}
+use Rattle.go_type_doc_core.specs.snap_core.Snapshots.{SnapshotModel}
+use Rattle.go_type_doc_core.specs.snap_core.declared.fault.PlacedFault.{PlacedFault}
 use Rattle.go_hall_core.specs.submit_core.Published.{AreSound, IsOneWorker, last_of, sources_of}
 use Rattle.go_hall_core.specs.submit_core.Trees.{TreeModel}
 use Rattle.go_hall_core.specs.submit_core.declared.published.PublishedBatch.{PublishedBatch}

@@ -1,12 +1,12 @@
 -- One more fault of a workspace is looked at.
-use Rattle.std.proofs.Common.{◌≡◌, ℕ, ◌+◌, ◌<◌, List, [], ◌∷◌, ◌++◌, length, take, get_or, Option, Some, None, refl, sym, ap, ◌∙◌, append-nil}
+use Rattle.std.proofs.Common.{◌≡◌, ℕ, ◌+◌, ◌<◌, List, [], ◌∷◌, ◌++◌, length, take, get_or, Option, Some, None, sym, ap, ◌∙◌, append-nil}
 use Rattle.std.specs.Prelude.{slice_get}
 use Rattle.std.specs.List.{filter_map}
 use Rattle.std.proofs.lemmas.List.{take_more}
 use Rattle.std.proofs.lemmas.List.Elements.{filter_map-append}
 use Rattle.std.proofs.lemmas.Option.{get_or_from_slice_get}
 use Rattle.go_graph_core.specs.Workspaces.{PackageModel}
-use Rattle.go_query_core.specs.snap_core.declared.fault.PlacedFault.{PlacedFault}
+use Rattle.go_type_doc_core.specs.snap_core.declared.fault.PlacedFault.{PlacedFault}
 use Rattle.go_hall.specs.Built.{faults_inside, named_of}
 use Rattle.go_hall.specs.declared.faults.Fault.{Fault}
 use Rattle.go_hall.specs.mirrors.Adding.{with_some}

@@ -4,8 +4,8 @@ use Rattle.go_text_core.specs.declared.rule.Rule.{Rule}
 use Rattle.go_text_core.specs.declared.rule.Rule.TheVariants.{M0, Q1, Q4}
 use Rattle.go_path_core.specs.Path.{IsPath}
 use Rattle.go_graph_core.specs.Workspaces.{is_path_inside}
-use Rattle.go_query_core.specs.part_core.Parts.{PartModel}
-use Rattle.go_query_core.specs.snap_core.Snapshots.{IsPartAt, SnapshotModel}
+use Rattle.go_hall_core.specs.part_core.Parts.{PartModel}
+use Rattle.go_type_doc_core.specs.snap_core.Snapshots.{IsPartAt, SnapshotModel}
 use Rattle.go_hall_core.specs.submit_core.Published.{BeginsWith, IsOneWorker, last_of, sources_of}
 use Rattle.go_hall_core.specs.submit_core.declared.published.PublishedBatch.{PublishedBatch}
 

@@ -1,11 +1,10 @@
 -- What a build answers.
-use Rattle.std.specs.Prelude.{◌≡◌, ◌≤◌, ℕ, if◌then◌else◌, List, map, length, take, Option, Some, None, slice_get}
+use Rattle.std.specs.Prelude.{◌≡◌, ◌≤◌, ℕ, if◌then◌else◌, List, length, take, Option, Some, None, slice_get}
 use Rattle.std.specs.List.{filter_map}
-use Rattle.go_text_core.specs.declared.rule.Rule.{Rule}
 use Rattle.go_graph_core.specs.Sources.{SourceModel}
 use Rattle.go_graph_core.specs.Workspaces.{PackageModel, is_path_inside, packages_inside}
-use Rattle.go_query_core.specs.snap_core.declared.fault.PlacedFault.{PlacedFault}
-use Rattle.go_query_core.specs.snap_core.Snapshots.{SnapshotModel}
+use Rattle.go_type_doc_core.specs.snap_core.declared.fault.PlacedFault.{PlacedFault}
+use Rattle.go_type_doc_core.specs.snap_core.Snapshots.{SnapshotModel}
 use Rattle.go_hall_core.specs.submit_core.Published.{IsOneWorker, sources_of}
 use Rattle.go_hall_core.specs.submit_core.Trees.{TreeModel}
 use Rattle.go_hall_core.specs.submit_core.declared.published.PublishedBatch.{PublishedBatch}

@@ -10,6 +10,7 @@ pub mod mirrors
 pub mod batch_core
 pub mod board_core
 pub mod hall_core
+pub mod member_core
 pub mod query_core
 pub mod sched_core
 pub mod shown_core
@@ -17,3 +18,4 @@ pub mod snap_core
 pub mod submit_core
 pub mod symbol_core
 pub mod thread_core_lemmas
+pub mod type_doc_core

@@ -1,21 +1,22 @@
 -- What sessions ask beside parts: listings, docs and definitions, by the snapshot of the last batch.
-use Rattle.std.specs.Prelude.{◌≡◌, ◌⊎◌, ℕ, List, Result, Ok, Err, Option, string_bytes}
-use Rattle.std.specs.Option.{option_map}
+use Rattle.std.specs.Prelude.{◌≡◌, ◌⊎◌, ℕ, List, Result, Ok, Err, string_bytes}
 use Rattle.std.specs.declared.alloc.Global.{Global}
 use Rattle.std.specs.declared.string.String.{String}
 use Rattle.std.specs.declared.vec.Vec.{Vec}
-use Rattle.go_query_core.specs.place_core.Completions.{texts_of}
-use Rattle.go_query_core.specs.Completing.{IsCompletion, IsUnasked}
+use Rattle.go_type_doc_core.specs.place_core.Completions.{texts_of}
+use Rattle.go_type_doc_core.specs.query_core.Completing.{IsCompletion, IsUnasked}
 use Rattle.go_text_core.specs.declared.rule.Rule.{Rule}
 use Rattle.go_text_core.specs.declared.rule.Rule.TheVariants.{M0, Q1}
 use Rattle.go_site_core.specs.handle_core.Declarations.{Declaration}
 use Rattle.go_site_core.specs.Sites.{site_text}
-use Rattle.go_query_core.specs.snap_core.Snapshots.{SnapshotModel}
-use Rattle.go_query_core.specs.Defining.{HasNoPart, IsDefinition, IsRefusal}
-use Rattle.go_query_core.specs.Documenting.{IsDoc, IsDocRefusal, doc_shown}
-use Rattle.go_query_core.specs.Listing.{IsListing}
-use Rattle.go_query_core.specs.declared.documenting.PackageDoc.{PackageDoc}
-use Rattle.go_query_core.specs.declared.listing.Listing.{Listing}
+use Rattle.go_type_doc_core.specs.snap_core.Snapshots.{SnapshotModel}
+use Rattle.go_type_doc_core.specs.query_core.Defining.{HasNoPart, IsDefinition, IsRefusal}
+use Rattle.go_type_doc_core.specs.query_core.Documenting.{IsDoc, IsDocRefusal, doc_shown}
+use Rattle.go_type_doc_core.specs.query_core.Listing.{IsListing}
+use Rattle.go_type_doc_core.specs.query_core.declared.documenting.PackageDoc.{PackageDoc}
+use Rattle.go_type_doc_core.specs.query_core.declared.listing.Listing.{Listing}
+use Rattle.go_type_doc_core.specs.TypeDocs.{IsTypeDoc, IsTypeDocRefusal, type_doc_shown}
+use Rattle.go_type_doc_core.specs.declared.telling.TypeDoc.{TypeDoc}
 
 -- the package of a path, and those that it could import
 abbrev pub IsListAnswer : List ℕ → SnapshotModel → Result Listing Rule → Type 0
@@ -33,6 +34,11 @@ IsDefineAnswer path file offset s (Ok text) = (site : Declaration) × IsDefiniti
 IsDefineAnswer path file offset s (Err rule) = (rule ≡ M0) ⊎ IsRefusal s path file offset rule
 
 -- the names that may stand in the place of the identifier at an offset of a file
-abbrev pub IsCompleteAnswer : List ℕ → List ℕ → ℕ → SnapshotModel → Result (Option (Vec (String Global) Global)) Rule → Type 0
-IsCompleteAnswer path file offset s (Ok names) = IsCompletion s path file offset (option_map texts_of names)
+abbrev pub IsCompleteAnswer : List ℕ → List ℕ → ℕ → SnapshotModel → Result (Vec (String Global) Global) Rule → Type 0
+IsCompleteAnswer path file offset s (Ok names) = IsCompletion s path file offset (texts_of names)
 IsCompleteAnswer path file offset s (Err rule) = (rule ≡ M0) ⊎ IsUnasked s path file offset rule
+
+-- what a variable of a type has, as the package `from` sees it
+abbrev pub IsTypeDocAnswer : List ℕ → List ℕ → List ℕ → SnapshotModel → Result TypeDoc Rule → Type 0
+IsTypeDocAnswer from path type_name s (Ok d) = IsTypeDoc s from path type_name (type_doc_shown d)
+IsTypeDocAnswer from path type_name s (Err rule) = (rule ≡ M0) ⊎ IsTypeDocRefusal s from path type_name rule

@@ -1,20 +1,21 @@
 //! What sessions ask of a board that they have entered.
-ghost use Rattle.std.specs.Prelude.{◌≡◌, ◌⊎◌, [], IfErr, IfOk, Some, length};
+ghost use Rattle.std.specs.Prelude.{◌≡◌, [], IfErr, IfOk, Some, length};
 ghost use Rattle.go_hall_core.specs.submit_core.Published.{IsOneWorker, last_of, sources_of};
 ghost use Rattle.go_hall_core.specs.submit_core.declared.published.PublishedBatch.{PublishedBatch};
 ghost use Rattle.go_hall.specs.Asked.{IsAnswer, IsPartAnswer};
-ghost use Rattle.go_hall.specs.Queries.{IsCompleteAnswer, IsDefineAnswer, IsDocAnswer, IsListAnswer};
+ghost use Rattle.go_hall.specs.Queries.{IsCompleteAnswer, IsDefineAnswer, IsDocAnswer, IsListAnswer, IsTypeDocAnswer};
 ghost use Rattle.go_hall.specs.Seat.{looked_with};
 
 use crate::places::asked_path;
 use crate::shown::last_batch;
 use go_hall_core::board_core::Board;
+use go_hall_core::part_core::Part;
 use go_path_core::{ImportPath, Module};
-use go_query_core::part_core::Part;
-use go_query_core::snap_core::Snapshot;
-use go_query_core::{Listing, PackageDoc, complete, define, doc, list};
 use go_site_core::site_text_of;
 use go_text_core::Rule;
+use go_type_doc_core::query_core::{Listing, PackageDoc, complete, define, doc, list};
+use go_type_doc_core::snap_core::Snapshot;
+use go_type_doc_core::{TypeDoc, doc_of_type};
 use std::alloc::Global;
 use std::marker::Model;
 
@@ -93,11 +94,27 @@ fn completed(
     path: &ImportPath,
     file: &str,
     offset: usize,
-) -> Result<Option<Vec<String>>, Rule>
+) -> Result<Vec<String>, Rule>
     ensures { IsCompleteAnswer path.now file.now offset snapshot.now result }
 {
     match complete(alloc, snapshot, path, file, offset) {
         Ok(names) => Ok(names),
+        Err(rule) => Err(rule),
+    }
+}
+
+// What a variable of a type has, as the package `from` sees it.
+fn type_documented<'s>(
+    alloc: Global,
+    snapshot: &'s Snapshot,
+    from: &ImportPath,
+    path: &str,
+    type_name: &str,
+) -> Result<TypeDoc<'s>, Rule>
+    ensures { IsTypeDocAnswer from.now path.now type_name.now snapshot.now result }
+{
+    match doc_of_type(alloc, snapshot, from, path, type_name) {
+        Ok(found) => Ok(found),
         Err(rule) => Err(rule),
     }
 }
@@ -220,7 +237,7 @@ impl Look {
     }
 
     /// The names that may stand in the place of the identifier at an offset of a file, in bytes from 0, in byte order, by the last batch, with the number
-    /// of batches that this covers. None where the identifier stands behind a value, or is a key of a composite literal.
+    /// of batches that this covers.
     ///
     /// # Errors
     ///
@@ -233,13 +250,38 @@ impl Look {
         path: &str,
         file: &str,
         offset: u64,
-    ) -> Result<(u64, Option<Vec<String>>), Rule>
+    ) -> Result<(u64, Vec<String>), Rule>
         ensures { IsAnswer self.now.own path.now self.now.board (IsCompleteAnswer path.now file.now offset) result }
     {
         let path = asked_path(alloc, &self.own, path)?;
         let snapshot = last_snapshot(&self.board)?;
         match completed(alloc, snapshot, &path, file, offset as usize) {
             Ok(names) => Ok((self.batches(), names)),
+            Err(rule) => Err(rule),
+        }
+    }
+
+    /// What a variable of a type of the package of a path has, as the package `from` sees it, by the last batch, with the number of batches that this
+    /// covers.
+    ///
+    /// # Errors
+    ///
+    /// `Rule::Q4` where `from` lies outside the module; `Rule::Q1` where no assembled package has it; else the first rule that an import of the path, or
+    /// then the type's name, would break there. `Rule::M0` where memory is wanting.
+    #[tactic(auto, using(crate::proofs::Answered::answers, crate::proofs::Answered::refuses))]
+    pub fn doc_of_type(
+        &self,
+        alloc: Global,
+        from: &str,
+        path: &str,
+        type_name: &str,
+    ) -> Result<(u64, TypeDoc<'_>), Rule>
+        ensures { IsAnswer self.now.own from.now self.now.board (IsTypeDocAnswer from.now path.now type_name.now) result }
+    {
+        let from = asked_path(alloc, &self.own, from)?;
+        let snapshot = last_snapshot(&self.board)?;
+        match type_documented(alloc, snapshot, &from, path, type_name) {
+            Ok(found) => Ok((self.batches(), found)),
             Err(rule) => Err(rule),
         }
     }

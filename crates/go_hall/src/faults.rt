@@ -6,8 +6,8 @@ ghost use Rattle.go_hall.specs.mirrors.Adding.{with_some};
 use crate::places::lies_inside;
 use go_graph_core::PackageSource;
 use go_path_core::{ImportPath, Module};
-use go_query_core::snap_core::PlacedFault;
 use go_text_core::{Name, Rule, add};
+use go_type_doc_core::snap_core::PlacedFault;
 use std::alloc::{AllocError, Global};
 
 /// A rule that is broken at a place of a module.

@@ -10,8 +10,8 @@ use go_graph_core::PackageSource;
 use go_hall_core::board_core::Board;
 use go_hall_core::submit_core::{ModuleTree, PublishedBatch};
 use go_path_core::Module;
-use go_query_core::snap_core::Snapshot;
 use go_text_core::Rule;
+use go_type_doc_core::snap_core::Snapshot;
 use std::alloc::{AllocError, Global};
 
 /// Whether the packages that lie inside a module are these, in their order.

@@ -21,6 +21,11 @@ pub mod board_core {
     pub use go_board_core::{Board, BoardReader, Sees};
 }
 
+/// What the crates above name of `go_part_core`.
+pub mod part_core {
+    pub use go_board_core::part_core::Part;
+}
+
 /// What the crates above name of `go_sched_core`.
 pub mod sched_core {
     pub use go_board_core::sched_core::{Action, Event, Reply, SessionId, TicketState};

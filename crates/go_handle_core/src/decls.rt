@@ -4,9 +4,9 @@ ghost use Rattle.go_handle_core.specs.Declarations.{site_shown, declaration_foun
 ghost use Rattle.go_decide_core.specs.embed_core.OwnersShown.{found_shown};
 
 use crate::inside::member_site;
+use go_decide_core::path_core::ImportPath;
 use go_decide_core::select_core::Member;
-use go_path_core::ImportPath;
-use go_term_core::MemberPlace;
+use go_decide_core::term_core::MemberPlace;
 use go_universe_core::Predeclared;
 use std::marker::Model;
 

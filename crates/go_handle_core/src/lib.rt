@@ -36,6 +36,11 @@ pub mod operand_core {
     pub use go_decide_core::operand_core::{Operand, ValueType};
 }
 
+/// What the crates above name of `go_path_core`.
+pub mod path_core {
+    pub use go_decide_core::path_core::ImportPath;
+}
+
 /// What the crates above name of `go_select_core`.
 pub mod select_core {
     pub use go_decide_core::select_core::EmbedPath;
@@ -49,4 +54,9 @@ pub mod settle_core {
 /// What the crates above name of `go_table_core`.
 pub mod table_core {
     pub use go_decide_core::table_core::{DeclaredMethod, DefinedType, PackageTypes, TypeTable};
+}
+
+/// What the crates above name of `go_term_core`.
+pub mod term_core {
+    pub use go_decide_core::term_core::{Signature, TypeTerm, copy, copy_signature, is_no_type};
 }

@@ -10,9 +10,9 @@ use crate::home::Home;
 use crate::signatures::{SignatureRef, typed};
 use crate::types::TypeRef;
 use go_decide_core::denote_core::Selection;
+use go_decide_core::path_core::ImportPath;
 use go_decide_core::select_core::{EmbedPath, Member, Selected, select, select_behind_pointer};
 use go_decide_core::table_core::TypeTable;
-use go_path_core::ImportPath;
 use go_text_core::Rule;
 use std::alloc::{AllocError, Global};
 

@@ -7,7 +7,7 @@ use Rattle.go_tree_nodes.specs.declared.decls.ValueKind.{ValueKind}
 use Rattle.go_tree_nodes.specs.Trees as tree
 use Rattle.go_tree_nodes.specs.Trees.{TypeTree, ExprTree, ValueSpecTree, Specs, Single, Group, SimpleTree, Alone, Step, Assign, Update, Define, IfTree, ForTree, Forever, While, Clauses, StmtTree, BranchTree, ElseTree, Lines, Empty, Simple, Return, Break, Continue, Block, If, For, Branch, NoElse, ElseBlock, ElseIf, NoLines, Line, FuncTree}
 use Rattle.go_tree_nodes.specs.WrittenTypes.{expr_types, spec_types, specs_types, simple_types, some_expr_types}
-use Rattle.go_term_core.specs.decl_core.declared.keys.DeclKey.{DeclKey}
+use Rattle.go_embed_core.specs.decl_core.declared.keys.DeclKey.{DeclKey}
 use Rattle.go_embed_core.specs.settle_core.declared.kind.Kind.{Kind}
 use Rattle.go_entry_core.specs.written_core.Written.{InFile, Meaning}
 use Rattle.go_names_core.specs.local_core.Steps.{Steps, Done, Check, Declare, Inner}

@@ -7,6 +7,7 @@ pub mod Types
 pub mod codes
 pub mod mirrors
 pub mod block_core
+pub mod decl_core
 pub mod embed_core
 pub mod entry_core
 pub mod names_core

@@ -26,6 +26,11 @@ pub mod block_core {
     pub use go_names_core::block_core::{Binding, Blocks, DeclRef, Imported, Target, import_specs};
 }
 
+/// What the crates above name of `go_decl_core`.
+pub mod decl_core {
+    pub use go_embed_core::decl_core::{DeclForm, Outline, Places, TopDecl};
+}
+
 /// What the crates above name of `go_embed_core`.
 pub mod embed_core {
     pub use go_embed_core::has_method;
@@ -33,7 +38,7 @@ pub mod embed_core {
 
 /// What the crates above name of `go_entry_core`.
 pub mod entry_core {
-    pub use go_entry_core::{ImportedNames, outlines};
+    pub use go_entry_core::{FileNames, ImportedNames, ShownPackages, outlines};
 }
 
 /// What the crates above name of `go_names_core`.
@@ -41,6 +46,11 @@ pub mod names_core {
     pub use go_names_core::{
         Checker, Meant, OpenNames, Outside, check_function, header_idents, listed_idents,
     };
+}
+
+/// What the crates above name of `go_path_core`.
+pub mod path_core {
+    pub use go_path_core::ImportPath;
 }
 
 /// What the crates above name of `go_scope_core`.
@@ -56,4 +66,9 @@ pub mod table_core {
 /// What the crates above name of `go_type_core`.
 pub mod type_core {
     pub use go_embed_core::type_core::{PackageTypes, TypeTable};
+}
+
+/// What the crates above name of `go_written_core`.
+pub mod written_core {
+    pub use go_entry_core::written_core::{TypeNames, WrittenIn, write_type};
 }

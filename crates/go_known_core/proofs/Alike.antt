@@ -3,8 +3,8 @@ use Rattle.std.proofs.Common.{◌≡◌, ℕ, List, [], ◌∷◌, ◌++◌, len
 use Rattle.std.specs.Prelude.{slice_index_or}
 use Rattle.std.specs.List.{flat_map, enumerate_from}
 use Rattle.std.proofs.lemmas.List.{map-append, length-map}
-use Rattle.go_term_core.specs.decl_core.declared.keys.DeclRef.{DeclRef}
-use Rattle.go_term_core.specs.decl_core.TopDecls.{TopDeclTree}
+use Rattle.go_value_core.specs.decl_core.declared.keys.DeclRef.{DeclRef}
+use Rattle.go_value_core.specs.decl_core.TopDecls.{TopDeclTree}
 use Rattle.go_value_core.specs.table_core.Entries.{Entry}
 use Rattle.go_value_core.specs.written_core.Written.{InFile, Meaning}
 use Rattle.go_value_core.specs.entry_core.Outlines.{FileOutline}

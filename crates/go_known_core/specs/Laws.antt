@@ -1,7 +1,7 @@
 -- Laws of the places of a package's declarations.
 use Rattle.std.specs.Prelude.{◌≡◌, ℕ, List, length, map}
-use Rattle.go_term_core.specs.decl_core.declared.keys.DeclRef.{DeclRef}
-use Rattle.go_term_core.specs.decl_core.TopDecls.{kind_of_form}
+use Rattle.go_value_core.specs.decl_core.declared.keys.DeclRef.{DeclRef}
+use Rattle.go_value_core.specs.decl_core.TopDecls.{kind_of_form}
 use Rattle.go_value_core.specs.block_core.Blocks.{BlocksModel}
 use Rattle.go_value_core.specs.table_core.Entries.{Entry}
 use Rattle.go_value_core.specs.entry_core.Outlines.{FileOutline}

@@ -8,7 +8,7 @@ ghost use Rattle.go_value_core.specs.Package.{declared_face, package_needs, plac
 
 use crate::stage::Stage;
 use go_needs_core::values_of;
-use go_term_core::decl_core::Outline;
+use go_value_core::decl_core::Outline;
 use go_value_core::env_core::Scene;
 use go_value_core::face_core::Face;
 use go_value_core::handle_core::{SignatureRef, TypeRef};

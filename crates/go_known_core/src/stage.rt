@@ -1,6 +1,6 @@
 //! What each declaration of a package is, by those that it needs.
 ghost use Rattle.std.specs.Prelude.{◌≡◌, [], IfOk, map};
-ghost use Rattle.go_term_core.specs.decl_core.Shown.{form_shown};
+ghost use Rattle.go_value_core.specs.decl_core.Shown.{form_shown};
 ghost use Rattle.go_tree_nodes.specs.Shapes.{shape_value_spec};
 ghost use Rattle.go_needs_core.specs.Needs.{known_in};
 ghost use Rattle.go_value_core.specs.scope_core.Models.{scopes_model};
@@ -11,8 +11,8 @@ ghost use Rattle.go_value_core.specs.Initial as initial;
 ghost use Rattle.go_value_core.specs.Package as package_values;
 
 use go_needs_core::Needing;
-use go_term_core::decl_core::DeclForm;
 use go_tree_nodes::{ValueKind, ValueSpec};
+use go_value_core::decl_core::DeclForm;
 use go_value_core::env_core::{Meaning, Scene, outer_names, stand};
 use go_value_core::face_core::Face;
 use go_value_core::handle_core::{SignatureRef, TypeRef};

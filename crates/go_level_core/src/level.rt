@@ -1,16 +1,16 @@
 //! The types that paths of embedded fields reach, level by level.
 ghost use Rattle.std.specs.Prelude.{◌≡◌, ◌<◌, ◌≤◌, ◌∷◌, [], length, OnOk, IfOk};
 ghost use Rattle.go_embed_core.specs.table_core.Entries.{find_entry};
-ghost use Rattle.go_term_core.specs.Shapes.{shape};
+ghost use Rattle.go_embed_core.specs.term_core.Shapes.{shape};
 ghost use Rattle.go_embed_core.specs.OwnersShown.{embedded_shown};
 ghost use Rattle.go_level_core.specs.mirrors.Ways.{ways, root, IsNumber, IsRight, Begins, Entered, Marked, Pushed};
 ghost use Rattle.go_level_core.specs.mirrors.Levels.{IsNext, IsJudged};
 
 use crate::numbers::Numbers;
 use crate::trails::Trails;
+use go_embed_core::path_core::ImportPath;
 use go_embed_core::type_core::{TypeTable, TypeTerm};
 use go_embed_core::{Embedded, Hits, Member, Owner};
-use go_path_core::ImportPath;
 use std::alloc::{AllocError, Global};
 
 /// A type that a path reaches.

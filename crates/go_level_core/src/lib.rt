@@ -22,6 +22,11 @@ pub mod embed_core {
     pub use go_embed_core::{Hits, Member, Owner};
 }
 
+/// What the crates above name of `go_path_core`.
+pub mod path_core {
+    pub use go_embed_core::path_core::ImportPath;
+}
+
 /// What the crates above name of `go_settle_core`.
 pub mod settle_core {
     pub use go_embed_core::settle_core::{Kind, kind_of, settle, settle_signature};
@@ -33,6 +38,11 @@ pub mod table_core {
         DeclaredMethod, DefinedType, PackageTypes, TypeTable, identical_under,
         identical_under_but_for_tags, is_named_type,
     };
+}
+
+/// What the crates above name of `go_term_core`.
+pub mod term_core {
+    pub use go_embed_core::term_core::Field;
 }
 
 /// What the crates above name of `go_type_core`.

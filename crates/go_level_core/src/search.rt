@@ -1,20 +1,20 @@
 //! A selector, searched by one level after another.
 ghost use Rattle.std.specs.Prelude.{◌≡◌, ◌↔◌, IsTrue, IfOk};
 ghost use Rattle.go_embed_core.specs.table_core.Entries.{find_entry};
-ghost use Rattle.go_term_core.specs.Shapes.{shape};
+ghost use Rattle.go_embed_core.specs.term_core.Shapes.{shape};
 ghost use Rattle.go_embed_core.specs.Owners.{owner_in, has_spelled};
 ghost use Rattle.go_embed_core.specs.OwnersShown.{found_shown};
 ghost use Rattle.go_level_core.specs.Selectors.{In, FieldsIn, IsSelectorAnswer, IsFieldFound};
-ghost use Rattle.go_term_core.specs.Terms.{PointerTo};
+ghost use Rattle.go_embed_core.specs.term_core.Terms.{PointerTo};
 ghost use Rattle.go_level_core.specs.mirrors.Levels.{HasOne};
 ghost use Rattle.go_level_core.specs.mirrors.Searches.{IsSearched, IsSearchedOrNot, IsFoundOrNot};
 
 use crate::level::{Judged, Levels, expand, judge};
 use crate::operand::{Operand, behind, behind_pointer};
 use crate::path::EmbedPath;
+use go_embed_core::path_core::ImportPath;
 use go_embed_core::type_core::{TypeTable, TypeTerm};
 use go_embed_core::{Hits, Member, Owner};
-use go_path_core::ImportPath;
 use go_text_core::Rule;
 use std::alloc::{AllocError, Global};
 

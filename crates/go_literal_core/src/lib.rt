@@ -46,3 +46,15 @@ pub mod operand_core {
         Operand, TypeForm, TypeLooks, ValueType, binary, refused_binary, refused_unary, unary,
     };
 }
+
+/// What the crates above name of `go_term_core`.
+pub mod term_core {
+    pub use go_denote_core::term_core::{
+        Field, FieldLine, LocalPlace, MemberPlace, Signature, TypeTerm,
+    };
+}
+
+/// What the crates above name of `go_tree_core`.
+pub mod tree_core {
+    pub use go_denote_core::tree_core::Role;
+}

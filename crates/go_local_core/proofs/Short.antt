@@ -3,8 +3,8 @@ use Rattle.std.proofs.Common.{◌≡◌, ℕ, suc, Bool, true, false, ◌&&◌, 
 use Rattle.std.specs.List.{list_any}
 use Rattle.std.specs.Str.{bytes_eq}
 use Rattle.std.proofs.lemmas.List.{append-nil}
-use Rattle.go_text_core.specs.Text.{is_blank}
-use Rattle.go_text_core.specs.declared.rule.Rule.TheVariants.{B1}
+use Rattle.go_open_core.specs.text_core.Text.{is_blank}
+use Rattle.go_open_core.specs.text_core.declared.rule.Rule.TheVariants.{B1}
 use Rattle.go_open_core.specs.Blocks.{in_block, names_in, is_listed, is_repeated, repeated_behind, short_name, short_names, short_names_behind, is_short_new, any_new, block_after}
 use Rattle.go_open_core.specs.Blocks as open_blocks
 use Rattle.go_open_core.specs.declared.short.ShortName.TheVariants.{New, Old, Blank, Repeated}

@@ -5,7 +5,7 @@
 
 mod laws;
 
-use go_text_core::Rule;
+use go_open_core::text_core::Rule;
 pub use laws::{one_is_denoted, one_table, short_is_one_definition, worked_functions};
 
 /// A rule that is broken, and the offset in bytes where it is.

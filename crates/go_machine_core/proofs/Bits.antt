@@ -1,5 +1,5 @@
 -- Truths are 0 or 1.
-use Rattle.std.proofs.Common.{◌≡◌, Bool, true, false, ℤ, pos, Some, refl, inl, inr}
+use Rattle.std.proofs.Common.{Bool, true, false, pos, refl, inl, inr}
 use Rattle.std.specs.Prelude.{not, int_lt, int_le}
 use Rattle.std.specs.Ordering.{int_eq}
 use Rattle.go_machine_core.specs.Words.{bit, inverted, equal, differs, less, at_most, greater, at_least}

@@ -5,8 +5,8 @@ use Rattle.go_instruction_core.specs.declared.instruction.Instruction.{Instructi
 use Rattle.go_instruction_core.specs.declared.instruction.Instruction.TheVariants as instructions
 use Rattle.go_machine_core.specs.Programs.{LinkedOf, callee}
 use Rattle.go_machine_core.specs.Words.{line_text, sum, difference, product, quotient, remainder, equal, differs, less, at_most, greater, at_least}
-use Rattle.go_machine_core.specs.Machine.{Frame, Run, Ended, Panicked, Spent, Stuck, Machine, At, Over, on_one, resulting, on_two, popped, stuck_unless, left, entered, all_begun, starting, started, act, step, run_from, machine}
-use Rattle.go_machine_core.specs.Laws.{printed, stepped, steps_on, Goes, SpentMeansAllSteps, BudgetsAgree}
+use Rattle.go_machine_core.specs.Machine.{Frame, Run, Ended, Panicked, Spent, Stuck, Machine, At, Over, on_one, resulting, on_two, popped, stuck_unless, left, entered, all_begun, starting, started, act, step, run_from}
+use Rattle.go_machine_core.specs.Laws.{printed, steps_on, Goes, SpentMeansAllSteps, BudgetsAgree}
 
 abbrev pub printed_by : Machine → List ℕ
 printed_by (At f callers out) = out

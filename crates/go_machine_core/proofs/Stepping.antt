@@ -1,5 +1,5 @@
 -- A place that is beyond all code, and the functions that are to run.
-use Rattle.std.proofs.Common.{◌≡◌, ℕ, zero, suc, ◌+◌, ◌-◌, ◌^◌, ◌<◌, ◌≤◌, List, [], ◌∷◌, map, drop, get_or, length, ℤ, Option, Some, None, refl, sym, ap, ◌∙◌, subst, arith, ⊎_elim, drop-cons}
+use Rattle.std.proofs.Common.{◌≡◌, ℕ, zero, suc, ◌+◌, ◌-◌, ◌^◌, ◌<◌, ◌≤◌, List, [], ◌∷◌, map, get_or, length, ℤ, Option, Some, None, refl, sym, ap, ◌∙◌, arith, ⊎_elim}
 use Rattle.std.specs.Prelude.{slice_get, option_map, Result, Ok, Err, IfOk, string_bytes}
 use Rattle.std.specs.declared.alloc.AllocError.{AllocError}
 use Rattle.go_machine_core.specs.declared.state.End.{End}
@@ -11,7 +11,7 @@ use Rattle.go_instruction_core.specs.declared.instruction.Instruction.{Instructi
 use Rattle.go_instruction_core.specs.declared.instruction.Instruction.TheVariants as instructions
 use Rattle.go_machine_core.specs.Programs.{LinkedOf, linked_shown}
 use Rattle.go_machine_core.specs.Words.{is_true}
-use Rattle.go_machine_core.specs.Machine.{Frame as MachineFrame, Run, At, at_place, on_one, jumped, chosen, begun, act, step, run_from, with_first, all_begun}
+use Rattle.go_machine_core.specs.Machine.{Frame as MachineFrame, at_place, on_one, jumped, chosen, begun, act, step, run_from, with_first, all_begun}
 use Rattle.go_machine_core.specs.mirrors.Shown.{numbered, frame_shown, frames_shown, from_state, after, within, acts, acted}
 
 module _ (program : List LinkedOf) (f : MachineFrame) (callers : List MachineFrame) (out : List ℕ) (small : length f.function.code ≤ 2 ^ 64 - 1) where
@@ -60,11 +60,3 @@ through program old new (Ok end) i small e h =
     ∙ acts_same (map linked_shown program) (frame_shown program old.frame) (frames_shown program old.callers) (string_bytes old.output) small i k
     ∙ ap (λ o. run_from (map linked_shown program) k (act (map linked_shown program) o (frame_shown program old.frame) (frames_shown program old.callers) (string_bytes old.output))) e
 through program old new (Err x) i small e h = tt
-
--- one turn of a run
-pub turn_more : (program : List Linked) (old new : State) (end : Option End) (n t : ℕ) (r : Run) → t < n → end ≡ None
-    → ((k : ℕ) → run_from (map linked_shown program) k (after program end new) ≡ run_from (map linked_shown program) k (from_state program old (step (map linked_shown program))))
-    → run_from (map linked_shown program) (n - t) (from_state program old At) ≡ r → run_from (map linked_shown program) (n - (t + 1)) (from_state program new At) ≡ r
-turn_more program old new end n t r lt is h e =
-    let more : n - t ≡ suc (n - (t + 1)) = omega arith in
-    ap (λ o. run_from (map linked_shown program) (n - (t + 1)) (after program o new)) (sym is) ∙ h (n - (t + 1)) ∙ ap (λ k. run_from (map linked_shown program) k (from_state program old At)) (sym more) ∙ e

@@ -1,13 +1,13 @@
 //! Whole runs.
-ghost use Rattle.std.specs.Prelude.{◌≡◌, map, IfOk, MatchOption, Some, None};
-ghost use Rattle.go_machine_core.specs.Ends.{ran_shown};
-ghost use Rattle.go_machine_core.specs.Machine.{all_begun, machine};
+ghost use Rattle.std.specs.Prelude.{◌≡◌, map, string_bytes, IfOk, MatchOption, Some, None};
+ghost use Rattle.go_machine_core.specs.Ends.{ran_shown, run_of};
+ghost use Rattle.go_machine_core.specs.Machine.{At, all_begun, run_from, machine};
 ghost use Rattle.go_machine_core.specs.Programs.{linked_shown};
-ghost use Rattle.go_machine_core.specs.mirrors.Shown.{frames_shown};
+ghost use Rattle.go_machine_core.specs.mirrors.Shown.{frames_shown, from_state};
 
 use crate::callers::Callers;
 use crate::frame::begin;
-use crate::linked::Linked;
+use crate::linked::{Linked, code_of};
 use crate::state::{End, State};
 use crate::steps::step;
 use std::alloc::{AllocError, Global};
@@ -38,6 +38,29 @@ fn begin_all(
     Ok(Some(frames))
 }
 
+// Goes on from a state in at most so many steps. The code of the running function is looked up once until another runs.
+fn run_on(
+    alloc: Global,
+    program: &[Linked<'_>],
+    state: &mut State,
+    steps: u64,
+) -> Result<End, AllocError>
+    ensures { IfOk result (λ end. run_of end (string_bytes state.new.output) ≡ run_from (map linked_shown program.now) steps (from_state program.now state.old At)) }
+{
+    let mut function = state.frame.function;
+    let mut code = code_of(program, function);
+    for _turn in 0..steps {
+        if let Some(end) = step(alloc, program, code, state)? {
+            return Ok(end);
+        }
+        if state.frame.function != function {
+            function = state.frame.function;
+            code = code_of(program, function);
+        }
+    }
+    Ok(End::Spent)
+}
+
 /// Runs the functions of these numbers, one after another, in at most so many steps, one for each instruction. What memory a run takes is bounded by
 /// how deep its calls are and by what it prints.
 ///
@@ -66,13 +89,7 @@ pub fn execute(
         callers,
         output,
     };
-    for _turn in 0..steps {
-        if let Some(end) = step(alloc, program, &mut state)? {
-            let output = state.output;
-            return Ok(Ran { end, output });
-        }
-    }
-    let end = End::Spent;
+    let end = run_on(alloc, program, &mut state, steps)?;
     let output = state.output;
     Ok(Ran { end, output })
 }

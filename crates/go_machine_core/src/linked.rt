@@ -1,5 +1,5 @@
 //! Functions whose references are numbers, and their parts by numbers.
-ghost use Rattle.std.specs.Prelude.{◌≡◌, length, slice_get, option_map};
+ghost use Rattle.std.specs.Prelude.{◌≡◌};
 ghost use Rattle.go_machine_core.specs.Programs.{callee};
 ghost use Rattle.go_machine_core.specs.mirrors.Shown.{numbered};
 
@@ -28,26 +28,12 @@ pub(crate) fn callee_of(program: &[Linked<'_>], function: usize, reference: usiz
     }
 }
 
-/// How many instructions a function has.
-pub(crate) fn code_length(program: &[Linked<'_>], function: usize) -> usize
-    ensures { result ≡ length (numbered program.now function).code }
+/// The code of a function: none where there is no such function.
+pub(crate) fn code_of<'a>(program: &[Linked<'a>], function: usize) -> &'a [Instruction]
+    ensures { result.now ≡ (numbered program.now function).code }
 {
     match program.get(function) {
-        Some(function) => function.code.len(),
-        None => 0,
-    }
-}
-
-/// An instruction of a function.
-pub(crate) fn fetch<'p>(
-    program: &'p [Linked<'_>],
-    function: usize,
-    place: usize,
-) -> Option<&'p Instruction>
-    ensures { option_map (λ i. i.now) result ≡ slice_get (numbered program.now function).code place }
-{
-    match program.get(function) {
-        Some(function) => function.code.get(place),
-        None => None,
+        Some(function) => function.code,
+        None => &[],
     }
 }

@@ -4,10 +4,10 @@ ghost use Rattle.go_instruction_core.specs.declared.instruction.Instruction.TheV
 ghost use Rattle.go_machine_core.specs.declared.linked.Linked.{Linked};
 ghost use Rattle.go_machine_core.specs.Programs.{linked_shown};
 ghost use Rattle.go_machine_core.specs.Machine.{on_one, on_two, onward, left, entered, step, run_from};
-ghost use Rattle.go_machine_core.specs.mirrors.Shown.{operation, after, from_state, acted};
+ghost use Rattle.go_machine_core.specs.mirrors.Shown.{operation, numbered, after, from_state, acted};
 
 use crate::frame::begin;
-use crate::linked::{Linked, callee_of, code_length, fetch};
+use crate::linked::{Linked, callee_of};
 use crate::state::{End, State};
 use crate::text::write_line;
 use crate::words::{Operation, holds, invert, negate, operate};
@@ -272,20 +272,18 @@ fn apply(
     }
 }
 
-/// One step: whatever number of steps follows, the run comes to what the machine comes to.
+/// One step of the running function, whose code is at hand: whatever number of steps follows, the run comes to what the machine comes to.
 pub(crate) fn step(
     alloc: Global,
     program: &[Linked<'_>],
+    code: &[Instruction],
     state: &mut State,
 ) -> Result<Option<End>, AllocError>
+    requires { code.now ≡ (numbered program.now state.old.frame.function).code }
     ensures { IfOk result (λ end. (k : ℕ) → run_from (map linked_shown program.now) k (after program.now end state.new) ≡ run_from (map linked_shown program.now) k (from_state program.now state.old (step (map linked_shown program.now)))) }
 {
-    let length = code_length(program, state.frame.function);
-    if length <= state.frame.place {
+    if code.len() <= state.frame.place {
         return Ok(Some(End::Stuck));
     }
-    match fetch(program, state.frame.function, state.frame.place) {
-        Some(instruction) => apply(alloc, program, state, instruction),
-        None => Ok(Some(End::Stuck)),
-    }
+    apply(alloc, program, state, &code[state.frame.place])
 }

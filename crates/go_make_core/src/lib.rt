@@ -60,8 +60,13 @@ pub mod package_core {
 /// What the crates above name of `go_part_core`.
 pub mod part_core {
     pub use go_whole_core::part_core::{
-        Part, PartFile, PartInput, Parts, compile_part, one_part, part_has_occurrences,
+        Part, PartFile, PartInput, Parts, compile_part, one_part, part_has_occurrences, types_of,
     };
+}
+
+/// What the crates above name of `go_ready_core`.
+pub mod ready_core {
+    pub use go_whole_core::ready_core::{PackageAt, package_outlines};
 }
 
 /// What the crates above name of `go_select_core`.

@@ -27,6 +27,8 @@ pub mod part_core
 pub mod ready_core
 pub mod report_core
 pub mod summary_core
+pub mod term_core
 pub mod used_core
 pub mod value_core
 pub mod whole_core
+pub mod written_core

@@ -5,7 +5,7 @@ use Rattle.std.specs.Prelude.{ℕ, suc, ◌&&◌, nat_eq, List, [], ◌∷◌, �
 use Rattle.std.specs.List.{flat_map}
 use Rattle.std.specs.Map.{lookup}
 use Rattle.std.specs.Str.{bytes_eq}
-use Rattle.go_tree_nodes.specs.Trees.{FileTree}
+use Rattle.go_fragment_core.specs.tree_nodes.Trees.{FileTree}
 use Rattle.go_decl_core.specs.declared.keys.DeclRef.{DeclRef}
 use Rattle.go_decl_core.specs.TopDecls.{TopDeclTree, kind_of_form, top_decls}
 use Rattle.go_term_core.specs.declared.term.MemberPlace.{MemberPlace}

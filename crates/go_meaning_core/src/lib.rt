@@ -67,8 +67,13 @@ pub mod package_core {
 /// What the crates above name of `go_part_core`.
 pub mod part_core {
     pub use go_make_core::part_core::{
-        Part, PartFile, PartInput, Parts, compile_part, one_part, part_has_occurrences,
+        Part, PartFile, PartInput, Parts, compile_part, one_part, part_has_occurrences, types_of,
     };
+}
+
+/// What the crates above name of `go_ready_core`.
+pub mod ready_core {
+    pub use go_make_core::ready_core::{PackageAt, package_outlines};
 }
 
 /// What the crates above name of `go_select_core`.
@@ -79,6 +84,11 @@ pub mod select_core {
 /// What the crates above name of `go_summary_core`.
 pub mod summary_core {
     pub use go_make_core::summary_core::{Summary, View, view_of};
+}
+
+/// What the crates above name of `go_term_core`.
+pub mod term_core {
+    pub use go_term_core::MemberPlace;
 }
 
 /// What the crates above name of `go_whole_core`.

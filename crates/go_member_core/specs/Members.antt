@@ -18,8 +18,8 @@ use Rattle.go_level_core.specs.embed_core.OwnersShown.{found_shown}
 use Rattle.go_level_core.specs.declared.search.Selected.{Selected}
 use Rattle.go_level_core.specs.Selectors.{IsDenoted, Searched, Refused, In, FieldsIn, searched}
 use Rattle.go_select_core.specs.PathNames.{names_along}
-use Rattle.go_operand_core.specs.declared.types.Operand.{Operand}
-use Rattle.go_operand_core.specs.declared.types.ValueType.TheVariants as value_types
+use Rattle.go_denote_core.specs.operand_core.declared.types.Operand.{Operand}
+use Rattle.go_denote_core.specs.operand_core.declared.types.ValueType.TheVariants as value_types
 use Rattle.go_denote_core.specs.declared.things.Dot.TheVariants as dots
 use Rattle.go_denote_core.specs.declared.things.Outcome.{Outcome}
 use Rattle.go_denote_core.specs.declared.things.Outcome.TheVariants as outcomes

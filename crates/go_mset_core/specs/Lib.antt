@@ -3,6 +3,7 @@ pub mod MethodLists
 pub mod Implementing
 pub mod Laws
 pub mod mirrors
+pub mod decl_core
 pub mod embed_core
 pub mod level_core
 pub mod select_core

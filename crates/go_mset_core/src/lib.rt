@@ -16,6 +16,11 @@ pub use laws::{
 };
 pub use methods::{SetMethod, method_set};
 
+/// What the crates above name of `go_path_core`.
+pub mod path_core {
+    pub use go_select_core::path_core::ImportPath;
+}
+
 /// What the crates above name of `go_select_core`.
 pub mod select_core {
     pub use go_select_core::{EmbedPath, Member, Selected, select, select_behind_pointer};

@@ -6,8 +6,8 @@ use Rattle.go_text_core.specs.declared.rule.Rule.{Rule}
 use Rattle.go_text_core.specs.declared.rule.Rule.TheVariants.{Y3, Y7, N8, F1, F5, F8}
 use Rattle.go_token_core.specs.declared.kind.Operator.{Operator}
 use Rattle.go_operand_core.specs.constant_core.declared.values.Constant.{Constant}
-use Rattle.go_term_core.specs.declared.term.Basic.{Basic}
-use Rattle.go_term_core.specs.declared.term.Basic.TheVariants as basics
+use Rattle.go_operand_core.specs.term_core.declared.term.Basic.{Basic}
+use Rattle.go_operand_core.specs.term_core.declared.term.Basic.TheVariants as basics
 use Rattle.go_tree_nodes.specs.declared.exprs.Key.{Key}
 use Rattle.go_tree_nodes.specs.declared.usage.Usage.{Usage}
 use Rattle.go_operand_core.specs.declared.types.ValueType.{ValueType}

@@ -1,11 +1,11 @@
 -- A function is the same in two stands of a file that agree on what is near.
 use Rattle.std.proofs.Common.{◌≡◌, ℕ, zero, suc, Bool, List, [], ◌∷◌, ◌++◌, map, refl, ap, ◌∙◌, arith}
 use Rattle.std.specs.Prelude.{Option, Some, None, ⊤, if◌then◌else◌}
-use Rattle.go_term_core.specs.decl_core.declared.keys.DeclKey.{DeclKey}
+use Rattle.go_operand_core.specs.decl_core.declared.keys.DeclKey.{DeclKey}
 use Rattle.go_tree_nodes.specs.declared.types.TypeName.{TypeName}
 use Rattle.go_tree_nodes.specs.Trees.{TypeTree, FuncTree}
-use Rattle.go_term_core.specs.declared.term.MemberPlace.TheVariants as places
-use Rattle.go_term_core.specs.Terms.{Term, NoType}
+use Rattle.go_operand_core.specs.term_core.declared.term.MemberPlace.TheVariants as places
+use Rattle.go_operand_core.specs.term_core.Terms.{Term, NoType}
 use Rattle.go_part_core.specs.table_core.Entries.{term_in}
 use Rattle.go_part_core.specs.settle_core.Settled.{kind_of_term, settled}
 use Rattle.go_part_core.specs.settle_core.Local.{settling_is_local}

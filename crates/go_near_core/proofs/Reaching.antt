@@ -2,8 +2,8 @@
 use Rattle.std.proofs.Common.{◌≡◌, ℕ, Bool, List, [], ◌∷◌, refl, sym, ap, ◌∙◌, arith, Contains}
 use Rattle.std.specs.Prelude.{Some, None, Result, Ok, Err, ⊤, if◌then◌else◌, not}
 use Rattle.std.proofs.lemmas.List.Elements.{Contains-append_left, Contains-append_right}
-use Rattle.go_term_core.specs.decl_core.declared.keys.DeclKey.{DeclKey}
-use Rattle.go_term_core.specs.Terms.{Term, NoType, Predeclared, ErrorType, Defined, PointerTo, StructOf, InterfaceOf, Sign, SignOf, Terms, NoTerm, ATerm, is_no_type, term_keys, terms_keys}
+use Rattle.go_operand_core.specs.decl_core.declared.keys.DeclKey.{DeclKey}
+use Rattle.go_operand_core.specs.term_core.Terms.{Term, NoType, Predeclared, ErrorType, Defined, PointerTo, StructOf, InterfaceOf, Sign, SignOf, Terms, NoTerm, ATerm, is_no_type, term_keys, terms_keys}
 use Rattle.go_part_core.specs.table_core.Entries.{Entry, find_entry, underlying_in, entry_keys}
 use Rattle.go_part_core.specs.table_core.Assign.{AValue}
 use Rattle.go_part_core.specs.table_core.Laws.{LeadsTo, IsReached, AgreeFrom}

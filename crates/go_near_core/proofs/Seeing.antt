@@ -4,9 +4,9 @@ use Rattle.std.specs.Prelude.{Option, if◌then◌else◌, bytes_eq}
 use Rattle.std.specs.Str.{chars}
 use Rattle.std.proofs.lemmas.List.Elements.{Contains-append_left, Contains-append_right}
 use Rattle.go_text_core.specs.Text.{exported}
-use Rattle.go_term_core.specs.decl_core.declared.keys.DeclKey.{DeclKey}
-use Rattle.go_term_core.specs.declared.term.MemberPlace.{MemberPlace}
-use Rattle.go_term_core.specs.Terms.{Term, NoType, Predeclared, ErrorType, Defined, PointerTo, StructOf, InterfaceOf, Fields, NoField, AField, term_keys, fields_keys}
+use Rattle.go_operand_core.specs.decl_core.declared.keys.DeclKey.{DeclKey}
+use Rattle.go_operand_core.specs.term_core.declared.term.MemberPlace.{MemberPlace}
+use Rattle.go_operand_core.specs.term_core.Terms.{Term, NoType, Predeclared, ErrorType, Defined, PointerTo, StructOf, InterfaceOf, Fields, NoField, AField, term_keys, fields_keys}
 use Rattle.go_part_core.specs.table_core.Entries.{find_entry, has_method}
 use Rattle.go_part_core.specs.table_core.Meanings.{underlying_local}
 use Rattle.go_part_core.specs.embed_core.Owners.{OwnerModel, path_of_term, owner_in}

@@ -8,7 +8,7 @@ use Rattle.go_token_core.specs.declared.kind.Operator.{Operator}
 use Rattle.go_token_core.specs.declared.kind.Operator.TheVariants as operators
 use Rattle.go_operand_core.specs.constant_core.declared.values.Constant.{Constant}
 use Rattle.go_operand_core.specs.constant_core.declared.values.Constant.TheVariants as constants
-use Rattle.go_term_core.specs.declared.term.Basic.{Basic}
+use Rattle.go_operand_core.specs.term_core.declared.term.Basic.{Basic}
 use Rattle.go_operand_core.specs.declared.types.ValueType.{ValueType}
 use Rattle.go_operand_core.specs.declared.types.ValueType.TheVariants as value_types
 use Rattle.go_operand_core.specs.declared.types.Operand.{Operand}

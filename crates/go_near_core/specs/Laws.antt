@@ -9,7 +9,7 @@ use Rattle.go_part_core.specs.expr_core.Looks.{Looks}
 use Rattle.go_part_core.specs.expr_core.Denoting as denoting
 use Rattle.go_part_core.specs.expr_core.Uses as all_uses
 use Rattle.go_part_core.specs.expr_core.Faults as all_faults
-use Rattle.go_term_core.specs.Terms.{Term, Sign}
+use Rattle.go_operand_core.specs.term_core.Terms.{Term, Sign}
 use Rattle.go_part_core.specs.table_core.Entries.{Entry, find_entry}
 use Rattle.go_part_core.specs.table_core.Laws.{AgreeFrom}
 use Rattle.go_part_core.specs.decide_core.Rules.{term_rules, param_types_of, results_of}

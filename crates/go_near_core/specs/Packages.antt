@@ -1,6 +1,6 @@
 -- A package over tables of types that agree on what is near.
 use Rattle.std.specs.Prelude.{◌≡◌, ℕ, List, Option}
-use Rattle.go_term_core.specs.decl_core.TopDecls.{TopDeclTree, TypeForm}
+use Rattle.go_operand_core.specs.decl_core.TopDecls.{TopDeclTree, TypeForm}
 use Rattle.go_tree_nodes.specs.declared.types.TypeName.{TypeName}
 use Rattle.go_tree_nodes.specs.Trees.{TypeSpecTree}
 use Rattle.go_part_core.specs.block_core.Blocks.{BlocksModel}

@@ -2,7 +2,7 @@
 use Rattle.std.specs.Prelude.{◌≡◌, ℕ, List, Option}
 use Rattle.go_tree_nodes.specs.declared.types.TypeName.{TypeName}
 use Rattle.go_tree_nodes.specs.Trees.{TypeTree}
-use Rattle.go_term_core.specs.Terms.{Term}
+use Rattle.go_operand_core.specs.term_core.Terms.{Term}
 use Rattle.go_local_core.specs.Binding.{NameLook}
 use Rattle.go_part_core.specs.expr_core.Looks.{WrittenRules}
 use Rattle.go_part_core.specs.handle_core.Declarations.{Declaration}

@@ -289,3 +289,8 @@ impl OpenBlocks {
         names.to_list(alloc)
     }
 }
+
+/// What the crates above name of `go_text_core`.
+pub mod text_core {
+    pub use go_text_core::Rule;
+}

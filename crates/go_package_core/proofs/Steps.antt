@@ -12,9 +12,9 @@ use Rattle.go_tree_nodes.specs.Trees.{FuncTree, FileTree}
 use Rattle.go_ready_core.specs.parse_core.declared.error.SynFault.{SynFault}
 use Rattle.go_ready_core.specs.graph_core.Packages.{trees_of, tree_shown}
 use Rattle.go_ready_core.specs.graph_core.Sources.{SourceModel, source}
-use Rattle.go_term_core.specs.decl_core.declared.places.Place.{Place}
-use Rattle.go_term_core.specs.decl_core.declared.tops.Outline.{Outline}
-use Rattle.go_term_core.specs.decl_core.TopDecls.{TopDeclTree, top_decls}
+use Rattle.go_used_core.specs.decl_core.declared.places.Place.{Place}
+use Rattle.go_used_core.specs.decl_core.declared.tops.Outline.{Outline}
+use Rattle.go_used_core.specs.decl_core.TopDecls.{TopDeclTree, top_decls}
 use Rattle.go_used_core.specs.block_core.declared.imports.Imported.{Imported}
 use Rattle.go_ready_core.specs.table_core.Entries.{Entry}
 use Rattle.go_file_core.specs.entry_core.Meanings.{file_meaning}

@@ -6,7 +6,7 @@ use Rattle.std.specs.Prelude.{◌≡◌, ◌++◌, ℕ, Bool, List, [], Option, 
 use Rattle.std.specs.List.{AllZip, enumerate_from}
 use Rattle.std.specs.Option.{option_map}
 use Rattle.go_tree_nodes.specs.Trees.{FileTree}
-use Rattle.go_term_core.specs.decl_core.TopDecls.{top_decls}
+use Rattle.go_used_core.specs.decl_core.TopDecls.{top_decls}
 use Rattle.go_used_core.specs.block_core.declared.imports.Imported.{Imported}
 use Rattle.go_ready_core.specs.table_core.Entries.{Entry}
 use Rattle.go_file_core.specs.entry_core.Outlines.{outline_of}

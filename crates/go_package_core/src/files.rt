@@ -1,7 +1,7 @@
 //! The check of the files of a package.
 ghost use Rattle.std.specs.Prelude.{◌≡◌, ◌++◌, [], ℕ, List, IfOk, drop, length, map, slice_index_or};
 ghost use Rattle.std.specs.List.{AllZip, enumerate_from};
-ghost use Rattle.go_term_core.specs.decl_core.Shown.{decl_shown};
+ghost use Rattle.go_used_core.specs.decl_core.Shown.{decl_shown};
 ghost use Rattle.go_tree_nodes.specs.Shapes.{file_of};
 ghost use Rattle.go_file_core.specs.entry_core.Outlines.{outline_shown};
 ghost use Rattle.go_used_core.specs.handle_core.Declarations.{Declaration};
@@ -23,11 +23,11 @@ use go_file_core::env_core::Scene;
 use go_file_core::{FileAt, check_file};
 use go_ready_core::fault_core::PackageFault;
 use go_ready_core::{PackageAt, Ready};
-use go_term_core::decl_core::Outline;
 use go_text_core::add;
 use go_tree_nodes::File;
 use go_used_core::answer_core::{OuterAt, answers_of, outer_faults};
 use go_used_core::block_core::Imported;
+use go_used_core::decl_core::Outline;
 use go_used_core::face_core::Face;
 use go_used_core::handle_core::{SignatureRef, TypeRef};
 use go_used_core::report_core::settle_faults;

@@ -45,6 +45,11 @@ pub mod local_core {
     pub use go_used_core::local_core::Fault;
 }
 
+/// What the crates above name of `go_ready_core`.
+pub mod ready_core {
+    pub use go_ready_core::{PackageAt, package_outlines};
+}
+
 /// What the crates above name of `go_report_core`.
 pub mod report_core {
     pub use go_used_core::report_core::settle_faults;

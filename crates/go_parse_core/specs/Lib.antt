@@ -4,4 +4,6 @@ pub mod Names
 pub mod Parsing
 pub mod Refusing
 pub mod mirrors
+pub mod token_core
 pub mod tree_core
+pub mod tree_nodes

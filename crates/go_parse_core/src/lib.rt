@@ -30,3 +30,13 @@ pub use parsed::{Parsed, parse, tree_of};
 pub mod parse_types {
     pub use go_parse_types::add;
 }
+
+/// What the crates above name of `go_token_core`.
+pub mod token_core {
+    pub use go_token_core::{KEYWORDS, characters_of};
+}
+
+/// What the crates above name of `go_tree_nodes`.
+pub mod tree_nodes {
+    pub use go_tree_nodes::{File, Ident, ImportSpec, ImportSpecs};
+}

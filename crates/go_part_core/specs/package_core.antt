@@ -3,4 +3,5 @@ pub use Rattle.go_package_core.specs.Checked as Checked
 pub use Rattle.go_package_core.specs.Laws as Laws
 pub use Rattle.go_package_core.proofs.Meanings as Meanings
 pub use Rattle.go_package_core.proofs.Numbered as Numbered
+pub use Rattle.go_package_core.proofs.Steps as Steps
 pub use Rattle.go_package_core.specs.contracts as contracts

@@ -61,6 +61,11 @@ pub mod package_core {
     pub use go_package_core::{FileAnswers, one_check};
 }
 
+/// What the crates above name of `go_ready_core`.
+pub mod ready_core {
+    pub use go_package_core::ready_core::{PackageAt, package_outlines};
+}
+
 /// What the crates above name of `go_select_core`.
 pub mod select_core {
     pub use go_summary_core::select_core::EmbedPath;

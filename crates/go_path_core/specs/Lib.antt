@@ -1,3 +1,4 @@
 pub mod Laws
 pub mod Path
 pub mod mirrors
+pub mod text_core

@@ -20,3 +20,8 @@ pub use laws::{
     overlap_is_symmetric, prefix_by_elements,
 };
 pub use modules::{Module, overlaps};
+
+/// What the crates above name of `go_text_core`.
+pub mod text_core {
+    pub use go_text_core::Rule;
+}

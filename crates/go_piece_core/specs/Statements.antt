@@ -4,7 +4,7 @@
 -- "Assignment statements", "Short variable declarations", "If statements", "For statements", "Return statements".
 use Rattle.std.specs.Prelude.{Bool, false, List, [], ◌++◌, Option, Some, None}
 use Rattle.go_text_core.specs.declared.span.Span.{Span}
-use Rattle.go_token_core.specs.declared.kind.Operator.{Operator}
+use Rattle.go_tree_nodes.specs.token_core.declared.kind.Operator.{Operator}
 use Rattle.go_tree_nodes.specs.declared.names.Ident.{Ident}
 use Rattle.go_tree_nodes.specs.Trees.{Separated, ExprTree, Paren, Call, SimpleTree, Alone, Step, Assign, Update, Define}
 use Rattle.go_walk_core.specs.local_core.Outline.{idents}

@@ -2,11 +2,11 @@
 --
 -- docs/RULES.md, "Occurrences", "Names, selectors and calls in expressions". The Go specification, "Declarations and scope", "Selectors", "Qualified
 -- identifiers".
-use Rattle.std.specs.Prelude.{◌≡◌, ◌↔◌, ℕ, Bool, true, false, List, Option, Some, None, Contains, Vec, map, string_bytes}
+use Rattle.std.specs.Prelude.{◌≡◌, ◌↔◌, ℕ, Bool, true, false, List, Contains, Vec, map, string_bytes}
 use Rattle.std.specs.List.Sorted.{IsStrictlySortedBy}
 use Rattle.std.specs.declared.alloc.Global.{Global}
 use Rattle.std.specs.declared.string.String.{String}
-use Rattle.go_graph_core.specs.Workspaces.{by_bytes}
+use Rattle.go_context_core.specs.graph_core.Workspaces.{by_bytes}
 use Rattle.go_tree_nodes.specs.declared.names.Ident.{Ident}
 use Rattle.go_tree_nodes.specs.Trees.{TopTree, FileTree}
 use Rattle.go_term_core.specs.Terms.{Term}
@@ -60,12 +60,6 @@ is_of_types (SelectorBehind u dots.Untyped) = true
 is_of_types (SelectorBehind u (dots.«Value» o)) = true
 is_of_types (KeyAmong k) = true
 
-pub record IsOfTypes (p : PartModel) (n : ℕ) (f : FileTree) (u : FileUsed) : Type 0 where
-  pub made : IsPart p.input p.content
-  pub names : NameLook Meaning
-  pub place : IsPlaceOf (stand_of p made n f) f.decls u names
-  pub of_types : is_of_types (context_at (stand_of p made n f) names u.used) ≡ true
-
 -- names for an identifier whose context depends on no type
 pub record AreFoundAt (p : PartModel) (n : ℕ) (f : FileTree) (u : FileUsed) (found : List (List ℕ)) : Type 0 where
   pub made : IsPart p.input p.content
@@ -73,11 +67,6 @@ pub record AreFoundAt (p : PartModel) (n : ℕ) (f : FileTree) (u : FileUsed) (f
   pub place : IsPlaceOf (stand_of p made n f) f.decls u names
   pub of_names : is_of_types (context_at (stand_of p made n f) names u.used) ≡ false
   pub are : AreNamesFor (stand_of p made n f) names (context_at (stand_of p made n f) names u.used) u.used.ident found
-
--- exactly the names that have a declaration there, or none where what a name has depends on a type
-abbrev pub Completes : PartModel → ℕ → FileTree → FileUsed → Option (List (List ℕ)) → Type 0
-Completes p n f u (Some found) = AreFoundAt p n f u found
-Completes p n f u None = IsOfTypes p n f u
 
 -- names that are answered
 abbrev pub texts_of : Vec (String Global) Global → List (List ℕ)

@@ -22,7 +22,7 @@ use Rattle.go_block_core.specs.Naming.{AreInFile, IsGiven, file_specs, import_at
 use Rattle.go_block_core.proofs.NamingLemmas.{same_texts, text_of}
 use Rattle.go_complete_core.specs.part_core.Parts.{PartModel}
 use Rattle.go_complete_core.specs.whole_core.Inputs.{AreParts, ComesTo, Shown}
-use Rattle.go_shown_core.specs.Shown.{MayBeShown, import_paths, path_in}
+use Rattle.go_complete_core.specs.shown_core.Shown.{MayBeShown, import_paths, path_in}
 use Rattle.go_complete_core.specs.whole_core.Known.{IsImportedPath}
 use Rattle.go_complete_core.specs.whole_core.mirrors.Steps.{AreRight, IsRight}
 use Rattle.go_complete_core.specs.whole_core.Parts.{path_told}

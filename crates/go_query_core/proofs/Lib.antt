@@ -1,3 +1,4 @@
+pub mod Completed
 pub mod Documented
 pub mod Importing
 pub mod Listed

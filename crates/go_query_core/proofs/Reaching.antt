@@ -12,13 +12,13 @@ use Rattle.std.proofs.lemmas.Option.{get_or_from_slice_get, same_Some, slice_get
 use Rattle.go_graph_core.specs.Workspaces.{IsWorkspace, PackageModel, by_bytes}
 use Rattle.go_graph_core.proofs.Zips.{zip_at, zip_back, zip_length}
 use Rattle.go_complete_core.specs.part_core.Parts.{PartModel}
-use Rattle.go_shown_core.specs.summary_core.Summaries.{SummaryModel, path_of}
+use Rattle.go_complete_core.specs.summary_core.Summaries.{SummaryModel, path_of}
 use Rattle.go_complete_core.specs.whole_core.Inputs.{AreParts, AreToldTo, Tells}
 use Rattle.go_complete_core.specs.whole_core.mirrors.Steps.{AreRight, IsRight}
 use Rattle.go_complete_core.specs.whole_core.Parts.{path_told}
 use Rattle.go_complete_core.specs.whole_core.PartsWhole.{all_right}
-use Rattle.go_shown_core.specs.Shown.{MayBeShown, Picks}
-use Rattle.go_shown_core.proofs.Picking.{picks_both, picks_sorted}
+use Rattle.go_complete_core.specs.shown_core.Shown.{MayBeShown, Picks}
+use Rattle.go_complete_core.specs.shown_core.Picking.{picks_both, picks_sorted}
 use Rattle.go_query_core.specs.Entries.{AreDeps, EntryOf, HasPath, IsEntry, Reaches}
 
 path_at : (ps : List PackageModel) (i : ℕ) (d : PackageModel) → get_or (keys_of ps) i d.0 ≡ (get_or ps i d).0

@@ -11,7 +11,7 @@ use Rattle.go_tree_core.specs.declared.occurrence.Occ.{Occ}
 use Rattle.go_tree_core.specs.declared.occurrence.Role.{Role}
 use Rattle.go_tree_core.specs.Occurrences.{Covers, CoversAt, Follow, NoneCovers, file_occs, is_identifier}
 use Rattle.go_tree_core.proofs.Order.{occs_follow}
-use Rattle.go_expr_core.specs.Laws.{occurrence_place, use_place}
+use Rattle.go_spot_core.specs.expr_core.Laws.{occurrence_place, use_place}
 use Rattle.go_graph_core.specs.parse_core.Parsing.{IsParse}
 use Rattle.go_graph_core.specs.Packages.{tree_shown, trees_of}
 use Rattle.go_graph_core.specs.Sources.{IsRead, SourceModel}
@@ -150,6 +150,7 @@ module _ (s : SnapshotModel) (well : IsWorkspace s.sources) (whole : IsSnapshot 
       let tree : slice_get (trees_in f.of_part.input.source) f.number ≡ Some f.tree =
       slice_get-map tree_shown (trees_of files) f.number ∙ ap (λ o. option_map tree_shown o) (tree_at files f.number f.source f.tree right.assembled.trees at.in_package at.tree) in
       record {
+        listed = tree;
         places = of_part f.of_part.input f.of_part.content input right.made f.number f.tree f.made tree at.made parse.found.tree.wf;
         few = parse.few;
         well = parse.found.tree.wf;
@@ -174,7 +175,7 @@ unasked_in f offset text same none rule (inl memory) = inl memory
 unasked_in f offset text same none rule (inr h) = inr (none, subst (λ (t : List ℕ). IsUnused t offset rule) same h)
 
 module _ (s : SnapshotModel) (path name : List ℕ) (offset : ℕ) where
-  pub is_completion : (f : FoundFile) → IsFileAt s.sources s.parts path name f → (r : Option (List (List ℕ))) → IsCompletionIn f offset r → IsCompletion s path name offset r
+  pub is_completion : (f : FoundFile) → IsFileAt s.sources s.parts path name f → (r : List (List ℕ)) → IsCompletionIn f offset r → IsCompletion s path name offset r
   is_completion f at r h = (f, at, h)
 
   pub is_unasked : (f : FoundFile) → IsFileAt s.sources s.parts path name f → (rule : Rule) → (rule ≡ M0) ⊎ IsUnaskedIn f offset rule → (rule ≡ M0) ⊎ IsUnasked s path name offset rule

@@ -13,8 +13,8 @@ use Rattle.std.proofs.lemmas.Option.{get_or_from_slice_get, slice_get-get_or, sl
 use Rattle.go_tree_nodes.specs.Trees.{FileTree}
 use Rattle.go_tree_core.specs.Occurrences.{CoversAt, NoneCovers, file_occs}
 use Rattle.go_denote_core.specs.declared.things.Outcome.TheVariants as outcomes
-use Rattle.go_shown_core.specs.handle_core.Declarations.{Declaration}
-use Rattle.go_expr_core.specs.Laws.{occurrence_place, use_place}
+use Rattle.go_complete_core.specs.handle_core.Declarations.{Declaration}
+use Rattle.go_spot_core.specs.expr_core.Laws.{occurrence_place, use_place}
 use Rattle.go_graph_core.specs.parse_core.Parsing.{IsParse}
 use Rattle.go_graph_core.specs.Packages.{tree_shown, trees_of}
 use Rattle.go_graph_core.specs.Sources.{IsContent, IsRead, SourceModel}

@@ -1,13 +1,13 @@
 -- The names that could stand in place of an identifier that is used.
 --
--- The Go specification, "Declarations and scope", "Qualified identifiers", "Selectors".
-use Rattle.std.specs.Prelude.{◌≡◌, ◌⊎◌, ◌<◌, ◌≤◌, ℕ, List, Option, Contains}
+-- The Go specification, "Declarations and scope", "Qualified identifiers", "Selectors", "Composite literals".
+use Rattle.std.specs.Prelude.{◌≡◌, ◌⊎◌, ◌<◌, ◌≤◌, ℕ, List, Contains}
 use Rattle.go_text_core.specs.declared.rule.Rule.{Rule}
 use Rattle.go_text_core.specs.declared.rule.Rule.TheVariants.{Q1, Q2}
 use Rattle.go_tree_core.specs.Occurrences.{NoneCovers, file_occs}
 use Rattle.go_complete_core.specs.snap_core.Snapshots.{FoundFile, IsFileAt, SnapshotModel}
 use Rattle.go_spot_core.specs.Opened.{FileUsed, file_names}
-use Rattle.go_complete_core.specs.place_core.Completions.{Completes}
+use Rattle.go_complete_core.specs.place_core.Completions.{AreNamesAt}
 use Rattle.go_query_core.specs.Defining.{HasNoPart, IsUnused, LacksFile}
 
 -- the identifier that is used at an offset of a file, with the spot where it stands
@@ -16,12 +16,11 @@ pub record IsAskedAt (f : FoundFile) (offset : ℕ) (u : FileUsed) : Type 0 wher
   pub starts : u.used.ident.span.start ≤ offset
   pub ends : offset < u.used.ident.span.end
 
-abbrev pub IsCompletionIn : FoundFile → ℕ → Option (List (List ℕ)) → Type 0
-IsCompletionIn f offset found = (u : FileUsed) × IsAskedAt f offset u × Completes f.of_part f.number f.tree u found
+abbrev pub IsCompletionIn : FoundFile → ℕ → List (List ℕ) → Type 0
+IsCompletionIn f offset found = (u : FileUsed) × IsAskedAt f offset u × AreNamesAt f.of_part f.number f.tree u found
 
--- the names that could stand in place of the identifier that is used at an offset of the file of a name, in the package of a path; none are given where
--- what a name has there depends on a type
-abbrev pub IsCompletion : SnapshotModel → List ℕ → List ℕ → ℕ → Option (List (List ℕ)) → Type 0
+-- the names that could stand in place of the identifier that is used at an offset of the file of a name, in the package of a path
+abbrev pub IsCompletion : SnapshotModel → List ℕ → List ℕ → ℕ → List (List ℕ) → Type 0
 IsCompletion s path name offset found = (f : FoundFile) × IsFileAt s.sources s.parts path name f × IsCompletionIn f offset found
 
 -- no identifier is used there: Q3 where one stands there, else Q2

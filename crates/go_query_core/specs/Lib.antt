@@ -5,8 +5,16 @@ pub mod Entries
 pub mod Listing
 pub mod Parts
 pub mod mirrors
+pub mod env_core
+pub mod expr_core
+pub mod func_core
+pub mod list_core
+pub mod names_core
 pub mod part_core
 pub mod place_core
+pub mod ready_core
 pub mod shown_core
 pub mod snap_core
+pub mod summary_core
 pub mod symbol_core
+pub mod value_core

@@ -1,6 +1,5 @@
 //! The names that could stand in place of an identifier that is used.
 ghost use Rattle.std.specs.Prelude.{◌≡◌, ◌⊎◌, All, IfErr, IfOk, MatchOption};
-ghost use Rattle.std.specs.Option.{option_map};
 ghost use Rattle.go_tree_nodes.specs.Shapes.{file_of};
 ghost use Rattle.go_tree_core.specs.Occurrences.{NoneCovers, file_occs};
 ghost use Rattle.go_spot_core.specs.Spots.{spot_seen};
@@ -14,6 +13,7 @@ use crate::defining::{lacking, unused};
 use go_complete_core::names_there;
 use go_complete_core::part_core::part_has_occurrences;
 use go_complete_core::snap_core::{FileIn, Snapshot};
+use go_hint_core::names_by_types;
 use go_path_core::ImportPath;
 use go_spot_core::{FoundSpot, names_are_occurrences, spot_in_file};
 use go_text_core::Rule;
@@ -52,28 +52,47 @@ fn spot_from(
     }
 }
 
-// The names in place of the identifier that is used at an offset of a file.
-fn complete_in(alloc: Global, file: FileIn<'_>, offset: usize) -> Result<Option<Vec<String>>, Rule>
+// The names in place of this identifier, which is used at an offset of a file.
+fn names_for(
+    alloc: Global,
+    file: FileIn<'_>,
+    offset: usize,
+    found: &FoundSpot<'_>,
+) -> Result<Vec<String>, Rule>
     requires spots { HasSpots (file_in_shown file) }
     requires exports { All ShowsItsExports (file_in_shown file).of_part.input.reached }
-    ensures ok { IfOk result (λ names. IsCompletionIn (file_in_shown file.entry) offset (option_map texts_of names)) }
+    requires asked { IsAskedAt (file_in_shown file) offset (spot_seen found.now) }
+    ensures ok { IfOk result (λ names. IsCompletionIn (file_in_shown file.entry) offset (texts_of names)) }
+    ensures err { IfErr result (λ rule. rule ≡ Rule.M0) }
+{
+    match names_there(alloc, file.part, file.number, file.tree, found)? {
+        Some(names) => Ok(names),
+        None => names_by_types(alloc, file.part, file.number, file.tree, found),
+    }
+}
+
+// The names in place of the identifier that is used at an offset of a file.
+fn complete_in(alloc: Global, file: FileIn<'_>, offset: usize) -> Result<Vec<String>, Rule>
+    requires spots { HasSpots (file_in_shown file) }
+    requires exports { All ShowsItsExports (file_in_shown file).of_part.input.reached }
+    ensures ok { IfOk result (λ names. IsCompletionIn (file_in_shown file.entry) offset (texts_of names)) }
     ensures err { IfErr result (λ rule. (rule ≡ Rule.M0) ⊎ IsUnaskedIn (file_in_shown file.entry) offset rule) }
 {
     match start_at(file, offset) {
         Some(start) => {
             let found = spot_from(alloc, file, offset, start)?;
-            names_there(alloc, file.part, file.number, file.tree, &found)
+            names_for(alloc, file, offset, &found)
         }
         None => Err(unused(alloc, file.source.text(), offset)),
     }
 }
 
 /// The names that have a declaration in place of the identifier that is used at an offset in bytes of the file of a name, in the package of a path: in
-/// byte order, each once. Each is a name that, put in place of the identifier, has a declaration as its outcome, and no other does. `None` where what a
-/// name has there depends on a type: behind a value, and for the key of an element of a composite literal.
+/// byte order, each once. Each is a name that, put in place of the identifier, has a declaration as its outcome, and no other does.
 ///
-/// Nothing is checked again. The time is linear in the file up to the offset, and in the names that are in scope there or that the package exports, but
-/// for the order of those that are answered.
+/// Nothing is checked again but, where what a name has there depends on a type, the one operand left of the dot, or the name of the literal's type. The
+/// time is linear in the file up to the offset, and in the names that are in scope there or that the package exports, but for the order of those that are
+/// answered; where a type decides, in the packages that the package reaches, in its declarations and in the locals of the file.
 ///
 /// # Errors
 ///
@@ -82,15 +101,15 @@ fn complete_in(alloc: Global, file: FileIn<'_>, offset: usize) -> Result<Option<
 /// - `Rule::Q3` where an identifier covers the offset that is not used: the package's name, and what is declared there.
 /// - `Rule::M0` where memory is wanting.
 ///
-/// The Go specification, "Declarations and scope", "Qualified identifiers".
+/// The Go specification, "Declarations and scope", "Qualified identifiers", "Selectors", "Calls", "Composite literals".
 pub fn complete(
     alloc: Global,
     snapshot: &Snapshot,
     path: &ImportPath,
     file: &str,
     offset: usize,
-) -> Result<Option<Vec<String>>, Rule>
-    ensures ok { IfOk result (λ names. IsCompletion snapshot.now path.now file.now offset (option_map texts_of names)) }
+) -> Result<Vec<String>, Rule>
+    ensures ok { IfOk result (λ names. IsCompletion snapshot.now path.now file.now offset (texts_of names)) }
     ensures err { IfErr result (λ rule. (rule ≡ Rule.M0) ⊎ IsUnasked snapshot.now path.now file.now offset rule) }
 {
     // Each occurrence of a file has one answer, at its place.

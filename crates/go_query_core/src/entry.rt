@@ -3,14 +3,14 @@ ghost use Rattle.std.specs.Prelude.{◌≡◌, IfOk, Some, slice_get};
 ghost use Rattle.go_graph_core.specs.Packages.{IsPackageName, trees_of};
 ghost use Rattle.go_graph_core.specs.Workspaces.{IsWorkspace};
 ghost use Rattle.go_complete_core.specs.part_core.Inputs.{path_in};
-ghost use Rattle.go_shown_core.specs.Shown.{texts};
+ghost use Rattle.go_complete_core.specs.shown_core.Shown.{texts};
 ghost use Rattle.go_query_core.specs.Entries.{AreDeps, AreImports, IsEntry, entry_with};
 
 use go_complete_core::part_core::Part;
+use go_complete_core::shown_core::{deps_shown, imports_shown};
 use go_complete_core::snap_core::Snapshot;
 use go_graph_core::SourceFile;
 use go_path_core::ImportPath;
-use go_shown_core::{deps_shown, imports_shown};
 use std::alloc::{AllocError, Global};
 use std::marker::Model;
 
@@ -40,7 +40,7 @@ impl<'s> Model for PackageEntry<'s> {
     ghost use Rattle.go_graph_core.specs.Workspaces.{coded_package};
     ghost use Rattle.go_block_core.specs.Blocks.{coded_blocks};
     ghost use Rattle.go_complete_core.specs.face_core.codes.FaceCodes.{coded_face, coded_operand};
-    ghost use Rattle.go_shown_core.specs.summary_core.codes.SummaryCodes.{coded_summary};
+    ghost use Rattle.go_complete_core.specs.summary_core.codes.SummaryCodes.{coded_summary};
     ghost use Rattle.go_complete_core.specs.part_core.Inputs.{coded_input};
     ghost use Rattle.go_query_core.specs.Entries.{EntryOf, IsEntry, entry_with};
 

@@ -17,9 +17,14 @@ pub use documenting::{PackageDoc, doc};
 pub use entry::PackageEntry;
 pub use listing::{Listing, list};
 
+/// What the crates above name of `go_list_core`.
+pub mod list_core {
+    pub use go_list_core::{judge_import, number_of};
+}
+
 /// What the crates above name of `go_part_core`.
 pub mod part_core {
-    pub use go_complete_core::part_core::Part;
+    pub use go_complete_core::part_core::{Part, types_of};
 }
 
 /// What the crates above name of `go_snap_core`.

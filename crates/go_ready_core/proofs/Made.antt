@@ -8,9 +8,9 @@ use Rattle.go_tree_nodes.specs.Trees.{FuncTree, FileTree}
 use Rattle.go_fault_core.specs.parse_core.declared.error.SynFault.{SynFault}
 use Rattle.go_fault_core.specs.graph_core.Packages.{trees_of, tree_shown}
 use Rattle.go_fault_core.specs.graph_core.Sources.{SourceModel, source, IsPlacedContent, IsPlacedSource}
-use Rattle.go_term_core.specs.decl_core.declared.places.Place.{Place}
-use Rattle.go_term_core.specs.decl_core.declared.tops.TopDecl.{TopDecl}
-use Rattle.go_term_core.specs.decl_core.Shown.{decl_shown, form_shown}
+use Rattle.go_fault_core.specs.decl_core.declared.places.Place.{Place}
+use Rattle.go_fault_core.specs.decl_core.declared.tops.TopDecl.{TopDecl}
+use Rattle.go_fault_core.specs.decl_core.Shown.{decl_shown, form_shown}
 use Rattle.go_fault_core.specs.block_core.Blocks.{BlocksModel}
 use Rattle.go_func_core.specs.settle_core.Settled.{kind_of_term}
 use Rattle.go_fault_core.specs.table_core.Entries.{Entry, find_entry, term_in}

@@ -7,8 +7,8 @@ use Rattle.go_tree_nodes.specs.declared.decls.ValueKind.TheVariants as kinds
 use Rattle.go_tree_nodes.specs.Starts.{type_start}
 use Rattle.go_tree_nodes.specs.Trees.{TypeTree, ValueSpecTree, Specs, Single, Group, DeclTree, Value, Types, Func, TopTree, FileTree}
 use Rattle.go_text_core.specs.declared.span.Span.{Span}
-use Rattle.go_term_core.specs.decl_core.TopDecls.{TopDeclTree, FormTree, ValueForm, TypeForm, FuncForm, top_decls}
-use Rattle.go_term_core.specs.Terms.{Term, Sign}
+use Rattle.go_fault_core.specs.decl_core.TopDecls.{TopDeclTree, FormTree, ValueForm, TypeForm, FuncForm, top_decls}
+use Rattle.go_fault_core.specs.term_core.Terms.{Term, Sign}
 use Rattle.go_func_core.specs.handle_core.Declarations.{Declaration}
 use Rattle.go_func_core.specs.expr_core.Looks.{WrittenRules}
 use Rattle.go_func_core.specs.expr_core.Locality.{SameType, SameWritten}

@@ -8,7 +8,7 @@ use Rattle.std.proofs.lemmas.List.FromFn.{length-enumerate_from, get_or-enumerat
 use Rattle.std.proofs.lemmas.List.Elements.{recursion_from_All}
 use Rattle.std.proofs.lemmas.Option.{slice_get-map, get_or_from_slice_get, slice_get_within}
 use Rattle.go_tree_nodes.specs.Trees.{FileTree}
-use Rattle.go_term_core.specs.decl_core.TopDecls.{TopDeclTree, top_decls}
+use Rattle.go_fault_core.specs.decl_core.TopDecls.{TopDeclTree, top_decls}
 use Rattle.go_fault_core.specs.table_core.Entries.{Entry}
 use Rattle.go_fault_core.specs.entry_core.Outlines.{FileOutline, outline_of}
 use Rattle.go_fault_core.specs.entry_core.Among.{Among, among_flat, among_map, among_numbered}

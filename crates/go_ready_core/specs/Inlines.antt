@@ -4,7 +4,7 @@
 use Rattle.std.specs.Prelude.{◌≡◌, ℕ, List, [], ◌∷◌, map}
 use Rattle.std.specs.List.{AllZip, flat_map, enumerate_from}
 use Rattle.go_tree_nodes.specs.Trees.{FuncTree, FileTree}
-use Rattle.go_term_core.specs.decl_core.TopDecls.{TopDeclTree, FormTree, ValueForm, TypeForm, FuncForm}
+use Rattle.go_fault_core.specs.decl_core.TopDecls.{TopDeclTree, FormTree, ValueForm, TypeForm, FuncForm}
 use Rattle.go_fault_core.specs.table_core.Entries.{Entry}
 use Rattle.go_fault_core.specs.entry_core.Outlines.{FileOutline, outline_of}
 use Rattle.go_func_core.specs.inline_core.Types.{InlineOf}

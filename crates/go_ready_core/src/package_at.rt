@@ -7,10 +7,10 @@ ghost use Rattle.go_ready_core.specs.Packages.{outlines_in, package_in_shown};
 ghost use Rattle.go_tree_nodes.specs.Spelling.{IsPlaced};
 
 use go_fault_core::block_core::{Blocks, Imported};
+use go_fault_core::decl_core::Outline;
 use go_fault_core::entry_core::{ImportedNames, outlines};
 use go_fault_core::graph_core::Package;
 use go_func_core::face_core::FaceTable;
-use go_term_core::decl_core::Outline;
 use std::alloc::{AllocError, Global};
 
 /// A package, with what is known of it and of the packages that it imports before its check. All is lent.

@@ -6,10 +6,10 @@ ghost use Rattle.go_ready_core.specs.Packages.{outlines_in, package_in_shown};
 ghost use Rattle.go_ready_core.specs.Types.{AreTypes};
 
 use crate::package_at::PackageAt;
+use go_fault_core::decl_core::Outline;
 use go_fault_core::entry_core::{ImportedNames, type_entries};
 use go_fault_core::type_core::{PackageTypes, TypeTable, build_types};
 use go_fault_core::{PackageFault, WrittenTypes, type_faults};
-use go_term_core::decl_core::Outline;
 use std::alloc::{AllocError, Global};
 
 /// The types that a package declares, and what is amiss in their declarations.

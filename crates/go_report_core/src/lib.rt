@@ -21,3 +21,8 @@ pub mod expr_core {
 pub mod local_core {
     pub use go_expr_core::local_core::Fault;
 }
+
+/// What the crates above name of `go_term_core`.
+pub mod term_core {
+    pub use go_expr_core::term_core::{MemberPlace, Signature, TypeTerm};
+}

@@ -29,3 +29,8 @@ pub mod block_core {
 pub mod graph_core {
     pub use go_block_core::graph_core::{Package, SourceFile};
 }
+
+/// What the crates above name of `go_universe_core`.
+pub mod universe_core {
+    pub use go_universe_core::{Predeclared, find_predeclared};
+}

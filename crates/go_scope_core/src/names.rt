@@ -10,7 +10,7 @@ ghost use Rattle.go_scope_core.specs.Scopes.{universe};
 
 use go_block_core::Blocks;
 use go_block_core::open_core::{NameList, OpenBlocks};
-use go_text_core::Rule;
+use go_block_core::text_core::Rule;
 use go_universe_core::{PREDECLARED, Predeclared};
 use std::alloc::Global;
 

@@ -22,6 +22,11 @@ pub mod embed_core {
     pub use go_level_core::embed_core::Hits;
 }
 
+/// What the crates above name of `go_path_core`.
+pub mod path_core {
+    pub use go_level_core::path_core::ImportPath;
+}
+
 /// What the crates above name of `go_settle_core`.
 pub mod settle_core {
     pub use go_level_core::settle_core::{Kind, kind_of, settle, settle_signature};

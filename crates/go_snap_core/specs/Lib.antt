@@ -5,6 +5,7 @@ pub mod SnapshotCodes
 pub mod Snapshots
 pub mod locality_core
 pub mod answer_core
+pub mod block_core
 pub mod body_core
 pub mod emit_core
 pub mod entry_core
@@ -25,3 +26,4 @@ pub mod summary_core
 pub mod used_core
 pub mod value_core
 pub mod whole_core
+pub mod written_core

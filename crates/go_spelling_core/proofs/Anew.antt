@@ -10,7 +10,7 @@ use Rattle.go_tree_nodes.specs.Trees.{Separated, TypeTree, ExprTree, Named, Valu
 use Rattle.go_decl_core.specs.TopDecls.{FormTree, ValueForm, TypeForm, FuncForm}
 use Rattle.go_snap_core.specs.handle_core.Declarations.{Declaration}
 use Rattle.go_denote_core.specs.declared.things.Stand.TheVariants as stands
-use Rattle.go_term_core.specs.Terms.{Term, Sign}
+use Rattle.go_denote_core.specs.term_core.Terms.{Term, Sign}
 use Rattle.go_expr_core.specs.Looks.{WrittenRules}
 use Rattle.go_expr_core.specs.Denoting.{denoted}
 use Rattle.go_expr_core.specs.Laws.{AgreeOnIdents}

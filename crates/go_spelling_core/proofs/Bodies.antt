@@ -7,8 +7,8 @@ use Rattle.go_tree_nodes.specs.Trees.{FuncTree, Lines, TopTree, FileTree}
 use Rattle.go_decl_core.specs.declared.places.Place.{Place}
 use Rattle.go_decl_core.specs.Outer.{decl_outers, tops_outers, places_of, place_of}
 use Rattle.go_decl_core.specs.TopDecls.{decl_decls, tops_decls}
-use Rattle.go_block_core.specs.Blocks.{BlocksModel}
-use Rattle.go_written_core.specs.Written.{InFile}
+use Rattle.go_snap_core.specs.block_core.Blocks.{BlocksModel}
+use Rattle.go_snap_core.specs.written_core.Written.{InFile}
 use Rattle.go_snap_core.specs.entry_core.Meanings.{Shows, file_meaning}
 use Rattle.go_snap_core.specs.entry_core.Outlines.{FileOutline, outline_of}
 use Rattle.go_type_core.specs.table_core.Entries.{Entry}

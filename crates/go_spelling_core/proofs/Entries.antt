@@ -9,7 +9,7 @@ use Rattle.go_type_core.specs.table_core.Entries.{Entry, find_entry}
 use Rattle.go_snap_core.specs.fault_core.declared.places.PackageFault.{PackageFault}
 use Rattle.go_type_core.specs.Built.{IsBuilt}
 use Rattle.go_type_core.proofs.Meanings.{one_settled}
-use Rattle.go_written_core.specs.Written.{InFile}
+use Rattle.go_snap_core.specs.written_core.Written.{InFile}
 use Rattle.go_snap_core.specs.entry_core.Entries.{Received, Meanings, file_at, decl_methods, package_methods, entry_of, entries_with, package_meanings}
 use Rattle.go_snap_core.specs.entry_core.Outlines.{FileOutline}
 use Rattle.go_snap_core.specs.entry_core.Numbered.{flat_map-append}

@@ -7,11 +7,11 @@ use Rattle.go_tree_nodes.specs.Trees.{FuncTree, Lines, TopTree, FileTree}
 use Rattle.go_decl_core.specs.declared.places.Place.{Place}
 use Rattle.go_decl_core.specs.Outer.{decl_outers, tops_outers, places_of, place_of}
 use Rattle.go_decl_core.specs.TopDecls.{TopDeclTree, FormTree, FuncForm, kind_of_form, decl_decls, tops_decls}
-use Rattle.go_block_core.specs.Blocks.{BlocksModel}
+use Rattle.go_snap_core.specs.block_core.Blocks.{BlocksModel}
 use Rattle.go_type_core.specs.table_core.Entries.{Entry}
-use Rattle.go_term_core.specs.Terms.{Term, Sign}
+use Rattle.go_denote_core.specs.term_core.Terms.{Term, Sign}
 use Rattle.go_snap_core.specs.entry_core.Meanings.{Shows, file_meaning}
-use Rattle.go_written_core.specs.Written.{InFile}
+use Rattle.go_snap_core.specs.written_core.Written.{InFile}
 use Rattle.go_snap_core.specs.entry_core.Outlines.{FileOutline, outline_of}
 use Rattle.go_snap_core.specs.handle_core.Declarations.{Declaration}
 use Rattle.go_snap_core.specs.face_core.Faces.{TheFace}
@@ -38,7 +38,7 @@ use Rattle.go_spelling_core.specs.Packages.{PackageBodiesStay}
 use Rattle.go_spelling_core.proofs.Checked.{checked_stay}
 use Rattle.go_spelling_core.proofs.InFiles.{in_bodies}
 use Rattle.go_spelling_core.proofs.Initials.{stand_for, rules_for, form_in, all_fixed, faces_of}
-use Rattle.go_block_core.specs.Declarations.{decl_ref}
+use Rattle.go_snap_core.specs.block_core.Declarations.{decl_ref}
 
 -- one declaration of both: the same, or the function
 abbrev pub IsOther : FuncTree → Lines → TopDeclTree → TopDeclTree → Type 0

@@ -7,10 +7,10 @@ use Rattle.go_tree_nodes.specs.Trees.{TypeTree, ValueSpecTree, TopTree, FileTree
 use Rattle.go_decl_core.specs.declared.places.Place.{Place}
 use Rattle.go_decl_core.specs.Outer.{places_of, kind_of_value}
 use Rattle.go_decl_core.specs.TopDecls.{FormTree, ValueForm, TypeForm, FuncForm, TopDeclTree, kind_of_form}
-use Rattle.go_block_core.specs.Blocks.{BlocksModel}
+use Rattle.go_snap_core.specs.block_core.Blocks.{BlocksModel}
 use Rattle.go_type_core.specs.table_core.Entries.{Entry}
-use Rattle.go_term_core.specs.Terms.{Term, Sign}
-use Rattle.go_written_core.specs.Written.{InFile}
+use Rattle.go_denote_core.specs.term_core.Terms.{Term, Sign}
+use Rattle.go_snap_core.specs.written_core.Written.{InFile}
 use Rattle.go_snap_core.specs.entry_core.Outlines.{outline_of}
 use Rattle.go_snap_core.specs.entry_core.Meanings.{Shows, file_meaning}
 use Rattle.go_snap_core.specs.handle_core.Declarations.{Declaration}
@@ -37,7 +37,7 @@ use Rattle.go_spelling_core.specs.Packages.{PackageInitialisersStay, FileInitial
 use Rattle.go_spelling_core.proofs.InFiles.{in_tops}
 use Rattle.go_spelling_core.proofs.Places.{tops_same}
 use Rattle.go_spelling_core.proofs.FileListed.{IsAnew, IsPlacedAnew, AllAnew, type_same, package_anew}
-use Rattle.go_block_core.specs.Declarations.{decl_ref}
+use Rattle.go_snap_core.specs.block_core.Declarations.{decl_ref}
 
 -- a declaration with what the types are that its file writes
 

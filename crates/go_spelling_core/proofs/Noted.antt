@@ -7,7 +7,7 @@ use Rattle.go_text_core.specs.declared.span.Span.{Span}
 use Rattle.go_tree_nodes.specs.declared.names.Ident.{Ident}
 use Rattle.go_tree_nodes.specs.declared.decls.ValueKind.TheVariants as kinds
 use Rattle.go_tree_nodes.specs.Trees.{Specs, Single, Group, DeclTree, Value, Types, Func, FuncTree, TopTree, of_specs}
-use Rattle.go_term_core.specs.Terms.{Term}
+use Rattle.go_denote_core.specs.term_core.Terms.{Term}
 use Rattle.go_local_core.specs.Binding.{NameLook}
 use Rattle.go_local_core.specs.Outline.{func_steps, func_opens, func_closes}
 use Rattle.go_local_core.specs.Steps.{Piece, Spec, Steps, Done, Check, Declare, Inner}

@@ -9,7 +9,7 @@ use Rattle.go_tree_nodes.specs.declared.types.TypeName.{TypeName}
 use Rattle.go_tree_nodes.specs.Trees.{TypeTree, SignatureTree, TypeSpecTree, Specs, FuncTree, DeclTree, TopTree, of_specs}
 use Rattle.go_local_core.specs.Outline.{header_idents, lines_steps, func_opens, func_closes}
 use Rattle.go_local_core.specs.Steps.{Header, Done}
-use Rattle.go_term_core.specs.Terms.{Term, Sign}
+use Rattle.go_denote_core.specs.term_core.Terms.{Term, Sign}
 use Rattle.go_snap_core.specs.handle_core.Declarations.{Declaration}
 use Rattle.go_expr_core.specs.Respelling.{RespellsName, RespellsType, RespellsSignature}
 use Rattle.go_expr_core.specs.TypeUses.{type_uses, signature_uses}

@@ -8,7 +8,7 @@ use Rattle.go_denote_core.specs.declared.things.Dot.TheVariants as dots
 use Rattle.go_denote_core.specs.declared.things.Found.{Found}
 use Rattle.go_denote_core.specs.Answers.{refused}
 use Rattle.go_denote_core.specs.Selectors.{value_selector}
-use Rattle.go_operand_core.specs.Values.{default_type}
+use Rattle.go_denote_core.specs.operand_core.Values.{default_type}
 use Rattle.go_text_core.specs.declared.rule.Rule.TheVariants.{S8, F1, F5, F8}
 use Rattle.go_literal_core.specs.declared.things.NamedField.{NamedField}
 use Rattle.go_literal_core.specs.declared.things.NamedField.TheVariants as nameds

@@ -4,7 +4,7 @@ use Rattle.std.specs.Prelude.{Some, slice_get}
 use Rattle.std.specs.List.{enumerate_from}
 use Rattle.go_tree_nodes.specs.declared.names.Ident.{Ident}
 use Rattle.go_tree_nodes.specs.Trees.{ValueSpecTree, FuncTree, Lines, TopTree, FileTree}
-use Rattle.go_term_core.specs.Terms.{Term, Sign}
+use Rattle.go_denote_core.specs.term_core.Terms.{Term, Sign}
 use Rattle.go_snap_core.specs.package_core.Numbered.{numbered_at}
 use Rattle.go_snap_core.specs.entry_core.Outlines.{outline_of}
 use Rattle.go_type_core.specs.table_core.Entries.{Entry}

@@ -6,17 +6,17 @@ use Rattle.go_text_core.specs.declared.rule.Rule.TheVariants.{N8}
 use Rattle.go_tree_nodes.specs.declared.names.Ident.{Ident}
 use Rattle.go_tree_nodes.specs.declared.types.TypeName.{TypeName}
 use Rattle.go_tree_nodes.specs.Trees.{TypeTree, SignatureTree}
-use Rattle.go_block_core.specs.declared.binding.Binding.{Binding}
-use Rattle.go_block_core.specs.declared.binding.Target.{Target}
-use Rattle.go_block_core.specs.declared.binding.Target.TheVariants as targets
-use Rattle.go_block_core.specs.Blocks.{file_binding}
+use Rattle.go_snap_core.specs.block_core.declared.binding.Binding.{Binding}
+use Rattle.go_snap_core.specs.block_core.declared.binding.Target.{Target}
+use Rattle.go_snap_core.specs.block_core.declared.binding.Target.TheVariants as targets
+use Rattle.go_snap_core.specs.block_core.Blocks.{file_binding}
 use Rattle.go_denote_core.specs.declared.things.Answer.{Answer}
 use Rattle.go_denote_core.specs.declared.things.Denoted.{Denoted}
 use Rattle.go_denote_core.specs.declared.things.Denoted.TheVariants as denotes
 use Rattle.go_denote_core.specs.declared.things.Stand.TheVariants as stands
 use Rattle.go_denote_core.specs.Answers.{refused, found_answer}
 use Rattle.go_snap_core.specs.handle_core.Declarations.{Declaration}
-use Rattle.go_term_core.specs.Terms.{Term, Sign}
+use Rattle.go_denote_core.specs.term_core.Terms.{Term, Sign}
 use Rattle.go_snap_core.specs.names_core.declared.meaning.Outside.TheVariants as outsides
 use Rattle.go_expr_core.specs.Looks.{WrittenRules}
 use Rattle.go_expr_core.specs.Denoting.{ident_answer}

@@ -5,7 +5,7 @@ use Rattle.std.specs.Prelude.{Some, slice_get}
 use Rattle.std.proofs.lemmas.List.{map-append, length-map}
 use Rattle.go_tree_nodes.specs.declared.names.Ident.{Ident}
 use Rattle.go_tree_nodes.specs.Trees.{FuncTree, Lines, TopTree}
-use Rattle.go_term_core.specs.Terms.{Term}
+use Rattle.go_denote_core.specs.term_core.Terms.{Term}
 use Rattle.go_snap_core.specs.handle_core.Declarations.{Declaration}
 use Rattle.go_local_core.specs.Binding.{NameLook}
 use Rattle.go_local_core.specs.Outline.{func_steps, func_opens, func_closes}

@@ -6,7 +6,7 @@ use Rattle.go_local_core.specs.Binding.{NameLook}
 use Rattle.go_local_core.specs.Outline.{func_steps, func_opens, func_closes}
 use Rattle.go_local_core.specs.Steps.{Piece, Steps, Done, Check, Declare, Inner}
 use Rattle.go_local_core.specs.mirrors.Walk.{Names, look_in, with_names, news, names_of, walk_out}
-use Rattle.go_operand_core.specs.declared.types.Operand.{Operand}
+use Rattle.go_denote_core.specs.operand_core.declared.types.Operand.{Operand}
 use Rattle.go_expr_core.specs.declared.things.Use.{Use}
 use Rattle.go_expr_core.specs.Looks.{Looks}
 use Rattle.go_expr_core.specs.Uses.{Spot}

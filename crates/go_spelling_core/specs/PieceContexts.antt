@@ -10,7 +10,7 @@ use Rattle.go_local_core.specs.Outline.{func_steps}
 use Rattle.go_local_core.specs.Steps.{Piece, Steps}
 use Rattle.go_local_core.specs.Tables.{walked}
 use Rattle.go_local_core.specs.mirrors.Walk.{Names, look_in, with_names, news, names_of}
-use Rattle.go_operand_core.specs.declared.types.Operand.{Operand}
+use Rattle.go_denote_core.specs.operand_core.declared.types.Operand.{Operand}
 use Rattle.go_expr_core.specs.declared.things.Use.{Use}
 use Rattle.go_expr_core.specs.Looks.{Looks}
 use Rattle.go_expr_core.specs.Uses.{Spot, use_of}

@@ -11,7 +11,7 @@ use Rattle.go_snap_core.specs.handle_core.Declarations.{Declaration}
 use Rattle.go_denote_core.specs.declared.things.Found.{Found}
 use Rattle.go_denote_core.specs.declared.things.Dot.{Dot}
 use Rattle.go_literal_core.specs.Keys.{KeyContext}
-use Rattle.go_term_core.specs.Terms.{Term, Sign}
+use Rattle.go_denote_core.specs.term_core.Terms.{Term, Sign}
 use Rattle.go_expr_core.specs.Looks.{Looks, WrittenRules}
 use Rattle.go_expr_core.specs.Laws.{finding}
 use Rattle.go_expr_core.specs.Respelling.{RespellsName, RespellsType, RespellsSignature}

@@ -26,8 +26,8 @@ use Rattle.go_tree_core.specs.Occurrences.{is_identifier, import_occs, imports_o
 use Rattle.go_walk_core.specs.Ends.{is_blank_target}
 use Rattle.go_local_core.specs.Steps.{Piece, Header, Spec, Act, Condition, Given, Newness, EachFirst, OneNew, Steps, Done, Check, Declare, Inner}
 use Rattle.go_local_core.specs.Outline.{idents, end_of, header_idents, spec_steps, group_steps, specs_steps, simple_steps, some_simple_steps, init_steps, some_condition_steps, if_steps, for_steps, stmt_steps, branch_steps, else_steps, lines_steps}
-use Rattle.go_denote_core.specs.declared.things.Stand.{Stand}
-use Rattle.go_denote_core.specs.declared.things.Stand.TheVariants as stands
+use Rattle.go_expr_core.specs.denote_core.declared.things.Stand.{Stand}
+use Rattle.go_expr_core.specs.denote_core.declared.things.Stand.TheVariants as stands
 use Rattle.go_expr_core.specs.Places.{inside, under_place, left_place, whole}
 use Rattle.go_expr_core.specs.Laws.{context_of}
 use Rattle.go_spot_core.specs.Used.{LiteralType, OfName, OfWritten, Used, used, NameSpot, type_name_used, type_used, fields_used, methods_used, signature_used, result_used, params_used, key_used, expr_used, args_used, elements_used, exprs_used, some_type_used, values_used, spec_used, target_used, targets_used, simple_used, given_used, receiver_used, header_used, piece_used}

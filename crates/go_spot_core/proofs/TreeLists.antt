@@ -13,7 +13,7 @@ use Rattle.go_tree_nodes.specs.declared.decls.ValueLine.{ValueLine}
 use Rattle.go_tree_nodes.specs.declared.decls.TypeLine.{TypeLine}
 use Rattle.go_tree_nodes.specs.TypeShapes.{shape_type, shape_signature, fields_before, fields_of, method_before, methods_of, params_of}
 use Rattle.go_tree_nodes.specs.Shapes.{shape, shape_key, items_of, exprs_from, shape_value_line, shape_type_line, shape_value_spec}
-use Rattle.go_denote_core.specs.declared.things.Stand.TheVariants as stands
+use Rattle.go_expr_core.specs.denote_core.declared.things.Stand.TheVariants as stands
 use Rattle.go_spot_core.specs.Used.{Used, LiteralType, fields_used, methods_used, signature_used, params_used, type_used, key_used, expr_used, args_used, elements_used, exprs_used, target_used, targets_used, spec_used}
 use Rattle.go_spot_core.specs.mirrors.Lines.{line_used}
 

@@ -7,8 +7,8 @@ use Rattle.std.specs.Option.{option_map}
 use Rattle.go_tree_nodes.specs.declared.names.Ident.{Ident}
 use Rattle.go_tree_nodes.specs.declared.usage.Usage.TheVariants as usages
 use Rattle.go_tree_nodes.specs.Trees.{ItemTrees, NoItems, Item}
-use Rattle.go_denote_core.specs.declared.things.Stand.TheVariants as stands
-use Rattle.go_denote_core.specs.Selectors.{dot_of}
+use Rattle.go_expr_core.specs.denote_core.declared.things.Stand.TheVariants as stands
+use Rattle.go_expr_core.specs.denote_core.Selectors.{dot_of}
 use Rattle.go_expr_core.specs.Looks.{Looks}
 use Rattle.go_expr_core.specs.Places.{is_name}
 use Rattle.go_expr_core.specs.Denoting.{ident_answer, named_type, written_type, denoted}

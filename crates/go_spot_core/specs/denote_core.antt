@@ -1,2 +1,2 @@
 -- What the crates above name of go_denote_core.
-pub use Rattle.go_denote_core.specs.declared as declared
+pub use Rattle.go_expr_core.specs.denote_core.declared as declared

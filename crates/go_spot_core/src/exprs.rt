@@ -7,7 +7,7 @@ ghost use Rattle.go_spot_core.specs.Used.{first_used, expr_used, key_used, args_
 use crate::places::{inside, under_place};
 use crate::spot::{LiteralOf, Spot, UsedName};
 use crate::types::{in_type, in_type_name, named};
-use go_denote_core::Stand;
+use go_expr_core::denote_core::Stand;
 use go_expr_core::{left_place, whole};
 use go_tree_nodes::{CallExpr, Expr, Exprs, Item, Key, LiteralExpr, SelectExpr, StructLiteralExpr};
 

@@ -2,14 +2,14 @@
 ghost use Rattle.std.specs.Prelude.{◌≡◌, ◌++◌};
 ghost use Rattle.go_tree_nodes.specs.Shapes.{shape, shape_exprs, shape_some_exprs, shape_some_type, shape_values, shape_value_spec, shape_simple};
 ghost use Rattle.go_tree_nodes.specs.TypeShapes.{shape_signature};
-ghost use Rattle.go_denote_core.specs.declared.things.Stand.TheVariants as stands;
+ghost use Rattle.go_expr_core.specs.denote_core.declared.things.Stand.TheVariants as stands;
 ghost use Rattle.go_spot_core.specs.Shown.{found_shown};
 ghost use Rattle.go_spot_core.specs.Used.{first_used, expr_used, exprs_used, some_type_used, values_used, spec_used, target_used, targets_used, simple_used, given_used, receiver_used, header_used};
 
 use crate::exprs::{in_expr, in_exprs};
 use crate::spot::UsedName;
 use crate::types::{in_signature, in_type, in_type_name};
-use go_denote_core::Stand;
+use go_expr_core::denote_core::Stand;
 use go_tree_nodes::{
     Assignment, Expr, Exprs, FuncDecl, Receiver, Simple, TypeExpr, Update, ValueSpec, Values,
 };

@@ -1,5 +1,5 @@
 //! Where an identifier stands.
-use go_denote_core::Stand;
+use go_expr_core::denote_core::Stand;
 use go_tree_nodes::{Expr, FuncDecl, Ident, Item, TypeExpr, TypeName, Usage};
 
 /// The type of a composite literal.

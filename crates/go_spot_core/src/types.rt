@@ -6,7 +6,7 @@ ghost use Rattle.go_spot_core.specs.Used.{used, first_used, type_name_used, type
 ghost use Rattle.go_spot_core.specs.mirrors.Lines.{line_used};
 
 use crate::spot::{Spot, UsedName};
-use go_denote_core::Stand;
+use go_expr_core::denote_core::Stand;
 use go_tree_nodes::{
     FieldLine, Fields, Ident, MethodLine, Param, Results, Signature, TypeExpr, TypeName,
 };

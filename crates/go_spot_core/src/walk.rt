@@ -8,7 +8,7 @@ ghost use Rattle.go_spot_core.specs.mirrors.Searching.{Leads};
 use crate::exprs::in_expr;
 use crate::pieces::{in_given, in_header, in_simple, in_spec};
 use crate::search::{Search, declare_idents, declare_params, declare_receiver, declare_results};
-use go_denote_core::Stand;
+use go_expr_core::denote_core::Stand;
 use go_text_core::Span;
 use go_tree_nodes::{
     Branch, Expr, Exprs, ForHead, FuncDecl, IfHead, InitPart, Line, Loop, Otherwise, Simple, Stmt,

@@ -3,8 +3,8 @@ use Rattle.std.proofs.Common.{◌≡◌, ℕ, Bool, ◌&&◌, ◌==◌, List, []
 use Rattle.std.specs.Prelude.{Option, Some, None, is_some, if◌then◌else◌}
 use Rattle.std.specs.List.{list_all}
 use Rattle.go_text_core.specs.declared.rule.Rule.TheVariants.{Y3, Y4, Y7}
-use Rattle.go_term_core.specs.declared.term.Basic.{Basic}
-use Rattle.go_term_core.specs.declared.term.Basic.TheVariants as basics
+use Rattle.go_denote_core.specs.term_core.declared.term.Basic.{Basic}
+use Rattle.go_denote_core.specs.term_core.declared.term.Basic.TheVariants as basics
 use Rattle.go_denote_core.specs.operand_core.declared.types.ValueType.{ValueType}
 use Rattle.go_denote_core.specs.operand_core.declared.types.ValueType.TheVariants as value_types
 use Rattle.go_denote_core.specs.operand_core.declared.types.Operand.{Operand}

@@ -6,7 +6,7 @@ use Rattle.std.proofs.lemmas.Bool.{and_parts, and_cases, and_left, and_right, eq
 use Rattle.go_text_core.specs.declared.rule.Rule.{Rule}
 use Rattle.go_text_core.specs.declared.rule.Rule.TheVariants.{Y4, Y7}
 use Rattle.go_denote_core.specs.constant_core.declared.values.Constant.{Constant}
-use Rattle.go_term_core.specs.declared.term.Basic.{Basic}
+use Rattle.go_denote_core.specs.term_core.declared.term.Basic.{Basic}
 use Rattle.go_denote_core.specs.operand_core.declared.types.ValueType.{ValueType}
 use Rattle.go_denote_core.specs.operand_core.declared.types.ValueType.TheVariants as value_types
 use Rattle.go_denote_core.specs.operand_core.declared.types.TypeForm.{TypeForm}

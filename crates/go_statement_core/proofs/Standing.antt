@@ -5,8 +5,8 @@ use Rattle.go_text_core.specs.declared.rule.Rule.{Rule}
 use Rattle.go_text_core.specs.declared.rule.Rule.TheVariants.{Y3, Y8, X1}
 use Rattle.go_token_core.specs.declared.kind.Operator.{Operator}
 use Rattle.go_token_core.specs.declared.kind.Operator.TheVariants as operators
-use Rattle.go_term_core.specs.declared.term.Basic.{Basic}
-use Rattle.go_term_core.specs.declared.term.Basic.TheVariants as basics
+use Rattle.go_denote_core.specs.term_core.declared.term.Basic.{Basic}
+use Rattle.go_denote_core.specs.term_core.declared.term.Basic.TheVariants as basics
 use Rattle.go_denote_core.specs.operand_core.declared.types.Operand.{Operand}
 use Rattle.go_denote_core.specs.operand_core.TypeRules.{TypeRules}
 use Rattle.go_denote_core.specs.operand_core.Values.{is_over, basic_under}

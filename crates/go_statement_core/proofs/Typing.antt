@@ -6,7 +6,7 @@ use Rattle.std.proofs.lemmas.Bool.{cases_Bool, eqb-true, eq-eqb, ne_eqb}
 use Rattle.std.proofs.lemmas.List.{length-replicate, length-map}
 use Rattle.std.proofs.lemmas.Option.{slice_get-map}
 use Rattle.go_text_core.specs.declared.rule.Rule.TheVariants.{Y4}
-use Rattle.go_term_core.specs.declared.term.Basic.TheVariants as basics
+use Rattle.go_denote_core.specs.term_core.declared.term.Basic.TheVariants as basics
 use Rattle.go_denote_core.specs.operand_core.declared.types.ValueType.{ValueType}
 use Rattle.go_denote_core.specs.operand_core.declared.types.ValueType.TheVariants as value_types
 use Rattle.go_denote_core.specs.operand_core.declared.types.Operand.{Operand}

@@ -4,8 +4,8 @@ use Rattle.go_text_core.specs.declared.rule.Rule.TheVariants.{Y3, Y4, Y7, Y8, X1
 use Rattle.go_token_core.specs.declared.kind.Operator.{Operator}
 use Rattle.go_token_core.specs.declared.kind.Operator.TheVariants as operators
 use Rattle.go_denote_core.specs.constant_core.declared.values.Constant.{Constant}
-use Rattle.go_term_core.specs.declared.term.Basic.{Basic}
-use Rattle.go_term_core.specs.declared.term.Basic.TheVariants as basics
+use Rattle.go_denote_core.specs.term_core.declared.term.Basic.{Basic}
+use Rattle.go_denote_core.specs.term_core.declared.term.Basic.TheVariants as basics
 use Rattle.go_denote_core.specs.operand_core.declared.types.ValueType.TheVariants as value_types
 use Rattle.go_denote_core.specs.operand_core.declared.types.TypeForm.TheVariants as forms
 use Rattle.go_denote_core.specs.operand_core.declared.types.Operand.{Operand}

@@ -2,7 +2,7 @@
 use Rattle.std.specs.Prelude.{◌≡◌, ◌≢◌, ℕ, Bool, true, false, List, [], length, slice_get, Option, Some, None}
 use Rattle.go_denote_core.specs.constant_core.declared.values.Constant.{Constant}
 use Rattle.go_denote_core.specs.constant_core.declared.values.Constant.TheVariants as constant
-use Rattle.go_term_core.specs.declared.term.Basic.{Basic}
+use Rattle.go_denote_core.specs.term_core.declared.term.Basic.{Basic}
 use Rattle.go_denote_core.specs.operand_core.declared.types.ValueType.TheVariants as value_types
 use Rattle.go_denote_core.specs.operand_core.declared.types.TypeForm.TheVariants as forms
 use Rattle.go_denote_core.specs.operand_core.declared.types.Operand.{Operand}

@@ -5,6 +5,7 @@ pub mod Published
 pub mod Submitted
 pub mod Trees
 pub mod mirrors
+pub mod block_core
 pub mod make_core
 pub mod part_core
 pub mod snap_core

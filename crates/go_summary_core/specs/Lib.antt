@@ -10,7 +10,6 @@ pub mod denote_core
 pub mod embed_core
 pub mod face_core
 pub mod graph_core
-pub mod handle_core
 pub mod level_core
 pub mod scope_core
 pub mod select_core

@@ -22,9 +22,29 @@ pub use laws::{
 };
 pub use table::{Located, PackageTypes, TypeTable};
 
+/// What the crates above name of `go_decl_core`.
+pub mod decl_core {
+    pub use go_settle_core::decl_core::{
+        DeclForm, DeclKey, DeclRef, Outline, Places, TopDecl, place_order,
+    };
+}
+
+/// What the crates above name of `go_path_core`.
+pub mod path_core {
+    pub use go_settle_core::path_core::ImportPath;
+}
+
 /// What the crates above name of `go_settle_core`.
 pub mod settle_core {
     pub use go_settle_core::{
         Kind, Kinds, SeenNames, can_embed, kind_of, settle, settle_signature,
+    };
+}
+
+/// What the crates above name of `go_term_core`.
+pub mod term_core {
+    pub use go_settle_core::term_core::{
+        Basic, Field, FieldLine, LocalPlace, MemberPlace, Method, Signature, Tag, TypeTerm, copy,
+        has_same_signature, identical, identical_but_for_tags, is_no_type,
     };
 }

@@ -9,3 +9,4 @@ pub mod mirrors
 pub mod codes
 pub mod decl_core
 pub mod tree_core
+pub mod tree_nodes

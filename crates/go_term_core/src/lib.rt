@@ -33,7 +33,17 @@ pub mod decl_core {
     };
 }
 
+/// What the crates above name of `go_path_core`.
+pub mod path_core {
+    pub use go_decl_core::path_core::ImportPath;
+}
+
 /// What the crates above name of `go_tree_core`.
 pub mod tree_core {
     pub use go_decl_core::tree_core::Role;
+}
+
+/// What the crates above name of `go_tree_nodes`.
+pub mod tree_nodes {
+    pub use go_decl_core::tree_nodes::Usage;
 }

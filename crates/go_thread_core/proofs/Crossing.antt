@@ -112,10 +112,10 @@ use Rattle.go_tree_nodes.specs.contracts.files.FuncDecl as func_decl
 use Rattle.go_tree_nodes.specs.contracts.files.Decl as decl
 use Rattle.go_tree_nodes.specs.contracts.files.TopDecl as top_decl
 use Rattle.go_tree_nodes.specs.contracts.files.File as file
-use Rattle.go_graph_core.specs.contracts.source.SourceFile as source_file
-use Rattle.go_graph_core.specs.contracts.workspace.PackageSource as package_source
-use Rattle.go_graph_core.specs.contracts.assembly.Package as assembled
-use Rattle.go_graph_core.specs.contracts.workspace.Workspace as workspace
+use Rattle.go_block_core.specs.graph_core.contracts.source.SourceFile as source_file
+use Rattle.go_block_core.specs.graph_core.contracts.workspace.PackageSource as package_source
+use Rattle.go_block_core.specs.graph_core.contracts.assembly.Package as assembled
+use Rattle.go_block_core.specs.graph_core.contracts.workspace.Workspace as workspace
 use Rattle.go_term_core.specs.contracts.term.TypeTerm as term
 use Rattle.go_term_core.specs.contracts.term.Signature as term_signature
 use Rattle.go_table_core.specs.contracts.entry.DeclaredMethod as declared_method

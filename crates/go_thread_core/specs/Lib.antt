@@ -1,4 +1,5 @@
 pub mod Threads
+pub mod block_core
 pub mod make_core
 pub mod part_core
 pub mod snap_core

@@ -1,6 +1,6 @@
 -- What may go to a thread (`IsSend`), and be seen by several at one time (`IsSync`), as the logic has the two.
 use denote.Param.Send.{IsSend, IsSync}
-use Rattle.go_graph_core.specs.contracts.workspace.Workspace as workspace
+use Rattle.go_block_core.specs.graph_core.contracts.workspace.Workspace as workspace
 use Rattle.go_snap_core.specs.part_core.contracts.input.PartInput as input
 use Rattle.go_snap_core.specs.part_core.contracts.part.Part as part
 use Rattle.go_snap_core.specs.part_core.contracts.parts.Parts as parts

@@ -4,7 +4,7 @@
 
 ghost use Rattle.go_thread_core.specs.Threads.{InputsCross, PartsCross, SharedSnapshotsCross, SinglePartsCross, SnapshotsCross, WorkspacesCross};
 
-use go_graph_core::Workspace;
+use go_block_core::graph_core::Workspace;
 use go_snap_core::part_core::{Part, PartInput, Parts};
 use go_snap_core::{SharedSnapshot, Snapshot};
 

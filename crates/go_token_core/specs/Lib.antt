@@ -3,3 +3,4 @@ pub mod Escapes
 pub mod Numbers
 pub mod Spelling
 pub mod Values
+pub mod text_core

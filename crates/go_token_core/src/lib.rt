@@ -18,3 +18,8 @@ pub use kind::{CommentKind, KEYWORDS, Keyword, OPERATORS, Operator, TokenKind};
 pub use number::{integer_value, literal_value};
 pub use token::{Comment, LexFault, ScanError, Token};
 pub use value::{plain_value, string_value};
+
+/// What the crates above name of `go_text_core`.
+pub mod text_core {
+    pub use go_text_core::{Rule, add};
+}

@@ -13,3 +13,5 @@ pub mod TypeNames
 pub mod TypeShapes
 pub mod WrittenTypes
 pub mod codes
+pub mod text_core
+pub mod token_core

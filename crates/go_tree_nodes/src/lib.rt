@@ -34,3 +34,13 @@ pub use types::{
     FieldLine, Fields, MethodLine, Param, Params, Results, Signature, TypeExpr, TypeName,
 };
 pub use usage::Usage;
+
+/// What the crates above name of `go_text_core`.
+pub mod text_core {
+    pub use go_text_core::{Rule, Span, add, boxed};
+}
+
+/// What the crates above name of `go_token_core`.
+pub mod token_core {
+    pub use go_token_core::Operator;
+}

@@ -1,7 +1,7 @@
 -- What the parts of the code give one another, over what is written.
 use Rattle.std.proofs.Common.{◌≡◌, ℕ, Bool, List, Option, All, map, length, sym, ◌∙◌, subst}
 use Rattle.std.proofs.lemmas.List.{length-map}
-use Rattle.go_term_core.specs.decl_core.declared.keys.DeclKey.{DeclKey}
+use Rattle.go_table_core.specs.decl_core.declared.keys.DeclKey.{DeclKey}
 use Rattle.go_cycle_core.specs.declared.edge.Edge.{Edge}
 use Rattle.go_cycle_core.specs.Cycle.{InRange, IsRanking}
 use Rattle.go_chain_core.specs.Chains.{AllInside, AreEnds}

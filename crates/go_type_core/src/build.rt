@@ -13,7 +13,7 @@ use crate::nothing::nothing_types;
 use crate::own_keys::OwnKeys;
 use crate::roots::{kinds_of, root_ends};
 use crate::settled::settled_types;
-use go_path_core::ImportPath;
+use go_table_core::path_core::ImportPath;
 use go_table_core::{DefinedType, PackageTypes, TypeEntry, TypeTable};
 use go_text_core::Rule;
 use std::alloc::{AllocError, Global};

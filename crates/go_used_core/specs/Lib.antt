@@ -4,6 +4,7 @@ pub mod Used
 pub mod mirrors
 pub mod answer_core
 pub mod block_core
+pub mod decl_core
 pub mod expr_core
 pub mod face_core
 pub mod handle_core

@@ -13,9 +13,9 @@ use Rattle.go_tree_core.specs.declared.occurrence.Role.{Role}
 use Rattle.go_tree_core.specs.declared.occurrence.Role.TheVariants as roles
 use Rattle.go_tree_core.specs.declared.occurrence.Occ.{Occ}
 use Rattle.go_tree_core.specs.Occurrences.{file_occs}
-use Rattle.go_term_core.specs.decl_core.declared.keys.DeclRef.{DeclRef}
-use Rattle.go_term_core.specs.declared.term.MemberPlace.{MemberPlace}
-use Rattle.go_term_core.specs.declared.term.MemberPlace.TheVariants as member
+use Rattle.go_answer_core.specs.decl_core.declared.keys.DeclRef.{DeclRef}
+use Rattle.go_answer_core.specs.term_core.declared.term.MemberPlace.{MemberPlace}
+use Rattle.go_answer_core.specs.term_core.declared.term.MemberPlace.TheVariants as member
 use Rattle.go_answer_core.specs.block_core.declared.binding.Binding.{Binding}
 use Rattle.go_answer_core.specs.block_core.declared.binding.Target.{Target}
 use Rattle.go_answer_core.specs.block_core.declared.binding.Target.TheVariants as targets

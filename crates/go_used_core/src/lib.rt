@@ -26,6 +26,11 @@ pub mod block_core {
     pub use go_answer_core::block_core::{Blocks, Imported};
 }
 
+/// What the crates above name of `go_decl_core`.
+pub mod decl_core {
+    pub use go_answer_core::decl_core::Outline;
+}
+
 /// What the crates above name of `go_face_core`.
 pub mod face_core {
     pub use go_answer_core::face_core::{Face, FaceTable, PackageFaces, WrittenFaces};
@@ -44,4 +49,9 @@ pub mod local_core {
 /// What the crates above name of `go_report_core`.
 pub mod report_core {
     pub use go_answer_core::report_core::settle_faults;
+}
+
+/// What the crates above name of `go_term_core`.
+pub mod term_core {
+    pub use go_answer_core::term_core::{Signature, TypeTerm};
 }

@@ -8,11 +8,11 @@ ghost use Rattle.go_used_core.specs.mirrors.Steps.{some_used};
 
 use go_answer_core::Answer;
 use go_answer_core::block_core::{Binding, Blocks, Target};
+use go_answer_core::decl_core::DeclRef;
 use go_answer_core::denote_core::Outcome;
 use go_answer_core::handle_core::DeclSite;
+use go_answer_core::term_core::MemberPlace;
 use go_path_core::ImportPath;
-use go_term_core::MemberPlace;
-use go_term_core::decl_core::DeclRef;
 use go_tree_core::{Occ, Role};
 use std::alloc::{AllocError, Global};
 

@@ -5,8 +5,8 @@ use Rattle.std.specs.declared.alloc.Global.{Global}
 use Rattle.go_needs_core.specs.Needs.{rows_of}
 use Rattle.std.specs.List.{flat_map, enumerate_from}
 use Rattle.std.proofs.lemmas.List.{take_all, length-map}
-use Rattle.go_term_core.specs.decl_core.declared.tops.Outline.{Outline}
-use Rattle.go_term_core.specs.decl_core.Shown.{decl_shown}
+use Rattle.go_env_core.specs.decl_core.declared.tops.Outline.{Outline}
+use Rattle.go_env_core.specs.decl_core.Shown.{decl_shown}
 use Rattle.go_env_core.specs.entry_core.Outlines.{outline_shown}
 use Rattle.go_env_core.specs.entry_core.Numbered.{flat_more}
 use Rattle.go_env_core.specs.inline_core.Types.{InlineOf}

@@ -12,14 +12,14 @@ use Rattle.go_tree_nodes.specs.declared.names.Ident.{Ident}
 use Rattle.go_tree_nodes.specs.declared.decls.ValueKind.{ValueKind}
 use Rattle.go_tree_nodes.specs.declared.decls.ValueKind.TheVariants as kinds
 use Rattle.go_tree_nodes.specs.Trees.{TypeTree, ValueSpecTree}
-use Rattle.go_term_core.specs.decl_core.declared.keys.DeclRef.{DeclRef}
-use Rattle.go_term_core.specs.decl_core.TopDecls.{FormTree, ValueForm, TypeForm, FuncForm}
+use Rattle.go_env_core.specs.decl_core.declared.keys.DeclRef.{DeclRef}
+use Rattle.go_env_core.specs.decl_core.TopDecls.{FormTree, ValueForm, TypeForm, FuncForm}
 use Rattle.go_env_core.specs.scope_core.Models.{scopes_model}
 use Rattle.go_env_core.specs.scope_core.Scopes as scopes
 use Rattle.go_env_core.specs.scope_core.Scopes.{Denoted}
 use Rattle.go_env_core.specs.scope_core.Laws.{denotes}
 use Rattle.go_env_core.specs.names_core.Scope.{some_meaning}
-use Rattle.go_term_core.specs.Terms.{Term}
+use Rattle.go_env_core.specs.term_core.Terms.{Term}
 use Rattle.go_piece_core.specs.expr_core.Laws.{AgreeOnIdents, LooksAtNames}
 use Rattle.go_piece_core.specs.expr_core.Looks.{WrittenRules}
 use Rattle.go_env_core.specs.inline_core.Types.{InlineOf}

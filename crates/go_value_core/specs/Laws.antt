@@ -4,7 +4,7 @@ use Rattle.std.specs.List.{list_all}
 use Rattle.go_tree_nodes.specs.declared.decls.ValueKind.{ValueKind}
 use Rattle.go_tree_nodes.specs.declared.decls.ValueKind.TheVariants as kinds
 use Rattle.go_tree_nodes.specs.Trees.{ValueSpecTree}
-use Rattle.go_term_core.specs.decl_core.TopDecls.{FormTree, ValueForm, TypeForm, FuncForm}
+use Rattle.go_env_core.specs.decl_core.TopDecls.{FormTree, ValueForm, TypeForm, FuncForm}
 use Rattle.go_piece_core.specs.denote_core.declared.things.Found.{Found}
 use Rattle.go_piece_core.specs.statement_core.Declarations.{is_initial}
 use Rattle.go_piece_core.specs.expr_core.Looks.{Looks}

@@ -5,6 +5,7 @@ pub mod Package
 pub mod Sample
 pub mod mirrors
 pub mod block_core
+pub mod decl_core
 pub mod entry_core
 pub mod env_core
 pub mod face_core
@@ -13,4 +14,5 @@ pub mod names_core
 pub mod operand_core
 pub mod scope_core
 pub mod table_core
+pub mod term_core
 pub mod written_core

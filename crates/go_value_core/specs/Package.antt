@@ -7,9 +7,9 @@ use Rattle.go_tree_nodes.specs.declared.names.Ident.{Ident}
 use Rattle.go_tree_nodes.specs.declared.decls.ValueKind.{ValueKind}
 use Rattle.go_tree_nodes.specs.declared.decls.ValueKind.TheVariants as kinds
 use Rattle.go_tree_nodes.specs.Trees.{TypeTree, ValueSpecTree}
-use Rattle.go_term_core.specs.decl_core.declared.keys.DeclRef.{DeclRef}
-use Rattle.go_term_core.specs.decl_core.Shown.{decl_shown}
-use Rattle.go_term_core.specs.decl_core.TopDecls.{TopDeclTree, FormTree, ValueForm, TypeForm, FuncForm}
+use Rattle.go_env_core.specs.decl_core.declared.keys.DeclRef.{DeclRef}
+use Rattle.go_env_core.specs.decl_core.Shown.{decl_shown}
+use Rattle.go_env_core.specs.decl_core.TopDecls.{TopDeclTree, FormTree, ValueForm, TypeForm, FuncForm}
 use Rattle.go_env_core.specs.block_core.Blocks.{BlocksModel}
 use Rattle.go_env_core.specs.scope_core.Models.{scopes_model}
 use Rattle.go_env_core.specs.scope_core.Scopes as scopes

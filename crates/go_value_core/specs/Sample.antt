@@ -7,13 +7,13 @@ use Rattle.go_tree_nodes.specs.declared.decls.ValueKind.TheVariants as value_kin
 use Rattle.go_tree_nodes.specs.declared.types.TypeName.TheVariants as type_names
 use Rattle.go_tree_nodes.specs.Trees.{Separated, One, Then, TypeTree, NamedType, ExprTree, Integer, Binary, Literal, NoItems, Item, ValueSpecTree}
 use Rattle.go_tree_nodes.specs.Samples.{at, called, name_at}
-use Rattle.go_term_core.specs.decl_core.declared.places.DeclKind.TheVariants as kinds
-use Rattle.go_term_core.specs.decl_core.declared.keys.DeclRef.{DeclRef}
-use Rattle.go_term_core.specs.decl_core.TopDecls.{FormTree, ValueForm, top_decl}
+use Rattle.go_env_core.specs.decl_core.declared.places.DeclKind.TheVariants as kinds
+use Rattle.go_env_core.specs.decl_core.declared.keys.DeclRef.{DeclRef}
+use Rattle.go_env_core.specs.decl_core.TopDecls.{FormTree, ValueForm, top_decl}
 use Rattle.go_env_core.specs.block_core.Blocks.{blocks_model}
 use Rattle.go_piece_core.specs.constant_core.declared.values.Constant.TheVariants as constants
-use Rattle.go_term_core.specs.declared.term.Basic.TheVariants as basics
-use Rattle.go_term_core.specs.Terms.{Term, Predeclared}
+use Rattle.go_env_core.specs.term_core.declared.term.Basic.TheVariants as basics
+use Rattle.go_env_core.specs.term_core.Terms.{Term, Predeclared}
 use Rattle.go_piece_core.specs.operand_core.declared.types.ValueType.TheVariants as value_types
 use Rattle.go_piece_core.specs.operand_core.declared.types.Operand.{Operand}
 use Rattle.go_env_core.specs.face_core.declared.face.Face.TheVariants as faces

@@ -24,6 +24,11 @@ pub use needs::package_needs;
 pub use placed::{PlacedDecl, placed_decls};
 pub use through::through_itself;
 
+/// What the crates above name of `go_decl_core`.
+pub mod decl_core {
+    pub use go_env_core::decl_core::{DeclForm, Outline};
+}
+
 /// What the crates above name of `go_env_core`.
 pub mod env_core {
     pub use go_env_core::{Meaning, Scene, outer_names, stand};

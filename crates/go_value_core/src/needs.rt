@@ -1,6 +1,6 @@
 //! What the declarations of a package need of one another.
 ghost use Rattle.std.specs.Prelude.{◌≡◌, ◌++◌, Some, IfOk, OnOk, map};
-ghost use Rattle.go_term_core.specs.decl_core.Shown.{decl_shown, form_shown};
+ghost use Rattle.go_env_core.specs.decl_core.Shown.{decl_shown, form_shown};
 ghost use Rattle.go_tree_nodes.specs.Shapes.{shape_value_spec};
 ghost use Rattle.go_needs_core.specs.Needs.{rows_of};
 ghost use Rattle.go_env_core.specs.scope_core.Laws.{denotes};
@@ -14,8 +14,8 @@ use crate::placed::PlacedDecl;
 use crate::specs::expr_of;
 use go_env_core::Scene;
 use go_env_core::block_core::DeclRef;
+use go_env_core::decl_core::DeclForm;
 use go_env_core::scope_core::{InScope, Scopes};
-use go_term_core::decl_core::DeclForm;
 use go_tree_nodes::{Ident, ValueKind, ValueSpec};
 use std::alloc::{AllocError, Global};
 

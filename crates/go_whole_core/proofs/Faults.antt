@@ -10,10 +10,10 @@ use Rattle.go_tree_nodes.specs.declared.types.TypeName.{TypeName}
 use Rattle.go_text_core.specs.Text.{is_blank}
 use Rattle.go_text_core.specs.declared.rule.Rule.TheVariants.{B5, B6}
 use Rattle.go_tree_nodes.specs.Starts.{type_name_start}
-use Rattle.go_term_core.specs.decl_core.declared.keys.DeclKey.{DeclKey}
-use Rattle.go_term_core.specs.decl_core.TopDecls.{TopDeclTree, FormTree, ValueForm, TypeForm, FuncForm}
-use Rattle.go_term_core.specs.declared.term.MemberPlace.{MemberPlace}
-use Rattle.go_term_core.specs.Terms.{Term, NoType, Predeclared, ErrorType, Defined, PointerTo, StructOf, InterfaceOf, AMethod, NoMethod, Sign, term_keys, sign_keys}
+use Rattle.go_settle_core.specs.decl_core.declared.keys.DeclKey.{DeclKey}
+use Rattle.go_settle_core.specs.decl_core.TopDecls.{TopDeclTree, FormTree, ValueForm, TypeForm, FuncForm}
+use Rattle.go_settle_core.specs.term_core.declared.term.MemberPlace.{MemberPlace}
+use Rattle.go_settle_core.specs.term_core.Terms.{Term, NoType, Predeclared, ErrorType, Defined, PointerTo, StructOf, InterfaceOf, AMethod, NoMethod, Sign, term_keys, sign_keys}
 use Rattle.go_settle_core.specs.declared.kind.Kind.{Kind}
 use Rattle.go_settle_core.specs.Settled.{kind_of_term, is_among_names}
 use Rattle.go_near_core.specs.table_core.Entries.{Entry, Member, find_entry, members_keys, term_in}

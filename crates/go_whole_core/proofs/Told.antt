@@ -1,8 +1,8 @@
 -- What is known by summaries, and what it mentions.
 use Rattle.std.proofs.Common.{◌≡◌, ℕ, ◌⊎◌, inl, inr, Bool, true, false, List, [], ◌∷◌, All, if◌then◌else◌, refl, sym, subst, ◌∙◌}
 use Rattle.std.specs.Prelude.{Some, None, Contains}
-use Rattle.go_term_core.specs.decl_core.declared.keys.DeclKey.{DeclKey}
-use Rattle.go_term_core.specs.decl_core.declared.keys.DeclRef.{DeclRef}
+use Rattle.go_settle_core.specs.decl_core.declared.keys.DeclKey.{DeclKey}
+use Rattle.go_settle_core.specs.decl_core.declared.keys.DeclRef.{DeclRef}
 use Rattle.go_block_core.specs.graph_core.Packages.{Trees}
 use Rattle.go_block_core.specs.Blocks.{AreBlocks}
 use Rattle.go_block_core.specs.Naming.{package_named}

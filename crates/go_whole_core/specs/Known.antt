@@ -2,8 +2,8 @@
 --
 -- The Go specification, "Packages", "Import declarations", "Exported identifiers".
 use Rattle.std.specs.Prelude.{◌≡◌, ℕ, List, [], Option, Some, None, Contains, ⊤}
-use Rattle.go_term_core.specs.decl_core.declared.keys.DeclKey.{DeclKey}
-use Rattle.go_term_core.specs.decl_core.declared.keys.DeclRef.{DeclRef}
+use Rattle.go_settle_core.specs.decl_core.declared.keys.DeclKey.{DeclKey}
+use Rattle.go_settle_core.specs.decl_core.declared.keys.DeclRef.{DeclRef}
 use Rattle.go_block_core.specs.declared.binding.Binding.{Binding}
 use Rattle.go_block_core.specs.declared.binding.Target.{Target}
 use Rattle.go_block_core.specs.declared.binding.Target.TheVariants as targets
@@ -14,7 +14,7 @@ use Rattle.go_block_core.specs.Blocks.{BlocksModel, file_binding}
 use Rattle.go_near_core.specs.operand_core.declared.types.ValueType.{ValueType}
 use Rattle.go_near_core.specs.operand_core.declared.types.ValueType.TheVariants as value_types
 use Rattle.go_near_core.specs.operand_core.declared.types.Operand.{Operand}
-use Rattle.go_term_core.specs.Terms.{Term, term_keys, sign_keys}
+use Rattle.go_settle_core.specs.term_core.Terms.{Term, term_keys, sign_keys}
 use Rattle.go_near_core.specs.table_core.Entries.{Entry, find_entry, entry_keys}
 use Rattle.go_near_core.specs.face_core.declared.face.Face.TheVariants as faces
 use Rattle.go_near_core.specs.face_core.Faces.{TheFace}

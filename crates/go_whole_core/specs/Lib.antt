@@ -29,3 +29,4 @@ pub mod table_core
 pub mod type_core
 pub mod used_core
 pub mod value_core
+pub mod written_core

@@ -50,8 +50,13 @@ pub mod package_core {
 pub mod part_core {
     pub use go_near_core::part_core::{
         Part, PartFile, PartInput, Parts, compile_over, compile_part, one_part,
-        part_has_occurrences, same_imports,
+        part_has_occurrences, same_imports, types_of,
     };
+}
+
+/// What the crates above name of `go_ready_core`.
+pub mod ready_core {
+    pub use go_near_core::ready_core::{PackageAt, package_outlines};
 }
 
 /// What the crates above name of `go_select_core`.

@@ -11,3 +11,25 @@ mod terms;
 pub use laws::written_by_names;
 pub use names::{TypeNames, WrittenIn};
 pub use terms::{write_signature, write_type};
+
+/// What the crates above name of `go_decl_core`.
+pub mod decl_core {
+    pub use go_term_core::decl_core::{
+        DeclForm, DeclKey, DeclKind, DeclRef, Outline, TopDecl, outline, place_order,
+    };
+}
+
+/// What the crates above name of `go_path_core`.
+pub mod path_core {
+    pub use go_term_core::path_core::ImportPath;
+}
+
+/// What the crates above name of `go_term_core`.
+pub mod term_core {
+    pub use go_term_core::{Basic, MemberPlace, TypeTerm};
+}
+
+/// What the crates above name of `go_tree_nodes`.
+pub mod tree_nodes {
+    pub use go_tree_nodes::{FuncDecl, Receiver, TypeName, TypeSpec};
+}

@@ -2,8 +2,8 @@
 ghost use Rattle.std.specs.Prelude.{◌≡◌, IfOk};
 ghost use Rattle.go_term_core.specs.Shapes.{shape};
 
-use go_path_core::ImportPath;
 use go_term_core::decl_core::{DeclKind, DeclRef, Places};
+use go_term_core::path_core::ImportPath;
 use go_term_core::{LocalPlace, MemberPlace, TypeTerm};
 use go_tree_nodes::TypeName;
 use std::alloc::{AllocError, Global};

@@ -10,7 +10,7 @@ ghost use Rattle.go_written_core.specs.Written.{in_file, term_of, signature_of, 
 use crate::names::{TypeNames, WrittenIn};
 use go_term_core::decl_core::{DeclKind, last_ident};
 use go_term_core::{Field, FieldLine, Method, Params, Signature, Tag, TypeTerm};
-use go_text_core::{Span, add, boxed};
+use go_tree_nodes::text_core::{Span, add, boxed};
 use go_tree_nodes::{
     Fields, Ident, Idents, MethodLine, NextIdent, Param, Results, TextLiteral, TypeExpr, TypeName,
 };

@@ -1,7 +1,7 @@
 -- What a session replies to each command.
 use Rattle.std.specs.Prelude.{◌≡◌, ◌+◌, ◌⊎◌, ℕ, Bool, true, false, if◌then◌else◌, List, [], map, Option, Some, None, Result, Ok, Err}
 use Rattle.go_text_core.specs.declared.rule.Rule.{Rule}
-use Rattle.go_text_core.specs.declared.rule.Rule.TheVariants.{M0, O1, O2, O5, V3}
+use Rattle.go_text_core.specs.declared.rule.Rule.TheVariants.{M0, O1, O2, O5}
 use Rattle.go_path_core.specs.Path.{IsPath}
 use Rattle.go_wire_core.specs.declared.request.Command.{Command}
 use Rattle.go_wire_core.specs.declared.request.Command.TheVariants.{Open, Edit, Build, List as ListOf, Doc, Complete, Define, Close}
@@ -15,10 +15,10 @@ use Rattle.go_crossing_core.specs.hall.Asked.{IsAnswer}
 use Rattle.go_crossing_core.specs.hall.Built.{IsBuilt}
 use Rattle.go_crossing_core.specs.hall.declared.faults.Fault.{Fault}
 use Rattle.go_crossing_core.specs.hall.Edits.{IsEditOf, IsEditRefusal}
-use Rattle.go_crossing_core.specs.hall.Queries.{IsCompleteAnswer, IsDefineAnswer, IsDocAnswer, IsListAnswer}
+use Rattle.go_crossing_core.specs.hall.Queries.{IsCompleteAnswer, IsDefineAnswer, IsDocAnswer, IsListAnswer, IsTypeDocAnswer}
 use Rattle.go_crossing_core.specs.hall.Refusals.{IsBuildRefusal, IsOpenRefusal}
 use Rattle.go_crossing_core.specs.hall.Seat.{Seat}
-use Rattle.govisd_desk.specs.Told.{TellsDeclaration, TellsDoc, TellsListing, TellsNames, place_of}
+use Rattle.govisd_desk.specs.Told.{TellsDeclaration, TellsDoc, TellsListing, TellsNames, TellsTypeDoc, place_of}
 
 -- ---- open
 
@@ -77,10 +77,10 @@ IsReply old from Answers Fits reply new =
     BeginsWith new.seen old.seen × (new ≡ record old { seen = new.seen })
     × ((reply ≡ Refused M0) ⊎ (BeginsWith new.seen old.told × IsTold old.draft.own from new.seen Answers Fits reply))
 
--- of a package; of one of its types there is no such command
+-- of a package, or of one of its types
 abbrev pub IsDocReply : Seat → List ℕ → List ℕ → Option (List ℕ) → WireReply → Seat → Type 0
 IsDocReply old from path None reply new = IsReply old from (IsDocAnswer from path) TellsDoc reply new
-IsDocReply old from path (Some type_name) reply new = (reply ≡ Refused V3) × (new ≡ old)
+IsDocReply old from path (Some type_name) reply new = IsReply old from (IsTypeDocAnswer from path type_name) TellsTypeDoc reply new
 
 -- ---- all commands
 

@@ -3,7 +3,7 @@ use Rattle.std.specs.Prelude.{◌≡◌, ℕ, List, map, Option, Some, None, opt
 use Rattle.std.specs.Global.{Global}
 use Rattle.std.specs.List.{AllZip}
 use Rattle.std.specs.declared.string.String.{String}
-use Rattle.go_text_core.specs.declared.rule.Rule.TheVariants.{M0, V3}
+use Rattle.go_text_core.specs.declared.rule.Rule.TheVariants.{M0}
 use Rattle.go_wire_core.specs.declared.reply.FaultPlace.{FaultPlace}
 use Rattle.go_wire_core.specs.declared.reply.PackageEntry.{PackageEntry}
 use Rattle.go_wire_core.specs.declared.reply.Symbol.{Symbol}
@@ -19,6 +19,10 @@ use Rattle.go_crossing_core.specs.hall.declared.faults.Fault.{Fault}
 use Rattle.go_crossing_core.specs.query_core.declared.listing.Listing.{Listing}
 use Rattle.go_crossing_core.specs.query_core.declared.documenting.PackageDoc.{PackageDoc}
 use Rattle.go_crossing_core.specs.symbol_core.declared.symbols.Symbol.{Symbol as FoundSymbol}
+use Rattle.go_crossing_core.specs.member_core.declared.listing.MemberKind.{MemberKind}
+use Rattle.go_crossing_core.specs.member_core.declared.listing.MemberKind.TheVariants as member
+use Rattle.go_crossing_core.specs.type_doc_core.declared.telling.Member.{Member}
+use Rattle.go_crossing_core.specs.type_doc_core.declared.telling.TypeDoc.{TypeDoc}
 
 -- a fault, with where it stands
 abbrev pub place_of : Fault → FaultPlace
@@ -72,6 +76,20 @@ abbrev pub TellsDoc : ℕ × PackageDoc → WireReply → Type 0
 TellsDoc a (Described batch name path symbols) = (batch ≡ a.0) × (name ≡ a.1.name.now) × (path ≡ a.1.path.now) × (map symbol_told symbols.items ≡ map symbol_shown a.1.symbols.items)
 TellsDoc a reply = ⊥
 
+-- ---- what is told of a member of a type
+
+abbrev pub member_kind_told : MemberKind → SymbolKind
+member_kind_told member.Field = Field
+member_kind_told member.Method = Method
+
+abbrev pub member_told : Member → SymbolLists
+member_told m = record { doc = m.doc.now; kind = member_kind_told m.kind; name = m.name; through = Some m.through.items }
+
+-- the reply has the number of batches, the package, and the same members, in order
+abbrev pub TellsTypeDoc : ℕ × TypeDoc → WireReply → Type 0
+TellsTypeDoc a (Described batch name path symbols) = (batch ≡ a.0) × (name ≡ a.1.name.now) × (path ≡ a.1.path.now) × (map symbol_told symbols.items ≡ map member_told a.1.members.items)
+TellsTypeDoc a reply = ⊥
+
 -- ---- names
 
 -- the reply has the number of batches and the same names, in order
@@ -79,13 +97,8 @@ abbrev pub AreNamesTold : ℕ → List (String Global) → WireReply → Type 0
 AreNamesTold number found (Completed batch names) = (batch ≡ number) × (names.items ≡ map (λ s. string_bytes s) found)
 AreNamesTold number found reply = ⊥
 
--- the names are told, if they are served; else there is no such command
-abbrev pub AreNamesOrNone : ℕ → Option (Vec (String Global) Global) → WireReply → Type 0
-AreNamesOrNone number (Some found) reply = AreNamesTold number found.items reply
-AreNamesOrNone number None reply = reply ≡ Refused V3
-
-abbrev pub TellsNames : ℕ × Option (Vec (String Global) Global) → WireReply → Type 0
-TellsNames a reply = AreNamesOrNone a.0 a.1 reply
+abbrev pub TellsNames : ℕ × Vec (String Global) Global → WireReply → Type 0
+TellsNames a reply = AreNamesTold a.0 a.1.items reply
 
 -- the reply has the number of batches and the declaration as it is printed
 abbrev pub TellsDeclaration : ℕ × String Global → WireReply → Type 0

@@ -1,10 +1,10 @@
 //! What an open session replies to each command.
 ghost use Rattle.std.specs.Prelude.{◌≡◌, option_map, string_bytes};
-ghost use Rattle.go_crossing_core.specs.hall.Queries.{IsCompleteAnswer, IsDefineAnswer, IsDocAnswer, IsListAnswer};
+ghost use Rattle.go_crossing_core.specs.hall.Queries.{IsCompleteAnswer, IsDefineAnswer, IsDocAnswer, IsListAnswer, IsTypeDocAnswer};
 ghost use Rattle.govisd_desk.specs.Sessions.{IsBuildReply, IsDocReply, IsEditReply, IsReply, IsTold};
-ghost use Rattle.govisd_desk.specs.Told.{TellsBuild, TellsDeclaration, TellsDoc, TellsListing, TellsNames};
+ghost use Rattle.govisd_desk.specs.Told.{TellsBuild, TellsDeclaration, TellsDoc, TellsListing, TellsNames, TellsTypeDoc};
 
-use crate::telling::{described, listed, names_told, or_memory, places};
+use crate::telling::{described, described_type, listed, names_told, or_memory, places};
 use go_crossing_core::hall::{Built, Look, Session};
 use go_crossing_core::hall_core::Named;
 use go_text_core::Rule;
@@ -110,7 +110,33 @@ pub(crate) fn doc<L: Named>(
     }
 }
 
-/// Tells the names of a package. Those of one of its types are not served.
+// The members of a type, as they go out.
+fn told_type(alloc: Global, look: &Look, from: &str, path: &str, type_name: &str) -> WireReply
+    ensures { IsTold look.now.own from.now look.now.board (IsTypeDocAnswer from.now path.now type_name.now) TellsTypeDoc result }
+{
+    match look.doc_of_type(alloc, from, path, type_name) {
+        Ok((batch, members)) => or_memory(described_type(alloc, batch, &members)),
+        Err(rule) => WireReply::Refused { rule },
+    }
+}
+
+// Tells the members of a type.
+fn doc_of_type<L: Named>(
+    alloc: Global,
+    session: &mut Session<'_, L>,
+    from: &str,
+    path: &str,
+    type_name: &str,
+) -> WireReply
+    ensures { IsReply session.old from.now (IsTypeDocAnswer from.now path.now type_name.now) TellsTypeDoc result session.new }
+{
+    match session.look() {
+        Ok(look) => told_type(alloc, &look, from, path, type_name),
+        Err(rule) => WireReply::Refused { rule },
+    }
+}
+
+/// Tells the names of a package, or the members of one of its types.
 pub(crate) fn doc_of<L: Named>(
     alloc: Global,
     session: &mut Session<'_, L>,
@@ -121,7 +147,7 @@ pub(crate) fn doc_of<L: Named>(
     ensures { IsDocReply session.old from.now path.now type_name.now result session.new }
 {
     match type_name {
-        Some(_) => WireReply::Refused { rule: Rule::V3 },
+        Some(name) => doc_of_type(alloc, session, from, path, name.as_str()),
         None => doc(alloc, session, from, path),
     }
 }
@@ -136,7 +162,7 @@ fn told_names(alloc: Global, look: &Look, path: &str, file: &str, offset: u64) -
     }
 }
 
-/// Tells the names that may stand in place of an identifier. Those behind a value, and of keys of a literal, are not served.
+/// Tells the names that may stand in place of an identifier.
 pub(crate) fn complete<L: Named>(
     alloc: Global,
     session: &mut Session<'_, L>,

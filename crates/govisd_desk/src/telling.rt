@@ -2,11 +2,12 @@
 ghost use Rattle.std.specs.Prelude.{◌≡◌, IfOk, map, string_bytes};
 ghost use Rattle.std.specs.List.{AllZip};
 ghost use Rattle.go_crossing_core.specs.shown_core.Shown.{texts};
-ghost use Rattle.govisd_desk.specs.Told.{AreNamesTold, IsEntryFor, TellsDoc, TellsListing, TellsNames, kind_told, or_memory, place_of, symbol_shown, symbol_told};
+ghost use Rattle.govisd_desk.specs.Told.{AreNamesTold, IsEntryFor, TellsDoc, TellsListing, TellsTypeDoc, kind_told, member_kind_told, member_told, or_memory, place_of, symbol_shown, symbol_told};
 
 use go_crossing_core::hall::Fault;
 use go_crossing_core::query_core::{Listing, PackageDoc, PackageEntry as FoundEntry};
 use go_crossing_core::symbol_core::Symbol as FoundSymbol;
+use go_crossing_core::type_doc_core::{Member, MemberKind, TypeDoc};
 use go_decl_core::DeclKind;
 use go_graph_core::SourceFile;
 use go_text_core::{Name, Rule, add};
@@ -195,15 +196,7 @@ fn owned_names(alloc: Global, all: &[String]) -> Result<Vec<Name>, AllocError>
     Ok(owned)
 }
 
-// Names as they go out.
-fn completed(alloc: Global, batch: u64, found: &[String]) -> Result<WireReply, AllocError>
-    ensures { IfOk result (AreNamesTold batch found.now) }
-{
-    let names = owned_names(alloc, found)?;
-    Ok(WireReply::Completed { batch, names })
-}
-
-/// The names that may stand somewhere, as they go out, if they are served.
+/// The names that may stand somewhere, as they go out.
 ///
 /// # Errors
 ///
@@ -211,14 +204,84 @@ fn completed(alloc: Global, batch: u64, found: &[String]) -> Result<WireReply, A
 pub(crate) fn names_told(
     alloc: Global,
     batch: u64,
-    found: &Option<Vec<String>>,
+    found: &[String],
 ) -> Result<WireReply, AllocError>
-    ensures { IfOk result (TellsNames (batch, found.now)) }
+    ensures { IfOk result (AreNamesTold batch found.now) }
+{
+    let names = owned_names(alloc, found)?;
+    Ok(WireReply::Completed { batch, names })
+}
+
+// Names once more.
+fn names_again(alloc: Global, all: &[Name]) -> Result<Vec<Name>, AllocError>
+    ensures { IfOk result (λ v. v.items ≡ all.now) }
+{
+    let mut names = Vec::new(alloc);
+    for name in all {
+        let name = name.copy(alloc)?;
+        add(&mut names, name)?;
+    }
+    Ok(names)
+}
+
+// What a member is.
+fn member_kind(found: MemberKind) -> SymbolKind
+    ensures { result ≡ member_kind_told found }
 {
     match found {
-        Some(names) => completed(alloc, batch, names),
-        None => Ok(WireReply::Refused { rule: Rule::V3 }),
+        MemberKind::Field => SymbolKind::Field,
+        MemberKind::Method => SymbolKind::Method,
     }
+}
+
+// What is told of a member of a type.
+fn member(alloc: Global, found: &Member<'_>) -> Result<Symbol, AllocError>
+    ensures { IfOk result (λ s. symbol_told s ≡ member_told found.now) }
+{
+    let doc = Text::copied(alloc, found.doc)?;
+    let name = found.name.copy(alloc)?;
+    let through = names_again(alloc, &found.through)?;
+    Ok(Symbol {
+        doc,
+        kind: member_kind(found.kind),
+        name,
+        through: Some(through),
+    })
+}
+
+// What is told of members of a type.
+fn members(alloc: Global, all: &[Member<'_>]) -> Result<Vec<Symbol>, AllocError>
+    ensures { IfOk result (λ v. map symbol_told v.items ≡ map member_told all.now) }
+{
+    let mut symbols = Vec::new(alloc);
+    for found in all {
+        let symbol = member(alloc, found)?;
+        add(&mut symbols, symbol)?;
+    }
+    Ok(symbols)
+}
+
+/// The members of a type as they go out.
+///
+/// # Errors
+///
+/// `AllocError` where memory is wanting.
+pub(crate) fn described_type(
+    alloc: Global,
+    batch: u64,
+    found: &TypeDoc<'_>,
+) -> Result<WireReply, AllocError>
+    ensures { IfOk result (TellsTypeDoc (batch, found.now)) }
+{
+    let name = Name::from_text(alloc, found.name)?;
+    let path = Text::copied(alloc, found.path.as_str())?;
+    let symbols = members(alloc, &found.members)?;
+    Ok(WireReply::Described {
+        batch,
+        name,
+        path,
+        symbols,
+    })
 }
 
 /// A reply, or that memory is wanting.

@@ -1,7 +1,7 @@
 -- The rules of the checker look at the names of a piece alone.
 use Rattle.std.proofs.Common.{◌≡◌, ℕ, Bool, List, [], ◌∷◌, Option, refl, ap}
 use Rattle.go_tree_nodes.specs.Trees.{TypeTree}
-use Rattle.go_term_core.specs.Terms.{Term, Sign}
+use Rattle.go_env_core.specs.term_core.Terms.{Term, Sign}
 use Rattle.go_env_core.specs.handle_core.Declarations.{Declaration}
 use Rattle.go_local_core.specs.Binding.{NameLook}
 use Rattle.go_local_core.specs.Alike.{LookAtNames}

@@ -2,7 +2,7 @@
 use Rattle.std.specs.Prelude.{ℕ, Bool, List, [], ◌∷◌, ◌++◌, Option, Some, None}
 use Rattle.go_tree_nodes.specs.declared.exprs.Key.{Key}
 use Rattle.go_tree_nodes.specs.Trees.{ExprTree}
-use Rattle.go_term_core.specs.tree_core.declared.occurrence.Role.TheVariants as roles
+use Rattle.go_literal_core.specs.tree_core.declared.occurrence.Role.TheVariants as roles
 use Rattle.go_literal_core.specs.denote_core.declared.things.Stand.TheVariants as stands
 use Rattle.go_literal_core.specs.declared.things.Mode.{Mode}
 use Rattle.go_literal_core.specs.Literals.{element_target}

@@ -1,13 +1,15 @@
 -- The identifiers of a file by the places of what stands there.
-use Rattle.std.specs.Prelude.{◌≡◌, ◌<◌, ◌^◌, ℕ, length, map}
+use Rattle.std.specs.Prelude.{◌≡◌, ◌<◌, ◌^◌, ℕ, Some, length, map, slice_get}
 use Rattle.std.specs.List.{HoldsAt}
 use Rattle.go_tree_nodes.specs.Rules.{Wf_file}
 use Rattle.go_tree_core.specs.Occurrences.{CoversAt, Follow, file_occs}
-use Rattle.go_expr_core.specs.Laws.{occurrence_place, use_place}
+use Rattle.go_spot_core.specs.expr_core.Laws.{occurrence_place, use_place}
+use Rattle.go_complete_core.specs.ready_core.Packages.{trees_in}
 use Rattle.go_complete_core.specs.snap_core.Snapshots.{FoundFile}
 
--- the file is of the grammar, its occurrences follow one another, and what its part has stands where they stand
+-- the file is one of its package and of the grammar, its occurrences follow one another, and what its part has stands where they stand
 pub record HasSpots (f : FoundFile) : Type 0 where
+  pub listed : slice_get (trees_in f.of_part.input.source) f.number ≡ Some f.tree
   pub places : map use_place f.made.answers.uses ≡ map occurrence_place (file_occs f.tree)
   pub few : length (file_occs f.tree) < 2 ^ 64
   pub well : Wf_file f.tree

@@ -1,6 +1,6 @@
 -- The uses of types by one another as edges between their numbers.
 use Rattle.std.specs.Prelude.{◌≡◌, ◌↔◌, ◌⊎◌, ℕ, suc, ◌<◌, Bool, true, false, List, [], ◌∷◌, ◌++◌, Option, Some, None, length, slice_get, slice_index_or, slice_set, Contains, if◌then◌else◌}
-use Rattle.go_term_core.specs.decl_core.declared.keys.DeclKey.{DeclKey}
+use Rattle.go_table_core.specs.decl_core.declared.keys.DeclKey.{DeclKey}
 use Rattle.go_cycle_core.specs.declared.edge.Edge.{Edge}
 use Rattle.go_cycle_core.specs.Cycle.{IsOnCycle}
 use Rattle.go_table_core.specs.Entries.{Entry}

@@ -1,7 +1,7 @@
 use Rattle.std.proofs.Common.{rules, of_calls, ◌∙◌}
 use Rattle.std.proofs.lemmas.Fn.{always_returns_same}
-use Rattle.go_term_core.specs.decl_core.declared.keys.DeclRef.{DeclRef}
-use Rattle.go_term_core.specs.decl_core.Order.{place_cmp}
+use Rattle.go_fault_core.specs.decl_core.declared.keys.DeclRef.{DeclRef}
+use Rattle.go_fault_core.specs.decl_core.Order.{place_cmp}
 use Rattle.go_answer_core.proofs.Listed.{searched}
 use Rattle.go_answer_core.proofs.faces.is_listed.Goals as goal
 

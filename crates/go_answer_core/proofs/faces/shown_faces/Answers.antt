@@ -1,6 +1,6 @@
 use Rattle.std.proofs.Common.{sym, ap, ◌∙◌, subst, List, map}
 use Rattle.std.proofs.lemmas.Result.{IfOk-weaker}
-use Rattle.go_term_core.specs.decl_core.declared.keys.DeclRef.{DeclRef}
+use Rattle.go_fault_core.specs.decl_core.declared.keys.DeclRef.{DeclRef}
 use Rattle.go_fault_core.specs.block_core.Exports.{name_and_decl}
 use Rattle.go_face_core.specs.Held.{declared_shown}
 use Rattle.go_face_core.specs.Packages.{DeclaredOf, decls_declared, names_seen, package_faces}

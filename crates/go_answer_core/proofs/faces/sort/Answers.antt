@@ -1,8 +1,8 @@
 use Rattle.std.proofs.Common.{rules, of_calls}
 use Rattle.std.specs.Ordering.{is_lt}
 use Rattle.std.proofs.lemmas.Fn.{always_returns_same}
-use Rattle.go_term_core.specs.decl_core.declared.keys.DeclRef.{DeclRef}
-use Rattle.go_term_core.specs.decl_core.Order.{place_cmp}
+use Rattle.go_fault_core.specs.decl_core.declared.keys.DeclRef.{DeclRef}
+use Rattle.go_fault_core.specs.decl_core.Order.{place_cmp}
 use Rattle.go_answer_core.proofs.Listed.{order_weak}
 use Rattle.go_answer_core.proofs.faces.sort.Goals as goal
 

@@ -1,5 +1,5 @@
 use Rattle.std.proofs.Common.{◌≡◌, ◌++◌, map, take}
-use Rattle.go_term_core.specs.decl_core.Shown.{decl_shown}
+use Rattle.go_fault_core.specs.decl_core.Shown.{decl_shown}
 use Rattle.go_answer_core.specs.Outer.{looped_decl_faults}
 use Rattle.go_answer_core.proofs.outer.add_looped.Given as goal
 

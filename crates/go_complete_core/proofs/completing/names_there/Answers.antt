@@ -4,9 +4,9 @@ use Rattle.std.proofs.lemmas.Result.{IfOk-weaker}
 use Rattle.go_tree_nodes.specs.Shapes.{file_of}
 use Rattle.go_tree_nodes.specs.declared.names.Ident.{Ident}
 use Rattle.go_block_core.specs.Blocks.{BlocksModel}
-use Rattle.go_context_core.specs.Alone.{HasLocals}
-use Rattle.go_summary_core.specs.Summaries.{SummaryModel}
-use Rattle.go_summary_core.specs.Views.{faces_told}
+use Rattle.go_fitting_core.specs.context_core.Alone.{HasLocals}
+use Rattle.go_fitting_core.specs.summary_core.Summaries.{SummaryModel}
+use Rattle.go_fitting_core.specs.summary_core.Views.{faces_told}
 use Rattle.go_place_core.specs.part_core.Inputs.{InputModel}
 use Rattle.go_place_core.specs.part_core.Parts.{ContentOf}
 use Rattle.go_spot_core.specs.Shown.{idents_shown, spot_shown}

@@ -1,5 +1,5 @@
 use Rattle.std.proofs.Common.{ap, map, ◌∙◌}
-use Rattle.go_term_core.specs.decl_core.declared.keys.DeclKey.{DeclKey}
+use Rattle.go_type_core.specs.decl_core.declared.keys.DeclKey.{DeclKey}
 use Rattle.go_type_core.specs.table_core.Shown.{member_shown}
 use Rattle.go_embed_core.specs.Owners.{declared_found}
 use Rattle.go_embed_core.specs.mirrors.Tallies.{tallies, tally_of}

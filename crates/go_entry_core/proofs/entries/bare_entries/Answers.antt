@@ -1,5 +1,5 @@
 use Rattle.std.proofs.Common.{◌++◌, [], map, ap, ◌∙◌}
-use Rattle.go_term_core.specs.decl_core.Shown.{decl_shown}
+use Rattle.go_written_core.specs.decl_core.Shown.{decl_shown}
 use Rattle.go_table_core.specs.Shown.{entry_shown}
 use Rattle.go_entry_core.specs.Entries.{file_at, file_entries, package_meanings}
 use Rattle.go_entry_core.specs.Outlines.{outline_shown}

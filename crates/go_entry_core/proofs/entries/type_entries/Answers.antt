@@ -1,5 +1,5 @@
 use Rattle.std.proofs.Common.{[], map, take, refl, sym, ap, ◌∙◌, subst}
-use Rattle.go_term_core.specs.decl_core.Shown.{decl_shown}
+use Rattle.go_written_core.specs.decl_core.Shown.{decl_shown}
 use Rattle.go_table_core.specs.Shown.{entry_shown}
 use Rattle.go_table_core.specs.Tables.{AreOf, KeysRise}
 use Rattle.go_entry_core.specs.Entries.{entries_with, file_at, file_methods, package_meanings, package_methods}

@@ -1,6 +1,6 @@
 use Rattle.std.proofs.Common.{map, take, sym, ap, ◌∙◌}
 use Rattle.std.proofs.lemmas.List.{take_all}
-use Rattle.go_term_core.specs.decl_core.Shown.{decl_shown}
+use Rattle.go_written_core.specs.decl_core.Shown.{decl_shown}
 use Rattle.go_table_core.specs.Shown.{entry_shown}
 use Rattle.go_written_core.specs.Written.{in_file}
 use Rattle.go_entry_core.specs.Entries.{file_methods}

@@ -1,5 +1,5 @@
 use Rattle.std.proofs.Common.{◌≡◌, ◌++◌, map, take}
-use Rattle.go_term_core.specs.decl_core.Shown.{decl_shown}
+use Rattle.go_entry_core.specs.decl_core.Shown.{decl_shown}
 use Rattle.go_entry_core.specs.written_core.Written.{in_file}
 use Rattle.go_face_core.specs.Held.{written_shown}
 use Rattle.go_face_core.specs.Written.{file_written}

@@ -1,5 +1,5 @@
 use Rattle.std.proofs.Common.{◌++◌, map, ap, ◌∙◌}
-use Rattle.go_term_core.specs.decl_core.Shown.{decl_shown}
+use Rattle.go_entry_core.specs.decl_core.Shown.{decl_shown}
 use Rattle.go_entry_core.specs.Entries.{file_at, package_meanings}
 use Rattle.go_entry_core.specs.Outlines.{outline_shown}
 use Rattle.go_face_core.specs.Held.{written_shown}

@@ -1,6 +1,6 @@
 use Rattle.std.proofs.Common.{rules}
 use Rattle.std.proofs.lemmas.Fn.{always_returns_same}
-use Rattle.go_term_core.specs.decl_core.Order.{place_cmp}
+use Rattle.go_entry_core.specs.decl_core.Order.{place_cmp}
 use Rattle.go_face_core.proofs.Searching.{face_found, face_missing}
 use Rattle.go_face_core.proofs.shown.face_among.Goals as goal
 

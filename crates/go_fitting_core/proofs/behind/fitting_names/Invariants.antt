@@ -1,6 +1,6 @@
 use Rattle.std.proofs.Common.{◌≡◌, ◌++◌, drop, map}
 use Rattle.std.specs.Prelude.{filter}
-use Rattle.go_block_core.specs.Exports.{name_and_decl}
+use Rattle.go_context_core.specs.block_core.Exports.{name_and_decl}
 use Rattle.go_open_core.specs.Blocks.{names_in}
 use Rattle.go_shown_core.specs.Shown.{texts}
 use Rattle.go_fitting_core.specs.mirrors.Steps.{fits_name}

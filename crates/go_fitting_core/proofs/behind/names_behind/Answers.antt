@@ -3,7 +3,7 @@ use Rattle.std.specs.Prelude.{string_bytes}
 use Rattle.std.specs.Global.{Global}
 use Rattle.std.specs.List.Sorted.{IsStrictlySortedBy}
 use Rattle.std.specs.declared.string.String.{String}
-use Rattle.go_block_core.specs.graph_core.Workspaces.{by_bytes}
+use Rattle.go_context_core.specs.graph_core.Workspaces.{by_bytes}
 use Rattle.go_fitting_core.proofs.Fits.{each_behind, none_sorted}
 use Rattle.go_fitting_core.proofs.behind.names_behind.Goals as goal
 

@@ -1,4 +1,4 @@
-use Rattle.std.proofs.Common.{◌≡◌, ℕ, List, subst}
+use Rattle.std.proofs.Common.{ℕ, List, subst}
 use Rattle.std.specs.Prelude.{◌↔◌, IsTrue}
 use Rattle.go_path_core.specs.Path.{elements, IsPrefix}
 use Rattle.go_hall.proofs.Prefixes.{inside_is}

@@ -1,4 +1,4 @@
-use Rattle.std.proofs.Common.{◌≡◌, ◌-◌, ◌<◌, ℕ, List, ℤ, Option, None, map, get_or, length, sym, ap, ◌∙◌, arith}
+use Rattle.std.proofs.Common.{◌-◌, ◌<◌, List, ℤ, Option, map, get_or, length, sym, ap, ◌∙◌, arith}
 use Rattle.std.specs.Prelude.{option_map, slice_get}
 use Rattle.go_machine_core.specs.declared.frame.Frame.{Frame}
 use Rattle.go_machine_core.specs.Programs.{linked_shown}

@@ -1,5 +1,5 @@
 use Rattle.std.proofs.Common.{◌++◌, ap, sym, ◌∙◌}
-use Rattle.go_term_core.specs.decl_core.Shown.{decl_shown}
+use Rattle.go_used_core.specs.decl_core.Shown.{decl_shown}
 use Rattle.go_tree_nodes.specs.Shapes.{file_of}
 use Rattle.go_file_core.specs.Files.{file_faults}
 use Rattle.go_file_core.specs.Stands.{stand_of}

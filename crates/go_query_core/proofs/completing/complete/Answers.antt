@@ -1,5 +1,4 @@
 use Rattle.std.proofs.Common.{subst}
-use Rattle.std.specs.Option.{option_map}
 use Rattle.std.proofs.lemmas.Result.{IfErr-weaker, IfOk-weaker}
 use Rattle.go_graph_core.specs.Workspaces.{IsWorkspace}
 use Rattle.go_complete_core.specs.part_core.Inputs.{IsInput}
@@ -21,7 +20,7 @@ complete_in-requires-clause-exports c =
     exports_shown s well c.sources.ensures.whole c.args.path.now c.args.file.now (file_in_shown c.in-Some.found) c.in-Some.ensures
 
 pub returns-in-Some-clause-ok : goal.returns-in-Some-clause-ok
-returns-in-Some-clause-ok c = IfOk-weaker c.complete_in.result _ _ (λ r h. is_completion c.args.snapshot.now c.args.path.now c.args.file.now c.args.offset (file_in_shown c.in-Some.found) c.in-Some.ensures (option_map texts_of r) h) c.complete_in.ensures.ok
+returns-in-Some-clause-ok c = IfOk-weaker c.complete_in.result _ _ (λ r h. is_completion c.args.snapshot.now c.args.path.now c.args.file.now c.args.offset (file_in_shown c.in-Some.found) c.in-Some.ensures (texts_of r) h) c.complete_in.ensures.ok
 
 pub returns-in-Some-clause-err : goal.returns-in-Some-clause-err
 returns-in-Some-clause-err c = IfErr-weaker c.complete_in.result _ _ (λ rule h. is_unasked c.args.snapshot.now c.args.path.now c.args.file.now c.args.offset (file_in_shown c.in-Some.found) c.in-Some.ensures rule h) c.complete_in.ensures.err

@@ -6,7 +6,7 @@ use Rattle.go_block_core.specs.Exports.{exported_names}
 use Rattle.go_block_core.specs.Holding.{package_block}
 use Rattle.go_symbol_core.specs.Symbols.{AreSymbols, symbol_shown}
 use Rattle.go_complete_core.specs.part_core.Inputs.{InputModel}
-use Rattle.go_shown_core.specs.summary_core.Summaries.{SummaryModel}
+use Rattle.go_complete_core.specs.summary_core.Summaries.{SummaryModel}
 use Rattle.go_query_core.proofs.Documented.{exported_are, exported_symbols_are}
 use Rattle.go_query_core.proofs.documenting.exported_doc.Goals as goal
 

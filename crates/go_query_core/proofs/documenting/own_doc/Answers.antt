@@ -1,5 +1,5 @@
 use Rattle.std.proofs.Common.{ℕ, List, map, sym, ap, ◌∙◌, subst}
-use Rattle.go_decl_core.specs.declared.keys.DeclRef.{DeclRef}
+use Rattle.go_block_core.specs.decl_core.declared.keys.DeclRef.{DeclRef}
 use Rattle.go_graph_core.specs.Packages.{IsPackageName, trees_of}
 use Rattle.go_graph_core.specs.Sources.{SourceModel}
 use Rattle.go_graph_core.specs.Workspaces.{PackageModel}

@@ -1,6 +1,6 @@
 use Rattle.std.proofs.Common.{[], map, sym, subst}
 use Rattle.std.specs.List.{AllByRecursion, AllZip}
-use Rattle.go_term_core.specs.decl_core.Shown.{decl_shown}
+use Rattle.go_fault_core.specs.decl_core.Shown.{decl_shown}
 use Rattle.go_func_core.specs.local_core.Tables.{IsFuncPlaced}
 use Rattle.go_func_core.specs.inline_core.Functions as functions
 use Rattle.go_ready_core.specs.Inlines.{form_funcs}

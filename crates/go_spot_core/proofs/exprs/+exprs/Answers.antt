@@ -8,8 +8,8 @@ use Rattle.go_tree_nodes.specs.Trees.{ExprTree}
 use Rattle.go_tree_nodes.specs.TypeShapes.{shape_type}
 use Rattle.go_tree_nodes.specs.Shapes.{shape, shape_key, items_of}
 use Rattle.go_tree_nodes.proofs.ShapeLemmas.{call_form, literal_form, struct_form}
-use Rattle.go_denote_core.specs.declared.things.Stand.{Stand}
-use Rattle.go_denote_core.specs.declared.things.Stand.TheVariants as stands
+use Rattle.go_expr_core.specs.denote_core.declared.things.Stand.{Stand}
+use Rattle.go_expr_core.specs.denote_core.declared.things.Stand.TheVariants as stands
 use Rattle.go_expr_core.specs.Places.{left_place, whole}
 use Rattle.go_spot_core.specs.Shown.{literal_shown}
 use Rattle.go_spot_core.specs.Used.{OfName, OfWritten, BehindSpot, used, first_used, type_name_used, type_used, expr_used, key_used, args_used, elements_used}

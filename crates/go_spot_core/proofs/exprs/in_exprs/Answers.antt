@@ -1,6 +1,6 @@
 use Rattle.std.proofs.Common.{refl, sym, ◌∙◌}
 use Rattle.go_tree_nodes.specs.Shapes.{shape}
-use Rattle.go_denote_core.specs.declared.things.Stand.TheVariants as stands
+use Rattle.go_expr_core.specs.denote_core.declared.things.Stand.TheVariants as stands
 use Rattle.go_spot_core.specs.Used.{expr_used}
 use Rattle.go_spot_core.proofs.Finding.{in_front, not_in_front, passed, hit, ended}
 use Rattle.go_spot_core.proofs.TreeLists.{listed_next, one_next, exprs_list}

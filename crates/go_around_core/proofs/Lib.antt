@@ -1,0 +1,5 @@
+mod Agreeing
+mod Looking
+pub mod Judging
+mod Needing
+mod OtherKeys

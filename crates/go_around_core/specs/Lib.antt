@@ -1,0 +1,12 @@
+pub mod Locals
+pub mod Types
+pub mod Arounds
+pub mod mirrors
+pub mod behind_core
+pub mod entry_core
+pub mod env_core
+pub mod face_core
+pub mod func_core
+pub mod handle_core
+pub mod names_core
+pub mod table_core

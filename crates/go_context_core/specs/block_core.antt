@@ -1,0 +1,3 @@
+-- What the crates above name of go_block_core.
+pub use Rattle.go_scope_core.specs.block_core.Exports as Exports
+pub use Rattle.go_scope_core.specs.block_core.declared as declared

@@ -1,0 +1,4 @@
+mod Opening
+mod Within
+mod Standing
+mod Giving

@@ -1,0 +1,35 @@
+-- The names for an identifier of a file whose outcome rests on types.
+--
+-- docs/RULES.md, "Occurrences", "Members and selectors", "Composite literals". The Go specification, "Selectors", "Calls", "Composite literals".
+use Rattle.std.specs.Prelude.{◌≡◌, ◌++◌, ℕ, true, List, All, Some, slice_get}
+use Rattle.go_tree_nodes.specs.Trees.{FileTree}
+use Rattle.go_tree_nodes.specs.Spelling.{IsPlaced}
+use Rattle.go_around_core.specs.table_core.Entries.{Entry}
+use Rattle.go_around_core.specs.face_core.Written.{WrittenOf, package_written}
+use Rattle.go_place_core.specs.ready_core.Packages.{PackageIn, outlines_in, trees_in}
+use Rattle.go_place_core.specs.part_core.Parts.{IsPart, PartModel, package_seen, seen_by}
+use Rattle.go_spot_core.specs.Opened.{FileUsed}
+use Rattle.go_place_core.specs.Completed.{names_placed}
+use Rattle.go_place_core.specs.Completions.{AreNamesFor, context_at, is_of_types, stand_of}
+use Rattle.go_place_core.specs.Laws.{IsPlacedIn}
+
+-- wherever it stands in its file, exactly these names have a declaration in its place, if its outcome rests on types there
+abbrev pub AreNamesByTypes : PartModel → ℕ → FileTree → FileUsed → List (List ℕ) → Type 0
+AreNamesByTypes p n f u found =
+    (made : IsPart p.input p.content) (placed : IsPlacedIn (stand_of p made n f) f u)
+    → is_of_types (context_at (stand_of p made n f) (names_placed (stand_of p made n f) f u placed) u.used) ≡ true
+    → AreNamesFor (stand_of p made n f) (names_placed (stand_of p made n f) f u placed) (context_at (stand_of p made n f) (names_placed (stand_of p made n f) f u placed) u.used) u.used.ident found
+
+-- the same, whatever the tree of the file of the number is
+abbrev pub AreNamesWith : PartModel → ℕ → FileUsed → List (List ℕ) → Type 0
+AreNamesWith p n u found = (f : FileTree) → slice_get (trees_in p.input.source) n ≡ Some f → AreNamesByTypes p n f u found
+
+-- what is written of the declarations of a package
+abbrev pub written_of : PackageIn → List Entry → List WrittenOf
+written_of q types = package_written q.shows q.path q.blocks types (outlines_in q)
+
+-- a package and the types that it sees are those of a part, and the tokens of its files follow one another
+pub record IsSeen (p : PartModel) (q : PackageIn) (types : List Entry) : Type 0 where
+  pub seen : q ≡ package_seen p.input p.content.blocks (seen_by p.input)
+  pub types_are : types ≡ (seen_by p.input).types ++ p.content.summary.types.entries
+  pub placed : All IsPlaced q.trees

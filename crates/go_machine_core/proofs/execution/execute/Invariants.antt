@@ -1,8 +1,0 @@
-use Rattle.std.proofs.Common.{◌≡◌, ◌-◌, map}
-use Rattle.go_machine_core.specs.Programs.{linked_shown}
-use Rattle.go_machine_core.specs.Machine.{At, machine, run_from}
-use Rattle.go_machine_core.specs.mirrors.Shown.{from_state}
-use Rattle.go_machine_core.proofs.execution.execute.Given as goal
-
-abbrev pub invariant-loop-turn : goal.invariant-loop-turn
-invariant-loop-turn l = run_from (map linked_shown l.program) (l.steps - l._turn) (from_state l.program l.state At) ≡ machine (map linked_shown l.program) l.starts l.steps

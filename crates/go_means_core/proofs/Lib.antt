@@ -1,0 +1,9 @@
+mod Steps
+mod Operators
+mod Variables
+mod Exprs
+mod Simples
+mod Stmts
+mod Functions
+mod Meanings
+mod Sampled

@@ -1,0 +1,12 @@
+pub mod Searched
+pub mod Remarks
+pub mod Kept
+pub mod Blocked
+pub mod Known
+pub mod Fresh
+pub mod Answered
+pub mod Lent
+pub mod Behind
+pub mod Zipped
+pub mod Docs
+pub mod Elsewhere

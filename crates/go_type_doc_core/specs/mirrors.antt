@@ -1,0 +1,5 @@
+-- Definitions that follow the code step by step, for its proof. No statement that a caller rests on needs them.
+pub mod Named
+pub mod Read
+pub mod Shown
+pub mod Steps

@@ -1,0 +1,290 @@
+//! The types that texts name.
+ghost use Rattle.std.specs.Prelude.{◌≡◌, ◌⊎◌, [], IfErr, IfOk, Some, false, length, option_map};
+ghost use Rattle.go_text_core.specs.Text.{is_blank};
+ghost use Rattle.go_term_core.specs.Shapes.{shape};
+ghost use Rattle.go_term_core.specs.Terms.{Defined, Term};
+ghost use Rattle.go_face_core.specs.table_core.Entries.{find_entry};
+ghost use Rattle.go_face_core.specs.decide_core.Rules.{typed};
+ghost use Rattle.go_block_core.specs.Bindings.{key_of};
+ghost use Rattle.go_graph_core.specs.Packages.{AllHaveTrees};
+ghost use Rattle.go_scope_core.specs.Laws.{denotes};
+ghost use Rattle.go_scope_core.specs.Models.{scopes_model};
+ghost use Rattle.go_scope_core.specs.Scopes.{Package, denoted_of};
+ghost use Rattle.go_query_core.specs.part_core.Parts.{IsPart};
+ghost use Rattle.go_face_core.specs.Faces.{face_shown};
+ghost use Rattle.go_face_core.specs.declared.face.Face.TheVariants as faces;
+ghost use Rattle.go_type_doc_core.specs.Naming.{IsOwnRefusal, IsOwnType, types_seen};
+ghost use Rattle.go_type_doc_core.specs.mirrors.Named.{IsNoTypeFace, IsNoneShown, IsPredeclaredRule, IsPredeclaredType, IsRuleOf, IsTypeOf, IsTypeShown, ShowsNone, ShowsType, is_type};
+ghost use Rattle.go_type_doc_core.specs.mirrors.Shown.{IsShownRefusal, IsShownType};
+
+use go_block_core::{DeclKey, DeclKind, DeclRef};
+use go_face_core::handle_core::{SignatureRef, TypeRef};
+use go_face_core::table_core::TypeTable;
+use go_face_core::{Face, ShownFace, hold};
+use go_path_core::ImportPath;
+use go_query_core::part_core::Part;
+use go_scope_core::{InScope, Scopes};
+use go_term_core::{Basic, Signature, TypeTerm, is_no_type};
+use go_text_core::{Rule, is_blank};
+use go_universe_core::Predeclared;
+use std::alloc::{AllocError, Global};
+
+// The interface type without methods, as a package has it.
+fn any_type(alloc: Global, path: &ImportPath) -> Result<TypeTerm, Rule>
+    ensures ok { IfOk result (λ t. IsPredeclaredType path.now Predeclared.Any (shape t)) }
+    ensures err { IfErr result (λ rule. rule ≡ Rule.M0) }
+{
+    match path.share() {
+        Ok(path) => Ok(TypeTerm::Interface(path, Vec::new(alloc))),
+        Err(AllocError) => Err(Rule::M0),
+    }
+}
+
+// The type that a predeclared name means.
+fn predeclared_type(alloc: Global, path: &ImportPath, name: Predeclared) -> Result<TypeTerm, Rule>
+    ensures ok { IfOk result (λ t. IsPredeclaredType path.now name (shape t)) }
+    ensures err { IfErr result (λ rule. (rule ≡ Rule.M0) ⊎ IsPredeclaredRule path.now name rule) }
+{
+    match name {
+        Predeclared::Any => any_type(alloc, path),
+        Predeclared::Bool => Ok(TypeTerm::Basic(Basic::Bool)),
+        Predeclared::Error => Ok(TypeTerm::Error),
+        Predeclared::Int => Ok(TypeTerm::Basic(Basic::Int)),
+        Predeclared::String => Ok(TypeTerm::Basic(Basic::Text)),
+        Predeclared::True
+        | Predeclared::False
+        | Predeclared::Nil
+        | Predeclared::Len
+        | Predeclared::Panic
+        | Predeclared::Print
+        | Predeclared::Println => Err(Rule::N6),
+        _ => Err(Rule::N7),
+    }
+}
+
+// A type, where it is one in a table.
+fn typed(table: &TypeTable, term: TypeTerm) -> Option<TypeTerm>
+    ensures { option_map shape result ≡ typed (find_entry table.now) (shape term) }
+{
+    if is_no_type(table.underlying(&term)) {
+        return None;
+    }
+    Some(term)
+}
+
+// The type of a declaration of the package of a path.
+fn defined_term(path: &ImportPath, decl: DeclRef) -> Result<TypeTerm, AllocError>
+    ensures { IfOk result (λ t. shape t ≡ Defined (key_of path.now decl)) }
+{
+    let path = path.share()?;
+    Ok(TypeTerm::Defined(DeclKey { path, decl }))
+}
+
+// The same, where it is one in a table.
+fn defined_type(
+    path: &ImportPath,
+    table: &TypeTable,
+    decl: DeclRef,
+) -> Result<Option<TypeTerm>, Rule>
+    ensures ok { IfOk result (λ t. option_map shape t ≡ typed (find_entry table.now) (Defined (key_of path.now decl))) }
+    ensures err { IfErr result (λ rule. rule ≡ Rule.M0) }
+{
+    match defined_term(path, decl) {
+        Ok(term) => Ok(typed(table, term)),
+        Err(AllocError) => Err(Rule::M0),
+    }
+}
+
+// Whether a declaration of the package block declares a type.
+fn declares_type(kind: DeclKind) -> bool
+    ensures { result ≡ is_type kind }
+{
+    match kind {
+        DeclKind::Type => true,
+        _ => false,
+    }
+}
+
+// The type that a declaration of the package block names.
+fn declared_type(
+    path: &ImportPath,
+    table: &TypeTable,
+    decl: DeclRef,
+) -> Result<Option<TypeTerm>, Rule>
+    ensures ok { IfOk result (λ t. IsTypeOf path.now table.now (Package decl) (option_map shape t)) }
+    ensures err { IfErr result (λ rule. (rule ≡ Rule.M0) ⊎ IsRuleOf path.now (Package decl) rule) }
+{
+    if declares_type(decl.kind) {
+        defined_type(path, table, decl)
+    } else {
+        Err(Rule::N6)
+    }
+}
+
+// The type that a predeclared name names.
+fn universe_type(
+    alloc: Global,
+    path: &ImportPath,
+    name: Predeclared,
+) -> Result<Option<TypeTerm>, Rule>
+    ensures ok { IfOk result (λ t. (u : Term) × (option_map shape t ≡ Some u) × IsPredeclaredType path.now name u) }
+    ensures err { IfErr result (λ rule. (rule ≡ Rule.M0) ⊎ IsPredeclaredRule path.now name rule) }
+{
+    match predeclared_type(alloc, path, name) {
+        Ok(term) => Ok(Some(term)),
+        Err(rule) => Err(rule),
+    }
+}
+
+// The type that a name names in the package of a path, where it denotes this at the top of a file that binds nothing.
+fn type_in_scope(
+    alloc: Global,
+    path: &ImportPath,
+    table: &TypeTable,
+    found: InScope<'_>,
+) -> Result<Option<TypeTerm>, Rule>
+    ensures ok { IfOk result (λ t. IsTypeOf path.now table.now (denoted_of found.entry) (option_map shape t)) }
+    ensures err { IfErr result (λ rule. (rule ≡ Rule.M0) ⊎ IsRuleOf path.now (denoted_of found.entry) rule) }
+{
+    match found {
+        InScope::Universe(name) => universe_type(alloc, path, name),
+        InScope::Package(decl) => declared_type(path, table, decl),
+        // The file binds nothing, and no block of a function is open.
+        InScope::File(_) => Err(Rule::N1),
+        InScope::Local(_) => Err(Rule::N1),
+    }
+}
+
+// What a text denotes at the top of a file of the package of a part that binds nothing.
+fn denoted<'p>(alloc: Global, part: &'p Part, name: &str) -> Option<InScope<'p>>
+    ensures value { option_map denoted_of result ≡ denotes (scopes_model part.now.content.blocks (length part.now.input.source.1) []) name.now }
+    ensures made { IsPart part.now.input part.now.content }
+    ensures trees { AllHaveTrees part.now.input.source.1 }
+{
+    let content = part.content();
+    let package = part.input().package();
+    let files = package.files();
+    let scopes = Scopes::begin(alloc, &content.blocks, files.len());
+    scopes.find(name)
+}
+
+// The type that a text other than `_` names there.
+fn plain_type(
+    alloc: Global,
+    part: &Part,
+    table: &TypeTable,
+    name: &str,
+) -> Result<Option<TypeTerm>, Rule>
+    requires table { table.now ≡ types_seen part.now }
+    requires plain { is_blank name.now ≡ false }
+    ensures ok { IfOk result (λ t. IsOwnType part.now name.now (option_map shape t)) }
+    ensures err { IfErr result (λ rule. (rule ≡ Rule.M0) ⊎ IsOwnRefusal part.now name.now rule) }
+{
+    match denoted(alloc, part, name) {
+        Some(found) => type_in_scope(alloc, part.path(), table, found),
+        None => Err(Rule::N1),
+    }
+}
+
+/// The type that a text names at the top of a file of the package of a part that binds nothing: none where what is declared is no type. The types are
+/// those that the package sees.
+///
+/// # Errors
+///
+/// The rule that the text breaks where a type is written there, and `Rule::M0` where memory is wanting.
+pub(crate) fn own_type(
+    alloc: Global,
+    part: &Part,
+    table: &TypeTable,
+    name: &str,
+) -> Result<Option<TypeTerm>, Rule>
+    requires { table.now ≡ types_seen part.now }
+    ensures ok { IfOk result (λ t. IsOwnType part.now name.now (option_map shape t)) }
+    ensures err { IfErr result (λ rule. (rule ≡ Rule.M0) ⊎ IsOwnRefusal part.now name.now rule) }
+{
+    if is_blank(name) {
+        Err(Rule::N8)
+    } else {
+        plain_type(alloc, part, table, name)
+    }
+}
+
+// The type that is held of a declaration.
+fn held_type(face: Face<TypeTerm, Signature>) -> Result<Option<TypeTerm>, Rule>
+    ensures ok { IfOk result (λ t. face_shown face ≡ faces.«Type» (option_map shape t)) }
+    ensures err { IfErr result (λ rule. (rule ≡ Rule.N6) × IsNoTypeFace (face_shown face)) }
+{
+    match face {
+        Face::Type(term) => Ok(term),
+        Face::Func(_) => Err(Rule::N6),
+        Face::Value(_) => Err(Rule::N6),
+    }
+}
+
+// The type that a declaration shows which is this.
+fn shown_type(
+    alloc: Global,
+    face: &Face<TypeRef<'_>, SignatureRef<'_>>,
+) -> Result<Option<TypeTerm>, Rule>
+    ensures ok { IfOk result (λ t. face.now ≡ faces.«Type» (option_map shape t)) }
+    ensures err { IfErr result (λ rule. (rule ≡ Rule.M0) ⊎ ((rule ≡ Rule.N6) × IsNoTypeFace face.now)) }
+{
+    match hold(alloc, face) {
+        Ok(held) => held_type(held),
+        Err(AllocError) => Err(Rule::M0),
+    }
+}
+
+// The type that a declaration shows of which this is known.
+fn face_type(
+    alloc: Global,
+    face: Option<Face<TypeRef<'_>, SignatureRef<'_>>>,
+) -> Result<Option<TypeTerm>, Rule>
+    ensures ok { IfOk result (λ t. ShowsType face.entry (option_map shape t)) }
+    ensures err { IfErr result (λ rule. (rule ≡ Rule.M0) ⊎ ShowsNone face.entry rule) }
+{
+    match face {
+        Some(face) => shown_type(alloc, &face),
+        None => Err(Rule::N6),
+    }
+}
+
+// The type that a name shows which is this behind the name of a package and a dot.
+fn type_shown(alloc: Global, shown: ShownFace<'_>) -> Result<Option<TypeTerm>, Rule>
+    ensures ok { IfOk result (λ t. IsTypeShown shown.entry (option_map shape t)) }
+    ensures err { IfErr result (λ rule. (rule ≡ Rule.M0) ⊎ IsNoneShown shown.entry rule) }
+{
+    match shown {
+        ShownFace::Absent => Err(Rule::N3),
+        ShownFace::Hidden => Err(Rule::N2),
+        ShownFace::Shown(_, face) => face_type(alloc, face),
+    }
+}
+
+// The type that a text other than `_` names behind the name of the package of a part and a dot.
+fn plain_shown_type(alloc: Global, part: &Part, name: &str) -> Result<Option<TypeTerm>, Rule>
+    requires { is_blank name.now ≡ false }
+    ensures ok { IfOk result (λ t. IsShownType part.now name.now (option_map shape t)) }
+    ensures err { IfErr result (λ rule. (rule ≡ Rule.M0) ⊎ IsShownRefusal part.now name.now rule) }
+{
+    match part.summary().faces().shown(name) {
+        Ok(shown) => type_shown(alloc, shown),
+        Err(AllocError) => Err(Rule::M0),
+    }
+}
+
+/// The type that a text names behind the name of the package of a part and a dot, in another package: none where what is declared is no type.
+///
+/// # Errors
+///
+/// The rule that the text breaks where a type is written so, and `Rule::M0` where memory is wanting.
+pub(crate) fn other_type(alloc: Global, part: &Part, name: &str) -> Result<Option<TypeTerm>, Rule>
+    ensures ok { IfOk result (λ t. IsShownType part.now name.now (option_map shape t)) }
+    ensures err { IfErr result (λ rule. (rule ≡ Rule.M0) ⊎ IsShownRefusal part.now name.now rule) }
+{
+    if is_blank(name) {
+        Err(Rule::S8)
+    } else {
+        plain_shown_type(alloc, part, name)
+    }
+}
