@@ -13,40 +13,19 @@ import re
 import sys
 from collections import Counter, defaultdict
 
-# Crates that list all that they name: their lists are short enough, and programs are listed by none.
-WHOLE = set(
-    """go_text_core go_token_core go_scan_core go_universe_core go_tree_nodes go_tree_copies go_tree_core go_parse_types go_parse_exprs
-    go_parse_stmts go_parse_core go_path_core go_cycle_core go_decl_core
-    govisd govisd_show govisd_probe govisd_cases""".split()
-)
-# Crates that take all that lies below through one or two others, also where they do not name these: what stands above would else have several ways to
-# most crates. They stand in the order of crates.txt, which is that of what they take.
+# Crates that take what lies below through others too, which they do not name: what stands above would else have several ways to most crates. They are few,
+# and chosen so that the longest chain of crates, with the reading that each crate costs, is short.
 SERIAL = {
-    "go_ready_core": ["go_known_core"],
-    "go_package_core": ["go_used_core", "go_ready_core"],
-    "go_part_core": ["go_package_core"],
-    "go_near_core": ["go_part_core"],
-    "go_whole_core": ["go_near_core"],
-    "go_meaning_core": ["go_make_core"],
-    "go_snap_core": ["go_emit_core"],
-    "go_thread_core": ["go_snap_core"],
-    "go_submit_core": ["go_thread_core"],
-    "go_batch_core": ["go_submit_core"],
-    "go_sched_core": ["go_batch_core"],
-    "go_board_core": ["go_sched_core"],
-    "go_hall_core": ["go_board_core"],
+    "go_statement_core": ["go_expr_core"],
+    "go_env_core": ["go_top_core"],
+    "go_fault_core": ["go_summary_core"],
+    "go_ready_core": ["go_known_core", "go_used_core", "go_file_core"],
+    "go_near_core": ["go_emit_core"],
     "go_spelling_core": ["go_snap_core"],
-    "go_place_core": ["go_spelling_core"],
-    "go_hint_core": ["go_place_core"],
-    "go_complete_core": ["go_place_core"],
-    "go_query_core": ["go_hint_core", "go_complete_core"],
-    "go_type_doc_core": ["go_query_core"],
-    "go_hall": ["go_hall_core", "go_type_doc_core"],
-    "go_crossing_core": ["go_hall"],
-    "govisd_desk": ["go_crossing_core"],
-    "govisd_service": ["govisd_desk"],
-    "govisd_folders": ["go_snap_core"],
+    "go_hint_core": ["go_complete_core"],
 }
+# What a crate names and could have through another is listed all the same where it costs no more than this share of the files that are read for the crate.
+SHARE = 0.005
 # Crates with types that reach themselves: a crate that handles such types lists where they are declared, also where it names them through another, since the
 # toolchain finds what such a type means only there ("no module that this path begins with is at hand for the term").
 BESIDE = {"go_tree_nodes", "go_term_core"}
@@ -83,9 +62,6 @@ class Repository:
         self.there = defaultdict(Counter)
         for crate in self.lists:
             self.read(crate)
-        # what is listed beside the way by which it is named
-        self.beside = {it: {d for d in listed if d in BESIDE and self.there[it, d]} for it, listed in self.lists.items()}
-        self.lists = {it: [d for d in listed if d not in self.beside[it]] for it, listed in self.lists.items()}
 
     def read(self, crate):
         """Reads the files of a crate, without what it passes on."""
@@ -188,63 +164,43 @@ class Names:
         return {*self.logic[crate], *self.code[crate]}
 
 
-# How many paths of crates.txt there may be in all: more than there are, so that a new crate does not move what others list. rattle-kit-13b reads a crate's
-# sources anew for each path, twice a gate: 480,000 paths cost it some 20 minutes, of which those on the longest chain of crates count whole.
-BUDGET = 350_000
+def files_of(repository):
+    """How many files the toolchain reads of each crate, at the end of each path that leads to it."""
+    found = Counter(repository.owner[it] for it in repository.texts if "/bench/" not in it)
+    for path in repository.dropped:
+        found[path.removeprefix(f"{repository.root}/crates/").split("/")[0]] += 1
+    return found
 
 
-def budgeted(repository, names, named):
-    """Lists by names, less those whose names cost least to pass on for the paths that they save, until the paths are within the budget."""
-    edges = {k: set(v) | repository.kept(k) for k, v in named.items()}
-    # a name that is passed on already stays so: a new crate changes nothing of those below it
-    edges = {k: {d for d in v if d in repository.lists[k] or not repository.there[k, d]} for k, v in edges.items()}
+def lists_of(repository, names, named):
+    """Lists by names, less what each crate has through another that it lists, and what each crate reaches by them. rattle-kit-13b reads the sources of
+    a crate anew at the end of each path of crates.txt, twice a gate, which was half an hour of the longest chain of crates."""
+    edges = {k: {*v, *repository.kept(k), *SERIAL.get(k, ())} for k, v in named.items()}
+    reach, files, cost = {}, files_of(repository), {}
 
     def reached(k):
-        return {k}.union(*[reached(d) for d in edges[k]])
+        if k not in reach:
+            reach[k] = {k}.union(*[reached(d) for d in edges[k]])
+        return reach[k]
 
     def is_made(a, b):
         """Whether what the toolchain makes of the other's code is named: that stands in no file, and is not passed on."""
         return any(part == "proofs" and not os.path.exists(f"{repository.root}/crates/{b}/proofs/{module}.antt") for part, module in names.logic[a].get(b, ()))
 
-    def ways(k):
-        return 1 + sum(ways(d) for d in edges[k])
+    def is_kept(a, b):
+        return b in repository.kept(a) or b in BESIDE and (b in named[a] or b in repository.lists[a]) or is_made(a, b)
 
-    for k, through in SERIAL.items():
-        below = set().union(*[reached(it) for it in through])
-        edges[k] = {*through} | {d for d in edges[k] if d not in below or is_made(k, d) or ways(d) < 1000}
-    height = {}
+    def read(k):
+        if k not in cost:
+            cost[k] = files[k] + sum(read(d) for d in lists[k])
+        return cost[k]
 
-    def high(k):
-        if k not in height:
-            height[k] = 1 + max([high(d) for d in edges[k]], default=0)
-        return height[k]
-
-    order = sorted(edges, key=high)
-    def weight(a, b):
-        return len(names.logic[a].get(b, ())) + len(names.code[a].get(b, ()))
-
-    fixed = {(a, b) for a in edges for b in edges[a] if a in WHOLE or not weight(a, b) or is_made(a, b)}
-    while True:
-        paths, reach, ups = {}, {}, {k: 1 for k in order}
-        for k in order:
-            paths[k] = 1 + sum(paths[d] for d in edges[k])
-            reach[k] = set(edges[k]).union(*[reach[d] for d in edges[k]])
-        for k in reversed(order):
-            for d in edges[k]:
-                ups[d] += ups[k]
-        if sum(paths.values()) <= BUDGET:
-            return edges, reach
-        found = []
-        for a in edges:
-            for b in edges[a]:
-                if (a, b) not in fixed and any(b in reach[c] for c in edges[a] if c != b):
-                    # a name that goes through several crates costs more
-                    hops = 1 if any(b in edges[c] for c in edges[a]) else 3
-                    found.append((ups[a] * paths[b] / weight(a, b) / hops, a, b))
-        if not found:
-            sys.exit(f"{sum(paths.values())} paths are left, more than the budget: nothing is changed")
-        _, a, b = max(found)
-        edges[a].discard(b)
+    lists = {a: {b for b in edges[a] if is_kept(a, b) or not any(b in reached(c) for c in edges[a] if c != b)} for a in edges}
+    least = {k: read(k) for k in lists}
+    lists = {a: lists[a] | {b for b in named[a] if least[b] <= SHARE * least[a]} for a in lists}
+    cost.clear()
+    print(f"{sum(read(k) for k in lists):,} files are read, twice")
+    return lists, {k: reached(k) - {k} for k in edges}
 
 
 class Ways:
@@ -255,7 +211,7 @@ class Ways:
         self.heights, self.under = {}, {}
         self.there = repository.there
         self.lists, self.through = {}, {}
-        self.kept_edges, self.reaches = budgeted(repository, names, self.named)
+        self.kept_edges, self.reaches = lists_of(repository, names, self.named)
         self.logic, self.code = defaultdict(lambda: defaultdict(set)), defaultdict(lambda: defaultdict(set))
         for crate in sorted(repository.lists, key=lambda it: (-self.height(it), it)):
             wanted = {*self.named[crate], *self.logic[crate], *self.code[crate]} - {crate}
@@ -377,7 +333,7 @@ class Writer:
             name = (head.split() or [""])[0]
             if name in self.repository.lists:
                 of_kit = [it for it in self.repository.lists[name] if it not in self.repository.lists]
-                line = " ".join([f"{head}:", *sorted({*self.ways.lists[name], *self.repository.beside[name]}, key=order.index), *of_kit])
+                line = " ".join([f"{head}:", *sorted(self.ways.lists[name], key=order.index), *of_kit])
             lines.append(line)
         with open(f"{self.repository.root}/crates.txt", "w", encoding="utf-8") as file:
             file.write("\n".join(lines))

@@ -2,14 +2,14 @@ pub mod mirrors
 pub mod block_core
 pub mod decide_core
 pub mod decl_core
-pub mod denote_core
 pub mod embed_core
 pub mod entry_core
 pub mod face_core
 pub mod graph_core
+pub mod handle_core
 pub mod level_core
-pub mod scope_core
-pub mod select_core
+pub mod parse_core
 pub mod settle_core
 pub mod table_core
+pub mod type_core
 pub mod written_core

@@ -5,7 +5,7 @@ ghost use Rattle.go_face_core.specs.Faces.{face_shown, operand_shown, value_type
 ghost use Rattle.go_face_core.specs.Held.{declared_shown};
 
 use crate::terms::{equal_signature, equal_term};
-use go_constant_core::Constant;
+use go_face_core::constant_core::Constant;
 use go_face_core::operand_core::{Operand, ValueType};
 use go_face_core::{DeclaredFace, Face, PackageFaces};
 use go_term_core::{Signature, TypeTerm};

@@ -4,7 +4,7 @@ use Rattle.std.specs.Prelude.{Contains, slice_get, nat_eq, if◌then◌else◌}
 use Rattle.std.proofs.lemmas.Bool.{eqb-true, eq-eqb}
 use Rattle.go_fault_core.specs.decl_core.TopDecls.{TopDeclTree}
 use Rattle.go_text_core.specs.declared.rule.Rule.TheVariants.{Y7}
-use Rattle.go_report_core.specs.term_core.Members.{In, contained_in, in_back, in_contained, in_either, in_front}
+use Rattle.go_term_core.proofs.Members.{In, contained_in, in_back, in_contained, in_either, in_front}
 use Rattle.go_fault_core.specs.block_core.Blocks.{BlocksModel}
 use Rattle.go_fault_core.specs.block_core.Faults.{rule_of}
 use Rattle.go_fault_core.specs.block_core.declared.fault.BlockFault.{BlockFault}

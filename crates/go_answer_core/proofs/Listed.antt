@@ -11,11 +11,11 @@ use Rattle.std.proofs.lemmas.Bool.{true≢false, cases_lt}
 use Rattle.std.proofs.lemmas.List.Sorted.{searchable_from_sorted, ranks_by, Contains-permutation, IsPermutation-sym}
 use Rattle.go_fault_core.specs.decl_core.declared.keys.DeclRef.{DeclRef}
 use Rattle.go_report_core.proofs.Settled.{or_true}
-use Rattle.go_face_core.specs.Faces.{TheFace}
-use Rattle.go_face_core.specs.Written.{same_decl_place}
+use Rattle.go_fault_core.specs.face_core.Faces.{TheFace}
+use Rattle.go_fault_core.specs.face_core.Written.{same_decl_place}
 use Rattle.go_fault_core.specs.decl_core.Order.{place_cmp}
-use Rattle.go_report_core.specs.term_core.Members.{In, contained_in, in_at, in_contained}
-use Rattle.go_face_core.proofs.Placed.{place_total, same_equal, equal_same}
+use Rattle.go_term_core.proofs.Members.{In, contained_in, in_at, in_contained}
+use Rattle.go_fault_core.specs.face_core.Placed.{place_total, same_equal, equal_same}
 use Rattle.go_answer_core.specs.Shown.{is_decl_listed, shown_among, shown_if}
 
 pub order_weak : IsStrictWeakOrder (λ (d e : DeclRef). is_lt (place_cmp d e))

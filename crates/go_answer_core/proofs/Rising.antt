@@ -5,11 +5,11 @@ use Rattle.std.specs.declared.cmp.Ordering.TheVariants.{Less, Equal}
 use Rattle.std.proofs.lemmas.Bool.{and_parts, and_from, or_cases, or_left, or_right, eqb-true, eq-eqb, ltb-true, lt-ltb}
 use Rattle.std.proofs.lemmas.Cmp.{tied_itself}
 use Rattle.go_fault_core.specs.decl_core.declared.keys.DeclRef.{DeclRef}
-use Rattle.go_face_core.specs.Faces.{TheFace}
-use Rattle.go_face_core.specs.Packages.{DeclaredOf, decls_declared}
-use Rattle.go_face_core.specs.Written.{DeclsRise, IsDeclBefore}
+use Rattle.go_fault_core.specs.face_core.Faces.{TheFace}
+use Rattle.go_fault_core.specs.face_core.Packages.{DeclaredOf, decls_declared}
+use Rattle.go_fault_core.specs.face_core.Written.{DeclsRise, IsDeclBefore}
 use Rattle.go_fault_core.specs.decl_core.Order.{place_cmp}
-use Rattle.go_face_core.proofs.Placed.{place_total, before_less}
+use Rattle.go_fault_core.specs.face_core.Placed.{place_total, before_less}
 use Rattle.go_answer_core.specs.Shown.{is_decl_listed, shown_among, shown_if}
 
 -- before, by numbers

@@ -5,16 +5,16 @@ use Rattle.std.specs.Str.{bytes_eq, chars}
 use Rattle.std.proofs.lemmas.Slice.Eq.{bytes_eq-Decides}
 use Rattle.go_text_core.specs.Text.{exported}
 use Rattle.go_fault_core.specs.decl_core.declared.keys.DeclRef.{DeclRef}
-use Rattle.go_report_core.specs.term_core.Members.{In, contained_in, filter_in, in_back, in_contained, in_either, in_filter, in_front, in_map, map_in, ordered_same}
+use Rattle.go_term_core.proofs.Members.{In, contained_in, filter_in, in_back, in_contained, in_either, in_filter, in_front, in_map, map_in, ordered_same}
 use Rattle.go_fault_core.specs.block_core.Exports.{exported_names}
 use Rattle.go_fault_core.specs.block_core.Tables.{in_block, with_first}
 use Rattle.go_report_core.specs.expr_core.Independence.{either}
-use Rattle.go_face_core.specs.Faces.{TheFace}
-use Rattle.go_face_core.specs.Packages.{DeclaredOf, as_seen, names_seen, package_faces, seen_after}
-use Rattle.go_face_core.specs.Written.{same_decl_place}
-use Rattle.go_face_core.specs.declared.shown.ShownFace.TheVariants as shows
-use Rattle.go_face_core.proofs.Displaying.{faces_are_found, shows_its_block}
-use Rattle.go_face_core.proofs.Placed.{same_itself}
+use Rattle.go_fault_core.specs.face_core.Faces.{TheFace}
+use Rattle.go_fault_core.specs.face_core.Packages.{DeclaredOf, as_seen, names_seen, package_faces, seen_after}
+use Rattle.go_fault_core.specs.face_core.Written.{same_decl_place}
+use Rattle.go_fault_core.specs.face_core.declared.shown.ShownFace.TheVariants as shows
+use Rattle.go_fault_core.specs.face_core.Displaying.{faces_are_found, shows_its_block}
+use Rattle.go_fault_core.specs.face_core.Placed.{same_itself}
 use Rattle.go_answer_core.specs.Laws.{HiddenDoNotCount, IsExported, IsKnown, NamesShowTheirFaces, ShownAlike, ShownAreExported, name_seen}
 use Rattle.go_answer_core.specs.Shown.{exported_decls, is_decl_listed, shown_among, shown_if, shown_of}
 use Rattle.go_answer_core.proofs.Listed.{among_listed, listed_among}

@@ -4,17 +4,17 @@ use Rattle.std.specs.Prelude.{slice_get}
 use Rattle.std.specs.Option.{option_map}
 use Rattle.std.proofs.lemmas.List.{map-append, take_all, take_more, length-map}
 use Rattle.std.proofs.lemmas.Option.{slice_get-map, slice_get_read}
-use Rattle.go_report_core.specs.term_core.declared.term.TypeTerm.{TypeTerm}
-use Rattle.go_report_core.specs.term_core.declared.term.Signature.{Signature}
+use Rattle.go_term_core.specs.declared.term.TypeTerm.{TypeTerm}
+use Rattle.go_term_core.specs.declared.term.Signature.{Signature}
 use Rattle.go_fault_core.specs.decl_core.declared.keys.DeclRef.{DeclRef}
 use Rattle.go_fault_core.specs.decl_core.declared.tops.TopDecl.{TopDecl}
 use Rattle.go_fault_core.specs.decl_core.Shown.{decl_shown}
 use Rattle.go_fault_core.specs.decl_core.TopDecls.{TopDeclTree}
 use Rattle.go_report_core.specs.local_core.declared.Fault.{Fault}
-use Rattle.go_face_core.specs.declared.face.Face.{Face}
-use Rattle.go_face_core.specs.Faces.{TheFace, face_shown}
-use Rattle.go_face_core.specs.Packages.{DeclaredOf}
-use Rattle.go_face_core.specs.Written.{WrittenOf, decls_of}
+use Rattle.go_fault_core.specs.face_core.declared.face.Face.{Face}
+use Rattle.go_fault_core.specs.face_core.Faces.{TheFace, face_shown}
+use Rattle.go_fault_core.specs.face_core.Packages.{DeclaredOf}
+use Rattle.go_fault_core.specs.face_core.Written.{WrittenOf, decls_of}
 use Rattle.go_answer_core.specs.Outer.{looped_decl_faults, looped_if}
 use Rattle.go_answer_core.specs.Shown.{is_decl_listed, shown_among, shown_if}
 use Rattle.go_answer_core.specs.mirrors.Steps.{is_set, shown_at}

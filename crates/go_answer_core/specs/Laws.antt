@@ -11,10 +11,10 @@ use Rattle.go_fault_core.specs.block_core.Tables.{in_block}
 use Rattle.go_fault_core.specs.block_core.declared.fault.BlockFault.{BlockFault}
 use Rattle.go_report_core.specs.local_core.declared.Fault.{Fault}
 use Rattle.go_fault_core.specs.declared.places.PackageFault.{PackageFault}
-use Rattle.go_face_core.specs.Faces.{TheFace}
-use Rattle.go_face_core.specs.Packages.{DeclaredOf, as_seen, decls_declared, shown_by}
-use Rattle.go_face_core.specs.Written.{DeclsRise, same_decl_place}
-use Rattle.go_face_core.specs.declared.shown.ShownFace.TheVariants as shows
+use Rattle.go_fault_core.specs.face_core.Faces.{TheFace}
+use Rattle.go_fault_core.specs.face_core.Packages.{DeclaredOf, as_seen, decls_declared, shown_by}
+use Rattle.go_fault_core.specs.face_core.Written.{DeclsRise, same_decl_place}
+use Rattle.go_fault_core.specs.face_core.declared.shown.ShownFace.TheVariants as shows
 use Rattle.go_answer_core.specs.Outer.{fault, outer_faults}
 use Rattle.go_answer_core.specs.Shown.{package_shown, shown_of}
 

@@ -12,10 +12,10 @@ use Rattle.go_fault_core.specs.block_core.Faults.{block_fault}
 use Rattle.go_fault_core.specs.block_core.declared.fault.BlockRule.TheVariants as block_rules
 use Rattle.go_fault_core.specs.Places.{fault_in}
 use Rattle.go_fault_core.specs.declared.places.PackageFault.{PackageFault}
-use Rattle.go_report_core.specs.term_core.declared.term.Basic.TheVariants as basics
-use Rattle.go_report_core.specs.term_core.Terms.{Predeclared}
-use Rattle.go_face_core.specs.declared.face.Face.TheVariants as faces
-use Rattle.go_face_core.specs.Faces.{TheFace, variable_face}
+use Rattle.go_term_core.specs.declared.term.Basic.TheVariants as basics
+use Rattle.go_term_core.specs.Terms.{Predeclared}
+use Rattle.go_fault_core.specs.face_core.declared.face.Face.TheVariants as faces
+use Rattle.go_fault_core.specs.face_core.Faces.{TheFace, variable_face}
 use Rattle.go_answer_core.specs.Outer.{fault, outer_faults}
 use Rattle.go_answer_core.specs.Shown.{decl_with_face, shown_of}
 use Rattle.go_fault_core.specs.block_core.Declarations.{decl_ref}

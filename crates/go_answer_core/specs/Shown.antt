@@ -5,9 +5,9 @@ use Rattle.std.specs.Prelude.{ℕ, Bool, false, List, [], ◌∷◌, ◌++◌, �
 use Rattle.go_fault_core.specs.decl_core.declared.keys.DeclRef.{DeclRef}
 use Rattle.go_fault_core.specs.block_core.Blocks.{BlocksModel}
 use Rattle.go_fault_core.specs.block_core.Exports.{exported_names}
-use Rattle.go_face_core.specs.Faces.{TheFace}
-use Rattle.go_face_core.specs.Packages.{DeclaredOf, PackageFacesModel, names_seen, package_faces}
-use Rattle.go_face_core.specs.Written.{same_decl_place}
+use Rattle.go_fault_core.specs.face_core.Faces.{TheFace}
+use Rattle.go_fault_core.specs.face_core.Packages.{DeclaredOf, PackageFacesModel, names_seen, package_faces}
+use Rattle.go_fault_core.specs.face_core.Written.{same_decl_place}
 
 -- the declarations that a package block has under exported names
 abbrev pub exported_decls : List (List ℕ × DeclRef) → List DeclRef

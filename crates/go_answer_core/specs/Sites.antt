@@ -1,5 +1,5 @@
 -- Where things are declared, as it is held.
-use Rattle.go_face_core.specs.handle_core.Declarations.{Declaration, Universe, OfError, Package, InFile}
+use Rattle.go_fault_core.specs.handle_core.Declarations.{Declaration, Universe, OfError, Package, InFile}
 use Rattle.go_answer_core.specs.declared.site.Held.{Held}
 use Rattle.go_answer_core.specs.declared.site.Held.TheVariants as held
 

@@ -2,8 +2,8 @@
 ghost use Rattle.std.specs.Prelude.{◌≡◌, ◌++◌, [], ◌∷◌, IfOk, OnOk};
 
 use crate::site::Site;
-use go_face_core::handle_core::Decl;
-use go_face_core::select_core::EmbedPath;
+use go_fault_core::handle_core::Decl;
+use go_fault_core::select_core::EmbedPath;
 use go_report_core::denote_core::Outcome;
 use go_report_core::expr_core::Use;
 use go_text_core::add;

@@ -2,20 +2,20 @@
 ghost use Rattle.std.specs.Prelude.{◌≡◌, ◌++◌, IfOk, OnOk, map, slice_get};
 ghost use Rattle.std.specs.List.Sorted.{IsSorted, IsPermutation};
 ghost use Rattle.std.specs.Option.{option_map};
-ghost use Rattle.go_face_core.specs.Faces.{face_shown};
-ghost use Rattle.go_face_core.specs.Held.{declared_shown};
-ghost use Rattle.go_face_core.specs.Written.{DeclsRise, decls_of};
+ghost use Rattle.go_fault_core.specs.face_core.Faces.{face_shown};
+ghost use Rattle.go_fault_core.specs.face_core.Held.{declared_shown};
+ghost use Rattle.go_fault_core.specs.face_core.Written.{DeclsRise, decls_of};
 ghost use Rattle.go_fault_core.specs.block_core.Exports.{name_and_decl};
 ghost use Rattle.go_fault_core.specs.decl_core.Order.{place_cmp};
 ghost use Rattle.go_answer_core.specs.Shown.{exported_decls, is_decl_listed, package_shown, shown_among, shown_if};
 ghost use Rattle.go_answer_core.specs.mirrors.Steps.{shown_at};
 
-use go_face_core::handle_core::{SignatureRef, TypeRef};
-use go_face_core::{DeclaredFace, Face, PackageFaces, WrittenFaces, hold};
 use go_fault_core::block_core::{Blocks, NamedDecl};
 use go_fault_core::decl_core::{DeclRef, place_order};
-use go_fault_core::path_core::ImportPath;
-use go_report_core::term_core::{Signature, TypeTerm};
+use go_fault_core::face_core::{DeclaredFace, Face, PackageFaces, WrittenFaces, hold};
+use go_fault_core::handle_core::{SignatureRef, TypeRef};
+use go_path_core::ImportPath;
+use go_term_core::{Signature, TypeTerm};
 use go_text_core::{add, is_exported};
 use std::alloc::{AllocError, Global};
 

@@ -1,12 +1,12 @@
 //! What the locals of functions are, held.
 ghost use Rattle.std.specs.Prelude.{◌≡◌, IfOk};
 ghost use Rattle.std.specs.Option.{option_map};
-ghost use Rattle.go_face_core.specs.Faces.{operand_shown};
+ghost use Rattle.go_fault_core.specs.face_core.Faces.{operand_shown};
 
-use go_face_core::handle_core::TypeRef;
-use go_face_core::operand_core::Operand;
-use go_face_core::{Face, hold};
-use go_report_core::term_core::TypeTerm;
+use go_fault_core::face_core::{Face, hold};
+use go_fault_core::handle_core::TypeRef;
+use go_report_core::operand_core::Operand;
+use go_term_core::TypeTerm;
 use std::alloc::{AllocError, Global};
 
 /// A local that a function declares, held: it lends nothing of the package. A receiver, a parameter, a result, a constant or a variable, by its

@@ -1,11 +1,11 @@
 //! Where things are declared, held.
 ghost use Rattle.std.specs.Prelude.{◌≡◌, IfOk};
-ghost use Rattle.go_face_core.specs.handle_core.Declarations.{site_shown};
+ghost use Rattle.go_fault_core.specs.handle_core.Declarations.{site_shown};
 ghost use Rattle.go_answer_core.specs.Sites.{held_shown};
 
-use go_face_core::handle_core::{Decl, DeclSite};
-use go_fault_core::path_core::ImportPath;
-use go_report_core::term_core::MemberPlace;
+use go_fault_core::handle_core::{Decl, DeclSite};
+use go_path_core::ImportPath;
+use go_term_core::MemberPlace;
 use go_universe_core::Predeclared;
 use std::alloc::AllocError;
 use std::marker::Model;
@@ -36,7 +36,7 @@ impl Drop for Site {
 }
 
 impl Model for Site {
-    ghost use Rattle.go_face_core.specs.handle_core.Declarations.{Declaration};
+    ghost use Rattle.go_fault_core.specs.handle_core.Declarations.{Declaration};
     ghost use Rattle.go_answer_core.specs.Sites.{held_shown};
 
     ghost Value = { Declaration };

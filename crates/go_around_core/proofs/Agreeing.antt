@@ -6,27 +6,27 @@ use Rattle.go_tree_nodes.specs.declared.types.TypeName.{TypeName}
 use Rattle.go_tree_nodes.specs.declared.types.TypeName.TheVariants as type_names
 use Rattle.go_tree_nodes.specs.Trees.{TypeTree, ExprTree, ItemTrees, Integer, Text, Named, Paren, Unary, Binary, Select, Call, Literal, StructLiteral, NoItems, Item}
 use Rattle.go_term_core.specs.Terms.{Term, NoType, Sign}
-use Rattle.go_settle_core.specs.Settled.{settled}
+use Rattle.go_func_core.specs.settle_core.Settled.{settled}
 use Rattle.go_func_core.specs.written_core.Written as types
 use Rattle.go_func_core.specs.written_core.Written.{term_of}
 use Rattle.go_open_core.specs.Blocks.{or_else}
 use Rattle.go_local_core.specs.Binding.{NameLook}
 use Rattle.go_local_core.specs.mirrors.Walk.{Names, latest, look_in}
-use Rattle.go_literal_core.specs.denote_core.declared.things.Stand.{Stand}
-use Rattle.go_literal_core.specs.denote_core.declared.things.Stand.TheVariants as stands
-use Rattle.go_literal_core.specs.denote_core.declared.things.Denoted.{Denoted}
-use Rattle.go_literal_core.specs.denote_core.Selectors.{dot_of, selector_answer}
-use Rattle.go_literal_core.specs.denote_core.Arguments.{arguments_of, is_free}
-use Rattle.go_literal_core.specs.denote_core.Calls.{call_answer}
-use Rattle.go_literal_core.specs.Literals.{literal_denotes}
+use Rattle.go_spot_core.specs.denote_core.declared.things.Stand.{Stand}
+use Rattle.go_spot_core.specs.denote_core.declared.things.Stand.TheVariants as stands
+use Rattle.go_spot_core.specs.denote_core.declared.things.Denoted.{Denoted}
+use Rattle.go_spot_core.specs.denote_core.Selectors.{dot_of, selector_answer}
+use Rattle.go_spot_core.specs.denote_core.Arguments.{arguments_of, is_free}
+use Rattle.go_spot_core.specs.denote_core.Calls.{call_answer}
+use Rattle.go_behind_core.specs.literal_core.Literals.{literal_denotes}
 use Rattle.go_behind_core.specs.handle_core.Declarations.{Declaration}
-use Rattle.go_expr_core.specs.Looks.{WrittenRules, look_of_place}
-use Rattle.go_expr_core.specs.Places.{inside, under_place, left_place, whole, is_name, is_literal, is_lone_call}
-use Rattle.go_expr_core.specs.Operators.{unary_of, binary_of}
-use Rattle.go_expr_core.specs.Denoting.{named_type, written_type, denoted, denoted_items}
-use Rattle.go_expr_core.specs.Elements.{is_mixed, keys_of, key_context}
-use Rattle.go_expr_core.specs.Locality.{needed_types, needed_types_in}
-use Rattle.go_expr_core.specs.Uses.{Context, NameAt, SelectorBehind, KeyAmong, rule}
+use Rattle.go_spot_core.specs.expr_core.Looks.{WrittenRules, look_of_place}
+use Rattle.go_spot_core.specs.expr_core.Places.{inside, under_place, left_place, whole, is_name, is_literal, is_lone_call}
+use Rattle.go_spot_core.specs.expr_core.Operators.{unary_of, binary_of}
+use Rattle.go_spot_core.specs.expr_core.Denoting.{named_type, written_type, denoted, denoted_items}
+use Rattle.go_spot_core.specs.expr_core.Elements.{is_mixed, keys_of, key_context}
+use Rattle.go_spot_core.specs.expr_core.Locality.{needed_types, needed_types_in}
+use Rattle.go_spot_core.specs.expr_core.Uses.{Context, NameAt, SelectorBehind, KeyAmong, rule}
 use Rattle.go_func_core.specs.face_core.Faces.{TheFace}
 use Rattle.go_spot_core.specs.Used.{OfName, OfWritten, SpotTree, NameSpot, BehindSpot, BehindNameSpot, KeySpot}
 use Rattle.go_spot_core.specs.Contexts.{context_of_spot, other_keys}

@@ -11,23 +11,23 @@ use Rattle.go_term_core.specs.Terms.{Term, Sign}
 use Rattle.go_func_core.specs.scope_core.Models.{ScopesModel, scopes_model}
 use Rattle.go_func_core.specs.scope_core.Laws.{denotes}
 use Rattle.go_local_core.specs.mirrors.Walk.{Names, look_in}
-use Rattle.go_literal_core.specs.operand_core.declared.types.Operand.{Operand}
-use Rattle.go_literal_core.specs.denote_core.declared.things.Stand.{Stand}
-use Rattle.go_literal_core.specs.denote_core.declared.things.Stand.TheVariants as stands
-use Rattle.go_literal_core.specs.denote_core.declared.things.Found.{Found}
-use Rattle.go_literal_core.specs.denote_core.declared.things.Found.TheVariants as founds
-use Rattle.go_literal_core.specs.denote_core.declared.things.Dot.{Dot}
-use Rattle.go_literal_core.specs.denote_core.declared.things.Dot.TheVariants as dots
-use Rattle.go_literal_core.specs.denote_core.declared.things.Denoted.{Denoted}
-use Rattle.go_literal_core.specs.denote_core.Answers.{found_answer, refused}
-use Rattle.go_literal_core.specs.denote_core.Selectors.{dot_of}
+use Rattle.go_behind_core.specs.operand_core.declared.types.Operand.{Operand}
+use Rattle.go_spot_core.specs.denote_core.declared.things.Stand.{Stand}
+use Rattle.go_spot_core.specs.denote_core.declared.things.Stand.TheVariants as stands
+use Rattle.go_spot_core.specs.denote_core.declared.things.Found.{Found}
+use Rattle.go_spot_core.specs.denote_core.declared.things.Found.TheVariants as founds
+use Rattle.go_spot_core.specs.denote_core.declared.things.Dot.{Dot}
+use Rattle.go_spot_core.specs.denote_core.declared.things.Dot.TheVariants as dots
+use Rattle.go_spot_core.specs.denote_core.declared.things.Denoted.{Denoted}
+use Rattle.go_spot_core.specs.denote_core.Answers.{found_answer, refused}
+use Rattle.go_spot_core.specs.denote_core.Selectors.{dot_of}
 use Rattle.go_behind_core.specs.handle_core.Declarations.{Declaration}
-use Rattle.go_literal_core.specs.Keys.{KeyContext, key_rule}
-use Rattle.go_expr_core.specs.Denoting.{denoted}
-use Rattle.go_expr_core.specs.Elements.{is_mixed, key_context, keys_of}
-use Rattle.go_expr_core.specs.Looks.{WrittenRules, literals_at}
-use Rattle.go_expr_core.specs.Places.{is_name}
-use Rattle.go_expr_core.specs.Uses.{Context, SelectorBehind, rule}
+use Rattle.go_behind_core.specs.literal_core.Keys.{KeyContext, key_rule}
+use Rattle.go_spot_core.specs.expr_core.Denoting.{denoted}
+use Rattle.go_spot_core.specs.expr_core.Elements.{is_mixed, key_context, keys_of}
+use Rattle.go_spot_core.specs.expr_core.Looks.{WrittenRules, literals_at}
+use Rattle.go_spot_core.specs.expr_core.Places.{is_name}
+use Rattle.go_spot_core.specs.expr_core.Uses.{Context, SelectorBehind, rule}
 use Rattle.go_func_core.specs.face_core.Faces.{TheFace}
 use Rattle.go_spot_core.specs.Used.{LiteralType, BehindNameSpot, BehindSpot, KeySpot}
 use Rattle.go_spot_core.specs.Contexts.{context_of_spot, other_keys, type_of_literal}

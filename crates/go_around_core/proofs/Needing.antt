@@ -10,7 +10,7 @@ use Rattle.go_tree_nodes.specs.Trees.{TypeTree}
 use Rattle.go_tree_nodes.specs.TypeShapes.{shape_type}
 use Rattle.go_tree_nodes.specs.Shapes.{shape, items_of}
 use Rattle.go_tree_nodes.proofs.ShapeLemmas.{call_parts, literal_parts, struct_literal_parts}
-use Rattle.go_expr_core.specs.Locality.{needed_types, needed_types_in}
+use Rattle.go_spot_core.specs.expr_core.Locality.{needed_types, needed_types_in}
 
 pub call_needs : (t : Expr) (c : Box CallExpr) (one other : CallExpr) → t ≡ expr.Call c → one ≡ c.value → other ≡ c.value
     → needed_types (shape (out-CallExpr one).callee) ++ needed_types_in (items_of (out-CallExpr other).args.items) ≡ needed_types (shape t)

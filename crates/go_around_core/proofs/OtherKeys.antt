@@ -6,9 +6,9 @@ use Rattle.go_tree_nodes.specs.declared.exprs.Key.{Key}
 use Rattle.go_tree_nodes.specs.Shapes.{items_of, shape, shape_key}
 use Rattle.go_tree_nodes.specs.Trees.{Item}
 use Rattle.go_tree_nodes.specs.Counts.{item_count}
-use Rattle.go_literal_core.specs.Literals.{keys_among}
+use Rattle.go_behind_core.specs.literal_core.Literals.{keys_among}
 use Rattle.go_spot_core.specs.Contexts.{other_keys}
-use Rattle.go_expr_core.specs.Elements.{all_keys, is_mixed, key_names, keys_of}
+use Rattle.go_spot_core.specs.expr_core.Elements.{all_keys, is_mixed, key_names, keys_of}
 use Rattle.go_around_core.specs.mirrors.Keys.{key_unless, keys_but}
 
 keys_first : (x : declared_item.Item) (xs : List declared_item.Item) → all_keys (items_of (x ∷ xs)) ≡ key_names (shape_key x.key) ++ all_keys (items_of xs)

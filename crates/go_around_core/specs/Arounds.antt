@@ -8,15 +8,15 @@ use Rattle.go_tree_nodes.specs.Shapes.{shape, items_of}
 use Rattle.go_tree_nodes.specs.Trees.{TypeTree}
 use Rattle.go_term_core.specs.Terms.{Term, Sign}
 use Rattle.go_func_core.specs.entry_core.Meanings.{Shows, file_meaning}
-use Rattle.go_literal_core.specs.operand_core.TypeRules.{TypeRules}
-use Rattle.go_literal_core.specs.denote_core.declared.things.Dot.TheVariants as dots
-use Rattle.go_literal_core.specs.denote_core.Look.{NameRules}
-use Rattle.go_literal_core.specs.Look.{LiteralRules}
+use Rattle.go_behind_core.specs.operand_core.TypeRules.{TypeRules}
+use Rattle.go_spot_core.specs.denote_core.declared.things.Dot.TheVariants as dots
+use Rattle.go_spot_core.specs.denote_core.Look.{NameRules}
+use Rattle.go_behind_core.specs.literal_core.Look.{LiteralRules}
 use Rattle.go_behind_core.specs.handle_core.Declarations.{Declaration}
 use Rattle.go_local_core.specs.mirrors.Walk.{Names, look_in}
-use Rattle.go_expr_core.specs.Locality.{needed_types}
-use Rattle.go_expr_core.specs.Looks.{WrittenRules}
-use Rattle.go_expr_core.specs.Uses.{Context, NameAt, SelectorBehind, KeyAmong, rule}
+use Rattle.go_spot_core.specs.expr_core.Locality.{needed_types}
+use Rattle.go_spot_core.specs.expr_core.Looks.{WrittenRules}
+use Rattle.go_spot_core.specs.expr_core.Uses.{Context, NameAt, SelectorBehind, KeyAmong, rule}
 use Rattle.go_func_core.specs.face_core.Faces.{face_shown}
 use Rattle.go_spot_core.specs.Used.{LiteralType, OfName, OfWritten, SpotTree, BehindSpot, KeySpot}
 use Rattle.go_spot_core.specs.Contexts.{context_of_spot}

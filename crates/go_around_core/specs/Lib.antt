@@ -3,10 +3,17 @@ pub mod Types
 pub mod Arounds
 pub mod mirrors
 pub mod behind_core
+pub mod block_core
+pub mod denote_core
 pub mod entry_core
 pub mod env_core
+pub mod expr_core
 pub mod face_core
 pub mod func_core
 pub mod handle_core
 pub mod names_core
+pub mod piece_core
+pub mod scope_core
+pub mod scope_core_lemmas
+pub mod spot_core
 pub mod table_core

@@ -7,14 +7,14 @@ use Rattle.go_tree_nodes.specs.Trees.{TypeTree}
 use Rattle.go_term_core.specs.decl_core.declared.keys.DeclKey.{DeclKey}
 use Rattle.go_term_core.specs.Terms.{Term, NoType}
 use Rattle.go_term_core.specs.Shapes.{shape}
-use Rattle.go_settle_core.specs.declared.kind.Kind.{Kind}
-use Rattle.go_settle_core.specs.Settled.{settled}
+use Rattle.go_func_core.specs.settle_core.declared.kind.Kind.{Kind}
+use Rattle.go_func_core.specs.settle_core.Settled.{settled}
 use Rattle.go_behind_core.specs.table_core.Entries.{Entry, find_entry}
 use Rattle.go_func_core.specs.written_core.Written as types
 use Rattle.go_func_core.specs.written_core.Written.{InFile, term_of}
 use Rattle.go_behind_core.specs.decide_core.Rules.{typed}
 use Rattle.go_local_core.specs.mirrors.Walk.{latest}
-use Rattle.go_expr_core.specs.Looks.{WrittenRules}
+use Rattle.go_spot_core.specs.expr_core.Looks.{WrittenRules}
 use Rattle.go_func_core.specs.env_core.declared.meaning.Meaning.{Meaning}
 use Rattle.go_func_core.specs.inline_core.Functions.{looked_up_ident}
 use Rattle.go_func_core.specs.Types.{is_local_meaning}

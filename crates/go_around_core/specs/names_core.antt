@@ -1,2 +1,3 @@
 -- What the crates above name of go_names_core.
 pub use Rattle.go_func_core.specs.names_core.Body as Body
+pub use Rattle.go_func_core.specs.names_core.Scope as Scope

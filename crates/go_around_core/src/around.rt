@@ -5,13 +5,13 @@ use crate::found::found_local;
 use crate::local::{OpenLocal, latest};
 use crate::types::{NotedType, noted_type};
 use go_behind_core::handle_core::{Decl, SignatureRef, TypeRef};
+use go_behind_core::literal_core::{LiteralField, Literals};
+use go_behind_core::operand_core::{TypeForm, TypeLooks};
 use go_behind_core::select_core::EmbedPath;
-use go_expr_core::Exprs;
 use go_func_core::env_core::Here;
-use go_literal_core::denote_core::{Exported, Found, Names, Selection};
-use go_literal_core::operand_core::{TypeForm, TypeLooks};
-use go_literal_core::{LiteralField, Literals};
 use go_local_core::Fault;
+use go_spot_core::denote_core::{Exported, Found, Names, Selection};
+use go_spot_core::expr_core::Exprs;
 use go_tree_nodes::{TypeExpr, type_start};
 use std::alloc::{AllocError, Global};
 

@@ -7,7 +7,7 @@ ghost use Rattle.go_func_core.specs.env_core.Scenes.{scene_shown};
 use crate::local::{OpenLocal, lend_value};
 use go_behind_core::handle_core::{Decl, DeclSite, SignatureRef, TypeRef};
 use go_func_core::env_core::Scene;
-use go_literal_core::denote_core::Found;
+use go_spot_core::denote_core::Found;
 use go_term_core::{LocalPlace, MemberPlace};
 use std::alloc::AllocError;
 

@@ -2,11 +2,11 @@
 ghost use Rattle.std.specs.Prelude.{◌≡◌, ◌==◌, ◌++◌, [], if◌then◌else◌, length, IfOk, OnOk, map};
 ghost use Rattle.go_tree_nodes.specs.Shapes.{items_of, shape_key};
 ghost use Rattle.go_spot_core.specs.Contexts.{other_keys};
-ghost use Rattle.go_literal_core.specs.Literals.{keys_among};
-ghost use Rattle.go_expr_core.specs.Elements.{all_keys, is_mixed, key_names, keys_of};
+ghost use Rattle.go_behind_core.specs.literal_core.Literals.{keys_among};
+ghost use Rattle.go_spot_core.specs.expr_core.Elements.{all_keys, is_mixed, key_names, keys_of};
 ghost use Rattle.go_around_core.specs.mirrors.Keys.{key_unless, keys_but};
 
-use go_literal_core::{Keys, keys_among};
+use go_behind_core::literal_core::{Keys, keys_among};
 use go_text_core::add;
 use go_tree_nodes::{Item, Key};
 use std::alloc::{AllocError, Global};

@@ -18,6 +18,11 @@ pub use local::OpenLocal;
 pub use naming::{names_at_dot, names_at_key};
 pub use place::PlaceAt;
 
+/// What the crates above name of `go_denote_core`.
+pub mod denote_core {
+    pub use go_spot_core::denote_core::Outcome;
+}
+
 /// What the crates above name of `go_entry_core`.
 pub mod entry_core {
     pub use go_func_core::entry_core::{ImportedNames, ShownPackages};
@@ -25,12 +30,22 @@ pub mod entry_core {
 
 /// What the crates above name of `go_face_core`.
 pub mod face_core {
-    pub use go_func_core::face_core::{WrittenFaces, written_faces};
+    pub use go_func_core::face_core::{Face, ShownFace, WrittenFaces, hold, written_faces};
 }
 
 /// What the crates above name of `go_handle_core`.
 pub mod handle_core {
     pub use go_behind_core::handle_core::Home;
+}
+
+/// What the crates above name of `go_scope_core`.
+pub mod scope_core {
+    pub use go_func_core::scope_core::{InScope, Scopes};
+}
+
+/// What the crates above name of `go_spot_core`.
+pub mod spot_core {
+    pub use go_spot_core::{FoundSpot, Spot, names_are_occurrences, spot_in_file};
 }
 
 /// What the crates above name of `go_table_core`.

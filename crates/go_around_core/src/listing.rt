@@ -2,7 +2,7 @@
 ghost use Rattle.std.specs.Prelude.{◌≡◌, ◌++◌, ◌∷◌, [], OnOk, IfOk, map};
 ghost use Rattle.go_tree_nodes.specs.Shapes.{shape, items_of};
 ghost use Rattle.go_tree_nodes.specs.TypeShapes.{shape_type};
-ghost use Rattle.go_expr_core.specs.Locality.{needed_types, needed_types_in};
+ghost use Rattle.go_spot_core.specs.expr_core.Locality.{needed_types, needed_types_in};
 
 use go_text_core::add;
 use go_tree_nodes::{Expr, Item, TypeExpr};

@@ -6,7 +6,7 @@ ghost use Rattle.go_local_core.specs.mirrors.Walk.{latest};
 ghost use Rattle.go_around_core.specs.Locals.{local_shown, meaning_shown};
 
 use go_behind_core::handle_core::TypeRef;
-use go_literal_core::operand_core::{Operand, ValueType};
+use go_behind_core::operand_core::{Operand, ValueType};
 use go_term_core::TypeTerm;
 use go_text_core::Name;
 use std::alloc::AllocError;

@@ -3,7 +3,7 @@ ghost use Rattle.std.specs.Prelude.{◌≡◌, is_some, IfOk, map};
 ghost use Rattle.go_tree_nodes.specs.Starts.{type_start};
 ghost use Rattle.go_tree_nodes.specs.TypeShapes.{shape_type};
 ghost use Rattle.go_term_core.specs.Shapes.{shape};
-ghost use Rattle.go_settle_core.specs.Settled.{settled};
+ghost use Rattle.go_func_core.specs.settle_core.Settled.{settled};
 ghost use Rattle.go_func_core.specs.written_core.Written.{in_file, term_of};
 ghost use Rattle.go_func_core.specs.inline_core.Functions.{looked_up_ident};
 ghost use Rattle.go_local_core.specs.mirrors.Walk as meant;
@@ -13,8 +13,8 @@ ghost use Rattle.go_around_core.specs.Types.{AreNoted, meaning_around, noted_at,
 
 use crate::local::{OpenLocal, latest};
 use crate::types::{NotedType, noted_at};
+use go_func_core::settle_core::{Kinds, settle};
 use go_func_core::written_core::{TypeNames, WrittenIn, write_type};
-use go_settle_core::{Kinds, settle};
 use go_term_core::TypeTerm;
 use go_text_core::add;
 use go_tree_nodes::{Ident, TypeExpr, TypeName, type_start};

@@ -7,15 +7,15 @@ use Rattle.std.proofs.lemmas.Option.{slice_get_within, slice_get-get_or}
 use Rattle.std.proofs.lemmas.List.{length-replicate, length-map}
 use Rattle.go_cycle_core.specs.declared.edge.Edge.{Edge}
 use Rattle.go_reach_core.specs.Numbers.{Numbers}
-use Rattle.go_graph_core.specs.declared.imports.ImportAt.{ImportAt}
-use Rattle.go_graph_core.specs.declared.imports.ImportOutcome.{ImportOutcome}
-use Rattle.go_graph_core.specs.declared.imports.ImportOutcome.TheVariants.{Package}
-use Rattle.go_graph_core.specs.Plans.{AreImporters, IsAssembledAt, IsPlan, PlanModel, outcome_at}
-use Rattle.go_graph_core.specs.Plans as plans
-use Rattle.go_graph_core.specs.Workspaces.{PackageModel}
-use Rattle.go_submit_core.specs.summary_core.Summaries.{SummaryModel}
-use Rattle.go_submit_core.specs.part_core.Parts.{PartModel}
-use Rattle.go_submit_core.specs.make_core.Telling.{told_of}
+use Rattle.go_snap_core.specs.graph_core.declared.imports.ImportAt.{ImportAt}
+use Rattle.go_snap_core.specs.graph_core.declared.imports.ImportOutcome.{ImportOutcome}
+use Rattle.go_snap_core.specs.graph_core.declared.imports.ImportOutcome.TheVariants.{Package}
+use Rattle.go_snap_core.specs.graph_core.Plans.{AreImporters, IsAssembledAt, IsPlan, PlanModel, outcome_at}
+use Rattle.go_snap_core.specs.graph_core.Plans as plans
+use Rattle.go_snap_core.specs.graph_core.Workspaces.{PackageModel}
+use Rattle.go_snap_core.specs.summary_core.Summaries.{SummaryModel}
+use Rattle.go_snap_core.specs.part_core.Parts.{PartModel}
+use Rattle.go_snap_core.specs.make_core.Telling.{told_of}
 use Rattle.go_turn_core.specs.declared.mark.Mark.{Mark}
 use Rattle.go_turn_core.specs.Turns.{TurnsModel}
 use Rattle.go_turn_core.specs.mirrors.Counting.{AreFresh, AreNodes, IsUntaken}

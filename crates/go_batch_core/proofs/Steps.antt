@@ -7,18 +7,18 @@ use Rattle.std.proofs.lemmas.Option.{slice_get_within, slice_get-get_or, get_or_
 use Rattle.std.proofs.lemmas.List.{take_more, take_all, length-take-le}
 use Rattle.go_cycle_core.specs.declared.edge.Edge.{Edge}
 use Rattle.go_reach_core.specs.Numbers.{Numbers}
-use Rattle.go_graph_core.specs.Imports.{IsNumbered}
-use Rattle.go_graph_core.specs.Packages.{IsAssembled}
-use Rattle.go_graph_core.specs.Plans.{AreImporters, IsAssembledAt, PlanModel}
-use Rattle.go_graph_core.specs.Sources.{SourceModel}
-use Rattle.go_graph_core.specs.Workspaces.{PackageModel, AreAllRead, IsWorkspace}
-use Rattle.go_graph_core.proofs.Numbers.{has_one_number}
-use Rattle.go_submit_core.specs.summary_core.Summaries.{SummaryModel}
-use Rattle.go_submit_core.specs.part_core.Inputs.{InputModel}
-use Rattle.go_submit_core.specs.part_core.Parts.{PartModel, IsPart}
-use Rattle.go_submit_core.specs.whole_core.Inputs.{AreParts, HasReached, IsInputAt, IsInputOf, IsPartOf, IsPassingImport}
-use Rattle.go_submit_core.specs.whole_core.Laws.{AreOwnParts, HasPart, InputsStay, PartsComeInOrder}
-use Rattle.go_submit_core.specs.make_core.Telling.{told_of}
+use Rattle.go_snap_core.specs.graph_core.Imports.{IsNumbered}
+use Rattle.go_snap_core.specs.graph_core.Packages.{IsAssembled}
+use Rattle.go_snap_core.specs.graph_core.Plans.{AreImporters, IsAssembledAt, PlanModel}
+use Rattle.go_snap_core.specs.graph_core.Sources.{SourceModel}
+use Rattle.go_snap_core.specs.graph_core.Workspaces.{PackageModel, AreAllRead, IsWorkspace}
+use Rattle.go_snap_core.specs.graph_core.Numbers.{has_one_number}
+use Rattle.go_snap_core.specs.summary_core.Summaries.{SummaryModel}
+use Rattle.go_snap_core.specs.part_core.Inputs.{InputModel}
+use Rattle.go_snap_core.specs.part_core.Parts.{PartModel, IsPart}
+use Rattle.go_snap_core.specs.whole_core.Inputs.{AreParts, HasReached, IsInputAt, IsInputOf, IsPartOf, IsPassingImport}
+use Rattle.go_snap_core.specs.whole_core.Laws.{AreOwnParts, HasPart, InputsStay, PartsComeInOrder}
+use Rattle.go_snap_core.specs.make_core.Telling.{told_of}
 use Rattle.go_turn_core.specs.declared.mark.Mark.{Mark}
 use Rattle.go_turn_core.specs.declared.mark.Mark.TheVariants as mark
 use Rattle.go_turn_core.specs.Turns.{TurnsModel, turns_with, Needs}

@@ -1,12 +1,12 @@
 -- A batch: the workspace that it compiles, what is done with the action of each package, and the parts that are there.
 use Rattle.std.specs.Prelude.{◌≡◌, ℕ, ◌+◌, Bool, true, false, if◌then◌else◌, List, [], ◌∷◌, Option, Some, None, length, slice_get, slice_set}
 use Rattle.go_cycle_core.specs.declared.edge.Edge.{Edge}
-use Rattle.go_graph_core.specs.Workspaces.{PackageModel}
-use Rattle.go_graph_core.specs.Plans.{IsAssembledAt}
-use Rattle.go_submit_core.specs.part_core.Inputs.{InputModel}
-use Rattle.go_submit_core.specs.part_core.Parts.{PartModel}
-use Rattle.go_submit_core.specs.whole_core.Inputs.{IsInputAt, IsPassingImport}
-use Rattle.go_submit_core.specs.make_core.Telling.{told_of}
+use Rattle.go_snap_core.specs.graph_core.Workspaces.{PackageModel}
+use Rattle.go_snap_core.specs.graph_core.Plans.{IsAssembledAt}
+use Rattle.go_snap_core.specs.part_core.Inputs.{InputModel}
+use Rattle.go_snap_core.specs.part_core.Parts.{PartModel}
+use Rattle.go_snap_core.specs.whole_core.Inputs.{IsInputAt, IsPassingImport}
+use Rattle.go_snap_core.specs.make_core.Telling.{told_of}
 use Rattle.go_batch_core.specs.declared.batch.Ending.{Ending}
 use Rattle.go_batch_core.specs.declared.batch.Next.{Next}
 use Rattle.go_batch_core.specs.declared.slot.Slot.{Slot}

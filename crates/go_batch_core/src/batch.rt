@@ -1,9 +1,9 @@
 //! The running batch.
 ghost use Rattle.std.specs.Prelude.{◌≡◌, ◌+◌, ◌↔◌, ℕ, IfOk, IsTrue, MatchOption, length, map, slice_set};
-ghost use Rattle.go_graph_core.specs.Plans.{AreImporters, IsOrderly};
-ghost use Rattle.go_graph_core.specs.Workspaces.{AreAllRead};
-ghost use Rattle.go_submit_core.specs.whole_core.Inputs.{AreParts, IsInputAt};
-ghost use Rattle.go_submit_core.specs.snap_core.Snapshots.{IsSnapshot};
+ghost use Rattle.go_snap_core.specs.graph_core.Plans.{AreImporters, IsOrderly};
+ghost use Rattle.go_snap_core.specs.graph_core.Workspaces.{AreAllRead};
+ghost use Rattle.go_snap_core.specs.whole_core.Inputs.{AreParts, IsInputAt};
+ghost use Rattle.go_snap_core.specs.Snapshots.{IsSnapshot};
 ghost use Rattle.go_batch_core.specs.declared.slot.Slot.TheVariants.{Taken};
 ghost use Rattle.go_batch_core.specs.Batches.{Awaits, IsBegun, IsBusy, IsEnding, IsForeign, IsNext, IsReady, NoneReady, actions_left, batch_with, with_part};
 ghost use Rattle.go_batch_core.specs.mirrors.Keeping.{AreFreshSlots, IsReadSlot, mark_of};
@@ -11,12 +11,12 @@ ghost use Rattle.go_batch_core.specs.mirrors.Keeping.{AreFreshSlots, IsReadSlot,
 use crate::begin::{left_of, marks_of, slots_of};
 use crate::read::{ReadInput, ReadPart};
 use crate::slot::Slot;
-use go_graph_core::{Plan, Workspace, plan_imports};
 use go_reach_core::Reached;
-use go_submit_core::make_core::{Told, input_of, package_of};
-use go_submit_core::part_core::{Part, PartInput, Parts};
-use go_submit_core::snap_core::{Snapshot, join_parts};
-use go_submit_core::whole_core::{inputs_stay, parts_come_in_order};
+use go_snap_core::graph_core::{Plan, Workspace, plan_imports};
+use go_snap_core::make_core::{Told, input_of, package_of};
+use go_snap_core::part_core::{Part, PartInput, Parts};
+use go_snap_core::whole_core::{inputs_stay, parts_come_in_order};
+use go_snap_core::{Snapshot, join_parts};
 use go_turn_core::Turns;
 use std::alloc::{AllocError, Global};
 use std::marker::Model;

@@ -13,18 +13,10 @@ pub use slot::Slot;
 
 /// What the crates above name of `go_part_core`.
 pub mod part_core {
-    pub use go_submit_core::part_core::{Part, PartInput};
+    pub use go_snap_core::part_core::PartInput;
 }
 
 /// What the crates above name of `go_snap_core`.
 pub mod snap_core {
-    pub use go_submit_core::snap_core::{SharedSnapshot, Snapshot};
-}
-
-/// What the crates above name of `go_submit_core`.
-pub mod submit_core {
-    pub use go_submit_core::{
-        Batches, ModuleTree, PublishedBatch, Submission, Submissions, Ticket, add_module,
-        add_trees, has_ticket, is_among, is_same_module,
-    };
+    pub use go_snap_core::{SharedSnapshot, Snapshot};
 }

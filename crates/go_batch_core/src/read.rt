@@ -1,9 +1,9 @@
 //! Inputs and parts of packages whose files are as they are read.
 ghost use Rattle.std.specs.Prelude.{◌≡◌, ◌↔◌, IfOk, IfSome, IsTrue};
-ghost use Rattle.go_graph_core.specs.Workspaces.{AreAllRead};
-ghost use Rattle.go_submit_core.specs.part_core.Parts.{IsPart};
+ghost use Rattle.go_snap_core.specs.graph_core.Workspaces.{AreAllRead};
+ghost use Rattle.go_snap_core.specs.part_core.Parts.{IsPart};
 
-use go_submit_core::part_core::{Part, PartInput, compile_part};
+use go_snap_core::part_core::{Part, PartInput, compile_part};
 use std::alloc::{AllocError, Global};
 use std::marker::Model;
 
@@ -19,8 +19,8 @@ impl Drop for ReadInput {
 }
 
 impl Model for ReadInput {
-    ghost use Rattle.go_graph_core.specs.Workspaces.{AreAllRead};
-    ghost use Rattle.go_submit_core.specs.part_core.Inputs.{InputModel, coded_input};
+    ghost use Rattle.go_snap_core.specs.graph_core.Workspaces.{AreAllRead};
+    ghost use Rattle.go_snap_core.specs.part_core.Inputs.{InputModel, coded_input};
 
     ghost Value = { InputModel };
 
@@ -61,8 +61,8 @@ impl Drop for ReadPart {
 }
 
 impl Model for ReadPart {
-    ghost use Rattle.go_graph_core.specs.Workspaces.{AreAllRead};
-    ghost use Rattle.go_submit_core.specs.part_core.Parts.{PartModel};
+    ghost use Rattle.go_snap_core.specs.graph_core.Workspaces.{AreAllRead};
+    ghost use Rattle.go_snap_core.specs.part_core.Parts.{PartModel};
     ghost use Rattle.go_batch_core.specs.Coding.{coded_part};
 
     ghost Value = { PartModel };

@@ -3,7 +3,7 @@ ghost use Rattle.std.specs.Prelude.{◌≡◌};
 ghost use Rattle.go_batch_core.specs.Batches.{is_left};
 ghost use Rattle.go_batch_core.specs.mirrors.Keeping.{mark_of};
 
-use go_submit_core::part_core::PartInput;
+use go_snap_core::part_core::PartInput;
 use go_turn_core::Mark;
 
 /// What is done with the action of a package.

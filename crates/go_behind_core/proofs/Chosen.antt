@@ -10,19 +10,19 @@ use Rattle.go_text_core.specs.declared.rule.Rule.TheVariants as rules
 use Rattle.go_tree_nodes.specs.declared.usage.Usage.{Usage}
 use Rattle.go_tree_nodes.specs.declared.usage.Usage.TheVariants as usages
 use Rattle.go_term_core.specs.Terms.{Term, PointerTo, Sign}
-use Rattle.go_table_core.specs.Entries.{Entry, EntryLook, find_entry}
-use Rattle.go_select_core.specs.embed_core.Owners.{Found, AFieldOf, AMethodOf, AnInterfaces, TheErrorMethod}
-use Rattle.go_select_core.specs.embed_core.OwnersShown.{found_shown}
-use Rattle.go_select_core.specs.level_core.declared.search.Selected.{Selected}
-use Rattle.go_select_core.specs.Selections.{IsListing}
-use Rattle.go_operand_core.specs.declared.types.Operand.{Operand}
-use Rattle.go_operand_core.specs.TypeRules.{TypeRules}
-use Rattle.go_operand_core.specs.Values.{default_type}
-use Rattle.go_denote_core.specs.declared.things.Dot.TheVariants as dots
-use Rattle.go_denote_core.specs.declared.things.Outcome.TheVariants as outcomes
-use Rattle.go_denote_core.specs.declared.things.Selection.{Selection}
-use Rattle.go_denote_core.specs.Answers.{refused}
-use Rattle.go_denote_core.specs.Selectors.{member_answer, method_answer, value_selector}
+use Rattle.go_handle_core.specs.table_core.Entries.{Entry, EntryLook, find_entry}
+use Rattle.go_handle_core.specs.embed_core.Owners.{Found, AFieldOf, AMethodOf, AnInterfaces, TheErrorMethod}
+use Rattle.go_handle_core.specs.embed_core.OwnersShown.{found_shown}
+use Rattle.go_handle_core.specs.level_core.declared.search.Selected.{Selected}
+use Rattle.go_handle_core.specs.select_core.Selections.{IsListing}
+use Rattle.go_expr_core.specs.operand_core.declared.types.Operand.{Operand}
+use Rattle.go_expr_core.specs.operand_core.TypeRules.{TypeRules}
+use Rattle.go_expr_core.specs.operand_core.Values.{default_type}
+use Rattle.go_expr_core.specs.denote_core.declared.things.Dot.TheVariants as dots
+use Rattle.go_expr_core.specs.denote_core.declared.things.Outcome.TheVariants as outcomes
+use Rattle.go_expr_core.specs.denote_core.declared.things.Selection.{Selection}
+use Rattle.go_expr_core.specs.denote_core.Answers.{refused}
+use Rattle.go_expr_core.specs.denote_core.Selectors.{member_answer, method_answer, value_selector}
 use Rattle.go_handle_core.specs.decide_core.Selecting.{Choice, choice, selected_of}
 use Rattle.go_handle_core.specs.decide_core.Choosing.{selectors_decided}
 use Rattle.go_handle_core.specs.decide_core.Rules.{term_rules}

@@ -6,16 +6,16 @@ use Rattle.std.specs.Str.{bytes_eq}
 use Rattle.std.proofs.lemmas.List.{drop_all, drop_more, length-map, map-append}
 use Rattle.std.proofs.lemmas.Option.{slice_get_within, get_or_from_slice_get, same_Some}
 use Rattle.go_text_core.specs.Text.{is_blank}
-use Rattle.go_literal_core.specs.declared.things.LiteralField.{LiteralField}
-use Rattle.go_literal_core.specs.declared.things.NamedField.{NamedField}
-use Rattle.go_literal_core.specs.declared.things.NamedField.TheVariants.{Visible, Hidden, Missing}
-use Rattle.go_literal_core.specs.Look.{FieldOf, LiteralLook}
-use Rattle.go_literal_core.specs.Fields.{named_field}
-use Rattle.go_literal_core.specs.Literals.{is_struct}
-use Rattle.go_literal_core.specs.Keys.{key_rule, struct_key, refused_key, found_key}
-use Rattle.go_literal_core.specs.Repeats.{has_name}
-use Rattle.go_literal_core.specs.mirrors.Sets.{HasNames}
-use Rattle.go_literal_core.proofs.Names.{names_more, has_append}
+use Rattle.go_expr_core.specs.literal_core.declared.things.LiteralField.{LiteralField}
+use Rattle.go_expr_core.specs.literal_core.declared.things.NamedField.{NamedField}
+use Rattle.go_expr_core.specs.literal_core.declared.things.NamedField.TheVariants.{Visible, Hidden, Missing}
+use Rattle.go_expr_core.specs.literal_core.Look.{FieldOf, LiteralLook}
+use Rattle.go_expr_core.specs.literal_core.Fields.{named_field}
+use Rattle.go_expr_core.specs.literal_core.Literals.{is_struct}
+use Rattle.go_expr_core.specs.literal_core.Keys.{key_rule, struct_key, refused_key, found_key}
+use Rattle.go_expr_core.specs.literal_core.Repeats.{has_name}
+use Rattle.go_expr_core.specs.literal_core.mirrors.Sets.{HasNames}
+use Rattle.go_expr_core.specs.literal_core.Names.{names_more, has_append}
 use Rattle.go_expr_core.specs.Elements.{key_context}
 use Rattle.go_text_core.specs.declared.rule.Rule.TheVariants as rules
 use Rattle.go_behind_core.specs.Names.{AreNames, by_bytes, is_declared}

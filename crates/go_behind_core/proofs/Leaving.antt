@@ -5,12 +5,12 @@ use Rattle.std.specs.Str.{bytes_eq}
 use Rattle.std.proofs.lemmas.Slice.Eq.{bytes_eq-Decides}
 use Rattle.go_text_core.specs.Text.{is_blank}
 use Rattle.go_behind_core.specs.mirrors.Kept.{named_if}
-use Rattle.go_literal_core.specs.declared.things.LiteralField.{LiteralField}
-use Rattle.go_literal_core.specs.declared.things.NamedField.TheVariants.{Visible, Hidden, Missing}
-use Rattle.go_literal_core.specs.Look.{FieldOf}
-use Rattle.go_literal_core.specs.Fields.{shown_field, named_field}
-use Rattle.go_literal_core.specs.Repeats.{has_name}
-use Rattle.go_literal_core.specs.mirrors.Sets.{HasNames}
+use Rattle.go_expr_core.specs.literal_core.declared.things.LiteralField.{LiteralField}
+use Rattle.go_expr_core.specs.literal_core.declared.things.NamedField.TheVariants.{Visible, Hidden, Missing}
+use Rattle.go_expr_core.specs.literal_core.Look.{FieldOf}
+use Rattle.go_expr_core.specs.literal_core.Fields.{shown_field, named_field}
+use Rattle.go_expr_core.specs.literal_core.Repeats.{has_name}
+use Rattle.go_expr_core.specs.literal_core.mirrors.Sets.{HasNames}
 use Rattle.go_behind_core.specs.mirrors.Keyed.{is_left, keys_left, is_shown}
 use Rattle.go_behind_core.proofs.Keeping.{either, in_first, in_rest, nothing_in}
 

@@ -7,9 +7,9 @@ use Rattle.std.specs.List.Sorted.{IsStrictlySortedBy}
 use Rattle.std.specs.Ordering.{nat_cmp}
 use Rattle.std.specs.declared.cmp.Ordering.{Ordering}
 use Rattle.go_term_core.specs.Terms.{Term, Sign}
-use Rattle.go_denote_core.specs.declared.things.Outcome.{Outcome}
-use Rattle.go_denote_core.specs.declared.things.Outcome.TheVariants as outcomes
-use Rattle.go_table_core.specs.Entries.{Entry}
+use Rattle.go_expr_core.specs.denote_core.declared.things.Outcome.{Outcome}
+use Rattle.go_expr_core.specs.denote_core.declared.things.Outcome.TheVariants as outcomes
+use Rattle.go_handle_core.specs.table_core.Entries.{Entry}
 use Rattle.go_handle_core.specs.decide_core.Rules.{term_rules}
 use Rattle.go_handle_core.specs.Declarations.{Declaration}
 use Rattle.go_handle_core.specs.Names.{selection_in}

@@ -1,18 +1,18 @@
 //! The names that keys of a composite literal may have.
 ghost use Rattle.std.specs.Prelude.{◌≡◌, ◌<◌, ◌∷◌, ◌++◌, ◌↔◌, ◌&&◌, ℕ, List, Contains, IfOk, OnOk, Some, length, map, not, option_map, slice_get};
 ghost use Rattle.std.specs.List.Sorted.{IsStrictlySortedBy};
-ghost use Rattle.go_literal_core.specs.Keys.{key_rule};
-ghost use Rattle.go_literal_core.specs.Literals as literals;
-ghost use Rattle.go_literal_core.specs.Look.{FieldOf, literal_look_of};
-ghost use Rattle.go_literal_core.specs.Repeats.{has_name};
-ghost use Rattle.go_literal_core.specs.mirrors.Sets.{HasNames};
+ghost use Rattle.go_expr_core.specs.literal_core.Keys.{key_rule};
+ghost use Rattle.go_expr_core.specs.literal_core.Literals as literals;
+ghost use Rattle.go_expr_core.specs.literal_core.Look.{FieldOf, literal_look_of};
+ghost use Rattle.go_expr_core.specs.literal_core.Repeats.{has_name};
+ghost use Rattle.go_expr_core.specs.literal_core.mirrors.Sets.{HasNames};
 ghost use Rattle.go_expr_core.specs.Elements.{key_context};
 ghost use Rattle.go_behind_core.specs.Names.{AreNames, by_bytes, is_declared};
 ghost use Rattle.go_behind_core.specs.mirrors.Kept.{named_if};
 ghost use Rattle.go_behind_core.specs.mirrors.Keyed as keyed;
 
-use go_literal_core::Literals;
-use go_operand_core::TypeForm;
+use go_expr_core::literal_core::Literals;
+use go_expr_core::operand_core::TypeForm;
 use go_text_core::{add, is_blank};
 use indexmap::IndexSet;
 use std::alloc::{AllocError, Global};

@@ -1,20 +1,20 @@
 //! The names behind the dot of a value.
 ghost use Rattle.std.specs.Prelude.{◌≡◌, ℕ, List, IfOk};
-ghost use Rattle.go_table_core.specs.Entries.{Entry};
-ghost use Rattle.go_operand_core.specs.Values.{default_type};
+ghost use Rattle.go_handle_core.specs.table_core.Entries.{Entry};
+ghost use Rattle.go_expr_core.specs.operand_core.Values.{default_type};
 ghost use Rattle.go_handle_core.specs.decide_core.Rules.{term_rules};
 ghost use Rattle.go_term_core.specs.Shapes.{shape};
 ghost use Rattle.go_term_core.specs.Terms.{PointerTo};
-ghost use Rattle.go_select_core.specs.embed_core.OwnersShown.{found_shown};
-ghost use Rattle.go_denote_core.specs.declared.things.Dot.TheVariants as dots;
+ghost use Rattle.go_handle_core.specs.embed_core.OwnersShown.{found_shown};
+ghost use Rattle.go_expr_core.specs.denote_core.declared.things.Dot.TheVariants as dots;
 ghost use Rattle.go_expr_core.specs.Uses.{SelectorBehind, rule};
 ghost use Rattle.go_behind_core.specs.Names.{AreNames, SeesTypes, TheLooks, is_declared};
 ghost use Rattle.go_behind_core.specs.mirrors.Usable.{AreBehind, is_usable, usable_names};
 
+use go_expr_core::operand_core::{Operand, ValueType};
+use go_handle_core::select_core::{Member, Selected, selectable};
+use go_handle_core::table_core::TypeTable;
 use go_handle_core::{Home, TypeRef};
-use go_operand_core::{Operand, ValueType};
-use go_select_core::{Member, Selected, selectable};
-use go_table_core::TypeTable;
 use go_term_core::{TypeTerm, copy};
 use go_text_core::{Name, add, boxed};
 use go_tree_nodes::Usage;

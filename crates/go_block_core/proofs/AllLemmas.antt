@@ -7,8 +7,8 @@ use Rattle.std.proofs.lemmas.List.{take_more, length-take, length-set, length-ma
 use Rattle.std.proofs.lemmas.List.Elements.{Contains-append_left, Contains-append_right, Contains-push_cases}
 use Rattle.std.proofs.lemmas.Map.Keys.{apart_from_distinct}
 use Rattle.std.proofs.lemmas.Option.{slice_get_within, slice_get-get_or, get_or_from_slice_get, slice_get-map}
-use Rattle.go_decl_core.specs.tree_nodes.Trees.{FileTree, ImportSpecTree}
-use Rattle.go_decl_core.specs.tree_nodes.Terminals.{value_of}
+use Rattle.go_tree_nodes.specs.Trees.{FileTree, ImportSpecTree}
+use Rattle.go_tree_nodes.specs.Terminals.{value_of}
 use Rattle.go_graph_core.specs.declared.imports.ImportAt.{ImportAt}
 use Rattle.go_graph_core.specs.declared.imports.ImportOutcome.{ImportOutcome}
 use Rattle.go_graph_core.specs.declared.imports.ImportOutcome.TheVariants as outcomes

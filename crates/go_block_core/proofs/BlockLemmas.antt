@@ -7,7 +7,7 @@ use Rattle.std.specs.declared.string.String.{String}
 use Rattle.indexmap.specs.IndexMap.{IndexMap}
 use Rattle.go_block_core.specs.Exports.{clause_name}
 use Rattle.go_block_core.specs.Tables.{block_of}
-use Rattle.go_decl_core.specs.tree_nodes.Trees.{FileTree}
+use Rattle.go_tree_nodes.specs.Trees.{FileTree}
 use Rattle.go_graph_core.specs.Packages.{Trees, IsPackageName}
 use Rattle.go_decl_core.specs.declared.keys.DeclRef.{DeclRef}
 use Rattle.go_block_core.specs.declared.binding.Binding.{Binding}

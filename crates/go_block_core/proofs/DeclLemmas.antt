@@ -2,13 +2,13 @@
 use Rattle.std.proofs.Common.{◌≡◌, ℕ, ◌+◌, ◌≤◌, zero, suc, ◌&&◌, List, [], ◌∷◌, ◌++◌, map, length, take, refl, ap, sym, ◌∙◌, append-nil, append_assoc, arith}
 use Rattle.std.specs.Prelude.{Some, option_map, slice_get, ◌==◌}
 use Rattle.std.proofs.lemmas.Bool.Decides.{nat_tests}
-use Rattle.go_decl_core.specs.tree_nodes.declared.types.Signature.{Signature, out-Signature}
-use Rattle.go_decl_core.specs.tree_nodes.declared.types.Params.{Params, out-Params}
-use Rattle.go_decl_core.specs.tree_nodes.declared.types.«Param» as declared_param
-use Rattle.go_decl_core.specs.tree_nodes.declared.types.Results.TheVariants as results
-use Rattle.go_decl_core.specs.tree_nodes.Trees.{FileTree}
-use Rattle.go_decl_core.specs.tree_nodes.TypeShapes.{params_of, shape_results, shape_signature}
-use Rattle.go_decl_core.specs.tree_nodes.TypeShapesProofs.{listed_parts, signature_parts}
+use Rattle.go_tree_nodes.specs.declared.types.Signature.{Signature, out-Signature}
+use Rattle.go_tree_nodes.specs.declared.types.Params.{Params, out-Params}
+use Rattle.go_tree_nodes.specs.declared.types.«Param» as declared_param
+use Rattle.go_tree_nodes.specs.declared.types.Results.TheVariants as results
+use Rattle.go_tree_nodes.specs.Trees.{FileTree}
+use Rattle.go_tree_nodes.specs.TypeShapes.{params_of, shape_results, shape_signature}
+use Rattle.go_tree_nodes.proofs.TypeShapes.{listed_parts, signature_parts}
 use Rattle.go_graph_core.specs.Packages.{Trees}
 use Rattle.go_block_core.specs.Declarations.{file_declared, files_declared, without_params, without_results, is_procedure}
 

@@ -5,7 +5,7 @@ use Rattle.std.specs.List.{AllZip}
 use Rattle.std.specs.Global.{Global}
 use Rattle.std.proofs.lemmas.List.{map-append}
 use Rattle.std.proofs.lemmas.Option.{slice_get_read}
-use Rattle.go_decl_core.specs.tree_nodes.Trees.{FileTree, ImportSpecTree}
+use Rattle.go_tree_nodes.specs.Trees.{FileTree, ImportSpecTree}
 use Rattle.go_graph_core.specs.declared.imports.ImportAt.{ImportAt}
 use Rattle.go_graph_core.specs.Packages.{Trees}
 use Rattle.go_graph_core.specs.Lists.{AllNumbered}

@@ -5,8 +5,8 @@ use Rattle.std.specs.List.{AllZip}
 use Rattle.std.specs.Global.{Global}
 use Rattle.std.proofs.lemmas.List.{map-append, length-map, get_or-map, take_all}
 use Rattle.std.proofs.lemmas.Option.{slice_get-map, slice_get_read, slice_get_within}
-use Rattle.go_decl_core.specs.tree_nodes.declared.files.ImportSpec.{ImportSpec}
-use Rattle.go_decl_core.specs.tree_nodes.Trees.{FileTree, ImportSpecTree}
+use Rattle.go_tree_nodes.specs.declared.files.ImportSpec.{ImportSpec}
+use Rattle.go_tree_nodes.specs.Trees.{FileTree, ImportSpecTree}
 use Rattle.go_graph_core.specs.Packages.{Trees}
 use Rattle.go_graph_core.proofs.Zips.{zip_at, zip_length}
 use Rattle.go_block_core.specs.declared.imports.Imported.{Imported}

@@ -5,14 +5,14 @@ use Rattle.std.specs.List.{flat_map}
 use Rattle.std.proofs.lemmas.List.Elements.{All-cons, All-append, All-head, All-tail}
 use Rattle.std.proofs.lemmas.List.{length-map, length-append, get_or-map}
 use Rattle.std.proofs.lemmas.List.Kept.{AllPairs-cons, AllPairs-from_increasing}
-use Rattle.go_text_core.specs.declared.span.Span.{Span}
-use Rattle.go_text_core.specs.Text.{is_blank}
-use Rattle.go_decl_core.specs.tree_nodes.declared.names.Ident.{Ident}
-use Rattle.go_decl_core.specs.tree_nodes.declared.decls.ValueKind.{ValueKind}
-use Rattle.go_decl_core.specs.tree_nodes.declared.files.Receiver.{Receiver}
-use Rattle.go_decl_core.specs.tree_nodes.Terminals.{Terminal}
-use Rattle.go_decl_core.specs.tree_nodes.Trees.{Separated, One, Then, Specs, Single, Group, ValueSpecTree, TypeSpecTree, FuncTree, DeclTree, Value, Types, Func, TopTree, FileTree, of_specs}
-use Rattle.go_decl_core.specs.tree_nodes.Spelling.{spell_ident, spell_idents, spell_value_spec, spell_specs_of, spell_specs, spell_type_spec, spell_receiver, spell_decl, spell_tops, spell_file, IsPlaced}
+use Rattle.go_open_core.specs.text_core.declared.span.Span.{Span}
+use Rattle.go_open_core.specs.text_core.Text.{is_blank}
+use Rattle.go_tree_nodes.specs.declared.names.Ident.{Ident}
+use Rattle.go_tree_nodes.specs.declared.decls.ValueKind.{ValueKind}
+use Rattle.go_tree_nodes.specs.declared.files.Receiver.{Receiver}
+use Rattle.go_tree_nodes.specs.Terminals.{Terminal}
+use Rattle.go_tree_nodes.specs.Trees.{Separated, One, Then, Specs, Single, Group, ValueSpecTree, TypeSpecTree, FuncTree, DeclTree, Value, Types, Func, TopTree, FileTree, of_specs}
+use Rattle.go_tree_nodes.specs.Spelling.{spell_ident, spell_idents, spell_value_spec, spell_specs_of, spell_specs, spell_type_spec, spell_receiver, spell_decl, spell_tops, spell_file, IsPlaced}
 use Rattle.go_graph_core.specs.Packages.{Trees}
 use Rattle.go_decl_core.specs.declared.places.DeclKind.{DeclKind}
 use Rattle.go_decl_core.specs.Outer.{Outer, Manner, outer, idents_outers, kind_of_value, kind_of_func, rest_outers, value_spec_outers, type_spec_outers, receiver_outers, signature_outers, func_outers, decl_outers, outer_names, Whole}

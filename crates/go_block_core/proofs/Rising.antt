@@ -1,8 +1,8 @@
 -- What tokens in order give stands in order of place.
 use Rattle.std.proofs.Common.{◌≡◌, ℕ, ◌+◌, ◌<◌, ◌≤◌, zero, suc, List, [], ◌∷◌, ◌++◌, map, slice_index, sym, subst, append-nil, arith}
 use Rattle.std.specs.List.Sorted.{IsStrictlyIncreasing}
-use Rattle.go_decl_core.specs.tree_nodes.Terminals.{Terminal, InOrder, least_width}
-use Rattle.go_decl_core.specs.tree_nodes.InOrder.{in_order_split, in_order_ends}
+use Rattle.go_tree_nodes.specs.Terminals.{Terminal, InOrder, least_width}
+use Rattle.go_tree_nodes.proofs.InOrder.{in_order_split, in_order_ends}
 
 -- one number before others that rise
 rising_from : (a b : ℕ) (ns : List ℕ) → a < b → IsStrictlyIncreasing (b ∷ ns) → IsStrictlyIncreasing (a ∷ b ∷ ns)

@@ -1,10 +1,10 @@
 -- The imports of a tree, behind references.
 use Rattle.std.proofs.Common.{◌≡◌, ℕ, ◌+◌, ◌<◌, List, [], ◌∷◌, ◌++◌, map, length, get_or, take, Bor, refl, sym, ap, ◌∙◌, append_assoc}
 use Rattle.std.proofs.lemmas.List.{map-append, map_more}
-use Rattle.go_decl_core.specs.tree_nodes.declared.files.ImportLine.{ImportLine}
-use Rattle.go_decl_core.specs.tree_nodes.declared.files.ImportSpec.{ImportSpec}
-use Rattle.go_decl_core.specs.tree_nodes.Shapes.{shape_import_spec, shape_import_line}
-use Rattle.go_decl_core.specs.tree_nodes.Trees.{ImportSpecTree}
+use Rattle.go_tree_nodes.specs.declared.files.ImportLine.{ImportLine}
+use Rattle.go_tree_nodes.specs.declared.files.ImportSpec.{ImportSpec}
+use Rattle.go_tree_nodes.specs.Shapes.{shape_import_spec, shape_import_line}
+use Rattle.go_tree_nodes.specs.Trees.{ImportSpecTree}
 use Rattle.go_block_core.specs.mirrors.Shown.{spec_shown}
 
 -- the import of a line

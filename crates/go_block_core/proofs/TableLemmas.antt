@@ -10,7 +10,7 @@ use Rattle.std.proofs.lemmas.Slice.Eq.{bytes_eq-Decides}
 use Rattle.std.proofs.lemmas.List.{map-append}
 use Rattle.indexmap.specs.IndexMap.{IndexMap, get, get_by, insert_entry}
 use Rattle.indexmap.proofs.CallerLemmas.{insert_entry-new}
-use Rattle.go_text_core.specs.Text.{exported}
+use Rattle.go_open_core.specs.text_core.Text.{exported}
 use Rattle.go_decl_core.specs.declared.keys.DeclRef.{DeclRef}
 use Rattle.go_block_core.specs.Exports.{exported_names}
 use Rattle.go_block_core.specs.Tables.{block_of, in_block, has, with_first, names_in, without}

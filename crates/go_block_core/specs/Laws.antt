@@ -13,7 +13,7 @@ use Rattle.go_block_core.specs.Declarations.{PackageDeclaration, package_declare
 use Rattle.go_block_core.specs.Faults.{block_fault, all_block_faults}
 use Rattle.go_block_core.specs.Holding.{package_block, file_block}
 use Rattle.go_block_core.specs.Tables.{in_block}
-use Rattle.go_decl_core.specs.tree_nodes.Spelling.{IsPlaced}
+use Rattle.go_tree_nodes.specs.Spelling.{IsPlaced}
 
 -- the first of a list that P holds of has this value
 pub record IsFirstOf {T V : Type 0} (P : T → Type 0) (value : T → V) (xs : List T) (v : V) : Type 0 where

@@ -1,6 +1,6 @@
 //! The blocks of all packages of a workspace.
 ghost use Rattle.std.specs.Prelude.{◌≡◌, IfOk, None, replicate, map};
-ghost use Rattle.go_decl_core.specs.tree_nodes.Shapes.{file_of};
+ghost use Rattle.go_tree_nodes.specs.Shapes.{file_of};
 ghost use Rattle.go_graph_core.specs.Packages.{trees_of};
 ghost use Rattle.go_graph_core.specs.Plans.{IsPlan, IsAssembledAt};
 ghost use Rattle.go_block_core.specs.All.{AreAllBlocks};
@@ -12,9 +12,9 @@ use crate::exports::Exports;
 use crate::imports::Imported;
 use crate::making::blocks;
 use crate::naming::{import_names, import_specs};
-use go_decl_core::tree_nodes::File;
 use go_graph_core::parse_types::add;
 use go_graph_core::{ImportAt, ImportOutcome, Package, Plan, Workspace, assemble};
+use go_tree_nodes::File;
 use std::alloc::{AllocError, Global};
 
 /// Nothing, for this number of packages.

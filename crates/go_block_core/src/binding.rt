@@ -9,7 +9,7 @@ use crate::imports::{ImportForm, Imported, NamedImport};
 use go_decl_core::DeclKey;
 use go_decl_core::path_core::ImportPath;
 use go_graph_core::parse_types::add;
-use go_text_core::{Name, Rule};
+use go_open_core::text_core::{Name, Rule};
 use std::alloc::{AllocError, Global};
 
 /// What a name of a file block denotes.

@@ -1,12 +1,12 @@
 //! The declarations of the package block.
 ghost use Rattle.std.specs.Prelude.{◌≡◌};
 ghost use Rattle.go_decl_core.specs.Shown.{decl_shown};
-ghost use Rattle.go_decl_core.specs.tree_nodes.TypeShapes.{shape_results, shape_signature};
+ghost use Rattle.go_tree_nodes.specs.TypeShapes.{shape_results, shape_signature};
 ghost use Rattle.go_block_core.specs.Declarations.{top_declared, without_results, is_procedure};
 ghost use Rattle.go_block_core.specs.mirrors.Shown.{declaration_shown, declared_shown, named_place};
 
-use go_decl_core::tree_nodes::{Results, Signature};
 use go_decl_core::{DeclForm, DeclKind, DeclRef, TopDecl, kind_of_value};
+use go_tree_nodes::{Results, Signature};
 
 /// A declaration of a package block with its name and the offset in bytes of its identifier, and whether it is a
 /// function without parameters and results.

@@ -7,7 +7,7 @@ use crate::block::Blocks;
 use go_decl_core::DeclRef;
 use go_decl_core::path_core::ImportPath;
 use go_graph_core::Package;
-use go_text_core::Name;
+use go_open_core::text_core::Name;
 use std::alloc::{AllocError, Global};
 use std::marker::Model;
 use std::sync::Arc;

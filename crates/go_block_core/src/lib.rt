@@ -39,9 +39,19 @@ pub use laws::{
 pub use making::blocks;
 pub use naming::{import_names, import_specs};
 
+/// What the crates above name of `go_decl_core`.
+pub mod decl_core {
+    pub use go_decl_core::{
+        Anchor, DeclKey, DeclKind, DeclRef, Outline, TopDecl, anchors, outline,
+    };
+}
+
 /// What the crates above name of `go_graph_core`.
 pub mod graph_core {
-    pub use go_graph_core::{Package, SourceFile, Workspace};
+    pub use go_graph_core::{
+        ImportAt, ImportOutcome, Package, PackageSource, Plan, SourceFile, Workspace, assemble,
+        one_outcome, plan_imports,
+    };
 }
 
 /// What the crates above name of `go_open_core`.
@@ -49,7 +59,12 @@ pub mod open_core {
     pub use go_open_core::{DeclId, NameList, OpenBlocks, ShortDecl, ShortName};
 }
 
+/// What the crates above name of `go_parse_core`.
+pub mod parse_core {
+    pub use go_graph_core::parse_core::{ParseError, Parsed, one_rule, one_tree, parse, tree_of};
+}
+
 /// What the crates above name of `go_text_core`.
 pub mod text_core {
-    pub use go_text_core::Rule;
+    pub use go_open_core::text_core::Rule;
 }

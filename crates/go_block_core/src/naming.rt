@@ -1,7 +1,7 @@
 //! The imports of a package, with the names that they may bind.
 ghost use Rattle.std.specs.Prelude.{◌≡◌, ◌++◌, ◌<◌, IfOk, OnOk, map, length};
-ghost use Rattle.go_decl_core.specs.tree_nodes.Shapes.{import_of, file_of, shape_import_spec, shape_import_specs};
-ghost use Rattle.go_decl_core.specs.tree_nodes.Terminals.{value_of};
+ghost use Rattle.go_tree_nodes.specs.Shapes.{import_of, file_of, shape_import_spec, shape_import_specs};
+ghost use Rattle.go_tree_nodes.specs.Terminals.{value_of};
 ghost use Rattle.go_graph_core.specs.Packages.{trees_of};
 ghost use Rattle.go_block_core.specs.Blocks.{imports_of};
 ghost use Rattle.go_block_core.specs.Naming.{HaveOneEach, form_named, file_named, file_specs, imported_in, named_import, own_name, package_named, specs_in, specs_named, specs_of};
@@ -9,12 +9,10 @@ ghost use Rattle.go_block_core.specs.mirrors.Shown.{spec_shown};
 
 use crate::imports::{ImportForm, ImportNames, Imported, NamedImport};
 use crate::word::refused_name;
-use go_decl_core::tree_nodes::{
-    File, ImportDecl, ImportName, ImportSpec, ImportSpecs, TextLiteral,
-};
 use go_graph_core::Package;
 use go_graph_core::parse_types::add;
-use go_text_core::Name;
+use go_open_core::text_core::Name;
+use go_tree_nodes::{File, ImportDecl, ImportName, ImportSpec, ImportSpecs, TextLiteral};
 use std::alloc::{AllocError, Global};
 
 /// Adds the imports of a declaration.

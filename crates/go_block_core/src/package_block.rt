@@ -1,8 +1,8 @@
 //! What the package block and the file blocks hold, and the faults in them.
 ghost use Rattle.std.specs.Prelude.{◌≡◌, ◌++◌, ◌∷◌, [], not, ◌&&◌, OnOk, IfOk, map};
 ghost use Rattle.std.specs.Str.{chars};
-ghost use Rattle.go_text_core.specs.Text.{exported};
-ghost use Rattle.go_decl_core.specs.tree_nodes.Shapes.{file_of};
+ghost use Rattle.go_open_core.specs.text_core.Text.{exported};
+ghost use Rattle.go_tree_nodes.specs.Shapes.{file_of};
 ghost use Rattle.go_graph_core.specs.Packages.{trees_of};
 ghost use Rattle.go_decl_core.specs.Shown.{decl_shown};
 ghost use Rattle.go_block_core.specs.Exports.{name_and_decl, exported_names};
@@ -13,7 +13,7 @@ ghost use Rattle.go_block_core.specs.Holding.{is_second_declaration, with_declar
 ghost use Rattle.go_block_core.specs.Bindings.{file_bound};
 ghost use Rattle.go_block_core.specs.Laws.{ArePlaced};
 ghost use Rattle.go_block_core.specs.mirrors.Shown.{bound_shown, declaration_shown};
-ghost use Rattle.go_decl_core.specs.tree_nodes.Spelling.{IsPlaced};
+ghost use Rattle.go_tree_nodes.specs.Spelling.{IsPlaced};
 
 use crate::binding::{Binding, BoundName, bindings};
 use crate::decls::{NamedPlace, declaration};
@@ -21,11 +21,11 @@ use crate::exports::NamedDecl;
 use crate::fault::{BlockFault, BlockRule, add_fault_if};
 use crate::imports::NamedImport;
 use crate::table::{bind_first, has};
-use go_decl_core::tree_nodes::File;
 use go_decl_core::{DeclRef, TopDecl, outline};
 use go_graph_core::Package;
 use go_graph_core::parse_types::add;
-use go_text_core::{Name, is_exported};
+use go_open_core::text_core::{Name, is_exported};
+use go_tree_nodes::File;
 use indexmap::IndexMap;
 use std::alloc::{AllocError, Global};
 

@@ -2,14 +2,14 @@
 use Rattle.std.proofs.Common.{◌≡◌, ℕ, Bool, false, List, ◌++◌, map, Option, Result, Ok, Err, subst, sym, ap, ◌∙◌}
 use Rattle.std.specs.Result.{IfOk}
 use Rattle.go_tree_nodes.specs.Trees.{FuncTree}
-use Rattle.go_env_core.specs.term_core.Terms.{Term}
-use Rattle.go_local_core.specs.declared.Fault.{Fault}
-use Rattle.go_local_core.specs.Law.{Rules, Out}
-use Rattle.go_local_core.specs.Tables.{walked, out_by_intervals}
-use Rattle.go_piece_core.specs.walk_core.Ends.{lines_loop_faults}
+use Rattle.go_term_core.specs.Terms.{Term}
+use Rattle.go_env_core.specs.local_core.declared.Fault.{Fault}
+use Rattle.go_env_core.specs.local_core.Law.{Rules, Out}
+use Rattle.go_env_core.specs.local_core.Tables.{walked, out_by_intervals}
+use Rattle.go_env_core.specs.walk_core.Ends.{lines_loop_faults}
 use Rattle.go_env_core.specs.names_core.Body.{AreWalked, AreGiven}
-use Rattle.go_piece_core.specs.expr_core.Looks.{WrittenRules}
-use Rattle.go_piece_core.specs.Headers.{returned_types, returned_names}
+use Rattle.go_env_core.specs.expr_core.Looks.{WrittenRules}
+use Rattle.go_env_core.specs.piece_core.Headers.{returned_types, returned_names}
 use Rattle.go_env_core.specs.face_core.Faces.{TheFace}
 use Rattle.go_env_core.specs.declared.meaning.Meaning.{Meaning}
 use Rattle.go_env_core.specs.Scenes.{SceneModel}

@@ -3,13 +3,13 @@
 -- docs/RULES.md, "Bodies of functions". The Go specification, "Blocks", "Declarations and scope", "Statements".
 use Rattle.std.specs.Prelude.{◌≡◌, ℕ, false, List, ◌++◌, Option}
 use Rattle.go_tree_nodes.specs.Trees.{FuncTree}
-use Rattle.go_env_core.specs.term_core.Terms.{Term}
-use Rattle.go_local_core.specs.declared.Fault.{Fault}
-use Rattle.go_local_core.specs.Binding.{Local}
-use Rattle.go_local_core.specs.Law.{Out}
-use Rattle.go_local_core.specs.Tables.{walked, out_by_intervals, IsTable}
-use Rattle.go_piece_core.specs.walk_core.Ends.{lines_loop_faults}
-use Rattle.go_piece_core.specs.expr_core.Looks.{WrittenRules}
+use Rattle.go_term_core.specs.Terms.{Term}
+use Rattle.go_env_core.specs.local_core.declared.Fault.{Fault}
+use Rattle.go_env_core.specs.local_core.Binding.{Local}
+use Rattle.go_env_core.specs.local_core.Law.{Out}
+use Rattle.go_env_core.specs.local_core.Tables.{walked, out_by_intervals, IsTable}
+use Rattle.go_env_core.specs.walk_core.Ends.{lines_loop_faults}
+use Rattle.go_env_core.specs.expr_core.Looks.{WrittenRules}
 use Rattle.go_env_core.specs.face_core.Faces.{TheFace}
 use Rattle.go_env_core.specs.declared.meaning.Meaning.{Meaning}
 use Rattle.go_env_core.specs.Scenes.{SceneModel}

@@ -8,10 +8,10 @@ use Rattle.go_universe_core.specs.declared.Predeclared.{Predeclared}
 use Rattle.go_universe_core.specs.declared.Predeclared.TheVariants as predeclared
 use Rattle.go_tree_nodes.specs.Trees.{SignatureTree, ResultTree, Signed, NoResult, OneResult, Results, NoParams, Param, ParamTrees, ExprTree, Integer, Text, Named, Paren, Unary, Binary, Select, Call, Literal, StructLiteral, FuncTree}
 use Rattle.go_env_core.specs.handle_core.Declarations.{Declaration, Universe, OfError, Package, InFile}
-use Rattle.go_piece_core.specs.denote_core.declared.things.Outcome.{Outcome}
-use Rattle.go_piece_core.specs.denote_core.declared.things.Outcome.TheVariants as outcomes
-use Rattle.go_piece_core.specs.walk_core.Ends.{are_terminating}
-use Rattle.go_local_core.specs.declared.Fault.{Fault}
+use Rattle.go_env_core.specs.denote_core.declared.things.Outcome.{Outcome}
+use Rattle.go_env_core.specs.denote_core.declared.things.Outcome.TheVariants as outcomes
+use Rattle.go_env_core.specs.walk_core.Ends.{are_terminating}
+use Rattle.go_env_core.specs.local_core.declared.Fault.{Fault}
 use Rattle.go_body_core.specs.Notes.{TheUse}
 
 -- a function has results

@@ -19,11 +19,13 @@ pub mod handle_core
 pub mod inline_core
 pub mod local_core
 pub mod names_core
-pub mod open_core
 pub mod piece_core
 pub mod scope_core
+pub mod scope_core_lemmas
+pub mod select_core
 pub mod settle_core
 pub mod table_core
-pub mod term_core
+pub mod top_core
 pub mod tree_core
+pub mod walk_core
 pub mod written_core

@@ -1,11 +1,11 @@
 -- What is noted of the pieces of a function.
 use Rattle.std.specs.Prelude.{ℕ, List, Option}
 use Rattle.std.specs.List.{flat_map}
-use Rattle.go_env_core.specs.term_core.Terms.{Term}
+use Rattle.go_term_core.specs.Terms.{Term}
 use Rattle.go_env_core.specs.handle_core.Declarations.{Declaration}
-use Rattle.go_piece_core.specs.operand_core.declared.types.Operand.{Operand}
-use Rattle.go_piece_core.specs.expr_core.declared.things.Use.{Use}
-use Rattle.go_local_core.specs.declared.Fault.{Fault}
+use Rattle.go_env_core.specs.operand_core.declared.types.Operand.{Operand}
+use Rattle.go_env_core.specs.expr_core.declared.things.Use.{Use}
+use Rattle.go_env_core.specs.local_core.declared.Fault.{Fault}
 use Rattle.go_body_core.specs.declared.locals.Local.{Local}
 
 -- what an occurrence has

@@ -1,3 +1,2 @@
 -- What the crates above name of go_denote_core.
-pub use Rattle.go_piece_core.specs.denote_core.Arguments as Arguments
-pub use Rattle.go_piece_core.specs.denote_core.declared as declared
+pub use Rattle.go_env_core.specs.denote_core.declared as declared

@@ -1,12 +1,12 @@
 -- What the crates above name of go_local_core.
-pub use Rattle.go_local_core.specs.Alike as Alike
-pub use Rattle.go_local_core.specs.Binding as Binding
-pub use Rattle.go_local_core.specs.Law as Law
-pub use Rattle.go_local_core.specs.Outline as Outline
-pub use Rattle.go_local_core.proofs.Parts as Parts
-pub use Rattle.go_local_core.specs.Pieces as Pieces
-pub use Rattle.go_local_core.proofs.Placed as Placed
-pub use Rattle.go_local_core.specs.Steps as Steps
-pub use Rattle.go_local_core.proofs.Tables as TablesProofs
-pub use Rattle.go_local_core.specs.Tables as Tables
-pub use Rattle.go_local_core.specs.declared as declared
+pub use Rattle.go_env_core.specs.local_core.Alike as Alike
+pub use Rattle.go_env_core.specs.local_core.Binding as Binding
+pub use Rattle.go_env_core.specs.local_core.Law as Law
+pub use Rattle.go_env_core.specs.local_core.Outline as Outline
+pub use Rattle.go_env_core.specs.local_core.Parts as Parts
+pub use Rattle.go_env_core.specs.local_core.Pieces as Pieces
+pub use Rattle.go_env_core.specs.local_core.Placed as Placed
+pub use Rattle.go_env_core.specs.local_core.Steps as Steps
+pub use Rattle.go_env_core.specs.local_core.TablesProofs as TablesProofs
+pub use Rattle.go_env_core.specs.local_core.Tables as Tables
+pub use Rattle.go_env_core.specs.local_core.declared as declared

@@ -1,7 +1,11 @@
 -- What the crates above name of go_piece_core.
-pub use Rattle.go_piece_core.specs.Headers as Headers
-pub use Rattle.go_piece_core.specs.Laws as Laws
-pub use Rattle.go_piece_core.proofs.Local as Local
-pub use Rattle.go_piece_core.proofs.Occurring as Occurring
-pub use Rattle.go_piece_core.specs.Pieces as Pieces
-pub use Rattle.go_piece_core.specs.Values as Values
+pub use Rattle.go_env_core.specs.piece_core.Headers as Headers
+pub use Rattle.go_env_core.specs.piece_core.Laws as Laws
+pub use Rattle.go_env_core.specs.piece_core.Local as Local
+pub use Rattle.go_env_core.specs.piece_core.Occurring as Occurring
+pub use Rattle.go_env_core.specs.piece_core.Pieces as Pieces
+pub use Rattle.go_env_core.specs.piece_core.Specifications as Specifications
+pub use Rattle.go_env_core.specs.piece_core.Statements as Statements
+pub use Rattle.go_env_core.specs.piece_core.Targets as Targets
+pub use Rattle.go_env_core.specs.piece_core.Types as Types
+pub use Rattle.go_env_core.specs.piece_core.Values as Values

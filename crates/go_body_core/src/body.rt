@@ -2,10 +2,10 @@
 ghost use Rattle.std.specs.Prelude.{◌≡◌, IfOk};
 ghost use Rattle.go_tree_nodes.specs.Shapes.{func_of};
 ghost use Rattle.go_tree_nodes.specs.TypeShapes.{shape_signature};
-ghost use Rattle.go_local_core.specs.Tables.{IsFuncPlaced};
+ghost use Rattle.go_env_core.specs.local_core.Tables.{IsFuncPlaced};
 ghost use Rattle.go_env_core.specs.Scenes.{scene_shown};
 ghost use Rattle.go_env_core.specs.Looks.{inline_rules};
-ghost use Rattle.go_piece_core.specs.Headers.{returned_types};
+ghost use Rattle.go_env_core.specs.piece_core.Headers.{returned_types};
 ghost use Rattle.go_body_core.specs.Rules.{outside_looks};
 ghost use Rattle.go_body_core.specs.Body.{IsBody, IsWalkedBody, IsGivenBody};
 
@@ -16,12 +16,12 @@ use crate::pieces::Pieces;
 use go_env_core::face_core::Face;
 use go_env_core::handle_core::{SignatureRef, TypeRef};
 use go_env_core::inline_core::InlineTypes;
+use go_env_core::local_core::Fault;
 use go_env_core::names_core::check_function;
+use go_env_core::piece_core::has_named_results;
 use go_env_core::scope_core::Scopes;
+use go_env_core::walk_core::lines_loop_faults;
 use go_env_core::{Scene, outer_names};
-use go_local_core::Fault;
-use go_piece_core::has_named_results;
-use go_piece_core::walk_core::lines_loop_faults;
 use go_tree_nodes::FuncDecl;
 use std::alloc::{AllocError, Global};
 

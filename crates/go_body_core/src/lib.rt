@@ -27,9 +27,14 @@ pub mod decl_core {
     pub use go_env_core::decl_core::Places;
 }
 
+/// What the crates above name of `go_denote_core`.
+pub mod denote_core {
+    pub use go_env_core::denote_core::Outcome;
+}
+
 /// What the crates above name of `go_entry_core`.
 pub mod entry_core {
-    pub use go_env_core::entry_core::{FileNames, ImportedNames, ShownPackages, outlines};
+    pub use go_env_core::entry_core::{FileNames, ImportedNames, ShownPackages};
 }
 
 /// What the crates above name of `go_env_core`.
@@ -37,19 +42,31 @@ pub mod env_core {
     pub use go_env_core::{Here, Meaning, Scene, outer_names, stand};
 }
 
+/// What the crates above name of `go_expr_core`.
+pub mod expr_core {
+    pub use go_env_core::expr_core::{Exprs, Notes, Use};
+}
+
 /// What the crates above name of `go_face_core`.
 pub mod face_core {
-    pub use go_env_core::face_core::{Face, FaceTable, WrittenFaces, lend, written_faces};
+    pub use go_env_core::face_core::{
+        Face, FaceTable, ShownFace, WrittenFaces, hold, lend, written_faces,
+    };
 }
 
 /// What the crates above name of `go_handle_core`.
 pub mod handle_core {
-    pub use go_env_core::handle_core::{Decl, DeclSite, Home, SignatureRef, TypeRef};
+    pub use go_env_core::handle_core::{Decl, DeclSite, SignatureRef, TypeRef};
 }
 
 /// What the crates above name of `go_inline_core`.
 pub mod inline_core {
-    pub use go_env_core::inline_core::{Ground, InlineTypes, function_types, initialiser_types};
+    pub use go_env_core::inline_core::{Ground, InlineTypes, initialiser_types};
+}
+
+/// What the crates above name of `go_local_core`.
+pub mod local_core {
+    pub use go_env_core::local_core::Fault;
 }
 
 /// What the crates above name of `go_names_core`.
@@ -59,7 +76,7 @@ pub mod names_core {
 
 /// What the crates above name of `go_scope_core`.
 pub mod scope_core {
-    pub use go_env_core::scope_core::Scopes;
+    pub use go_env_core::scope_core::{InScope, Scopes};
 }
 
 /// What the crates above name of `go_select_core`.
@@ -67,9 +84,19 @@ pub mod select_core {
     pub use go_env_core::select_core::EmbedPath;
 }
 
+/// What the crates above name of `go_settle_core`.
+pub mod settle_core {
+    pub use go_env_core::settle_core::{Kinds, settle};
+}
+
+/// What the crates above name of `go_top_core`.
+pub mod top_core {
+    pub use go_env_core::top_core::{check_type_decl, check_value_decl};
+}
+
 /// What the crates above name of `go_tree_core`.
 pub mod tree_core {
-    pub use go_piece_core::tree_core::Role;
+    pub use go_term_core::tree_core::Role;
 }
 
 /// What the crates above name of `go_written_core`.

@@ -5,7 +5,7 @@ ghost use Rattle.go_body_core.specs.Rules.{declared_among, local_if, locals_of};
 use go_env_core::Meaning;
 use go_env_core::handle_core::TypeRef;
 use go_env_core::names_core::Meant;
-use go_piece_core::operand_core::Operand;
+use go_env_core::operand_core::Operand;
 use go_text_core::add;
 use go_tree_nodes::Ident;
 use std::alloc::{AllocError, Global};

@@ -1,12 +1,12 @@
 //! The pieces of a function as they stand in its tree, and their check in any environment.
 ghost use Rattle.std.specs.Prelude.{◌≡◌, ◌++◌, IfOk, OnOk};
-ghost use Rattle.go_piece_core.specs.expr_core.Looks.{everywhere};
-ghost use Rattle.go_piece_core.specs.Pieces.{piece_uses};
+ghost use Rattle.go_env_core.specs.expr_core.Looks.{everywhere};
+ghost use Rattle.go_env_core.specs.piece_core.Pieces.{piece_uses};
 ghost use Rattle.go_body_core.specs.mirrors.PieceTrees.{faults_of, piece_of, values_of};
 
-use go_piece_core::expr_core::{Exprs, Notes};
-use go_piece_core::operand_core::Operand;
-use go_piece_core::{
+use go_env_core::expr_core::{Exprs, Notes};
+use go_env_core::operand_core::Operand;
+use go_env_core::piece_core::{
     check_condition, check_header, check_returned, check_short, check_simple, check_spec,
 };
 use go_text_core::Span;

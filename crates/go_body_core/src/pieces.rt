@@ -4,7 +4,7 @@ ghost use Rattle.go_tree_nodes.specs.TypeShapes.{shape_signature};
 ghost use Rattle.go_env_core.specs.scope_core.Models.{scopes_model};
 ghost use Rattle.go_env_core.specs.Scenes.{scene_shown};
 ghost use Rattle.go_env_core.specs.Looks.{inline_rules};
-ghost use Rattle.go_piece_core.specs.Headers.{returned_types};
+ghost use Rattle.go_env_core.specs.piece_core.Headers.{returned_types};
 ghost use Rattle.go_body_core.specs.Rules.{locals_of, outside_looks};
 ghost use Rattle.go_body_core.specs.mirrors.Noted.{noted_at, values_at};
 
@@ -14,8 +14,8 @@ use go_env_core::face_core::Face;
 use go_env_core::handle_core::{SignatureRef, TypeRef};
 use go_env_core::inline_core::InlineTypes;
 use go_env_core::names_core::{Checker, OpenNames, header_idents, listed_idents};
+use go_env_core::piece_core::function_results;
 use go_env_core::{Here, Meaning, Scene, stand};
-use go_piece_core::function_results;
 use go_text_core::Span;
 use go_tree_nodes::{Definition, Expr, Exprs, FuncDecl, Ident, Simple, ValueKind, ValueSpec};
 use std::alloc::{AllocError, Global};

@@ -2,8 +2,8 @@
 use Rattle.std.proofs.Common.{◌≡◌, ℕ, suc, ◌+◌, ◌-◌, List, [], ◌∷◌, ◌++◌, length, sym, ap, ◌∙◌, arith, length-append, add-one}
 use Rattle.go_tree_nodes.specs.declared.exprs.«Item» as declared_item
 use Rattle.go_tree_nodes.specs.Shapes.{items_of}
-use Rattle.go_instruction_core.specs.declared.instruction.Instruction.{Instruction}
-use Rattle.go_instruction_core.specs.declared.instruction.Instruction.TheVariants as instructions
+use Rattle.go_fragment_core.specs.instruction_core.declared.instruction.Instruction.{Instruction}
+use Rattle.go_fragment_core.specs.instruction_core.declared.instruction.Instruction.TheVariants as instructions
 use Rattle.go_fragment_core.specs.declared.names.Gives.{Gives}
 use Rattle.go_fragment_core.specs.declared.names.Meaning.TheVariants as meanings
 use Rattle.go_fragment_core.specs.Names.{Frame}

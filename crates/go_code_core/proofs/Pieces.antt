@@ -4,16 +4,16 @@ use Rattle.std.specs.Prelude.{Option, Some, None, pos}
 use Rattle.std.specs.Result.{OnOk}
 use Rattle.std.specs.Global.{Box}
 use Rattle.std.proofs.lemmas.Result.{on_ok_weaker}
-use Rattle.go_token_core.specs.declared.kind.Operator.TheVariants as operators
+use Rattle.go_tree_nodes.specs.token_core.declared.kind.Operator.TheVariants as operators
 use Rattle.go_tree_nodes.specs.declared.exprs.Expr.{Expr}
 use Rattle.go_tree_nodes.specs.declared.exprs.Expr.TheVariants as expr
 use Rattle.go_tree_nodes.specs.declared.exprs.CallExpr.{CallExpr, out-CallExpr}
 use Rattle.go_tree_nodes.specs.Shapes.{shape, shape_call, items_of}
 use Rattle.go_tree_nodes.specs.Trees.{ExprTree, Integer, Text, Named, Paren, Unary, Binary, Select, Call, Literal, StructLiteral}
 use Rattle.go_tree_nodes.proofs.ShapeLemmas.{call_parts, call_form, call_tree}
-use Rattle.go_instruction_core.specs.declared.instruction.Distance.TheVariants as distances
-use Rattle.go_instruction_core.specs.declared.instruction.Instruction.{Instruction}
-use Rattle.go_instruction_core.specs.declared.instruction.Instruction.TheVariants as instructions
+use Rattle.go_fragment_core.specs.instruction_core.declared.instruction.Distance.TheVariants as distances
+use Rattle.go_fragment_core.specs.instruction_core.declared.instruction.Instruction.{Instruction}
+use Rattle.go_fragment_core.specs.instruction_core.declared.instruction.Instruction.TheVariants as instructions
 use Rattle.go_fragment_core.specs.declared.names.ConstantWord.{ConstantWord}
 use Rattle.go_fragment_core.specs.declared.names.Meaning.{Meaning}
 use Rattle.go_fragment_core.specs.declared.names.Meaning.TheVariants as meanings

@@ -1,9 +1,9 @@
 -- Laws of code.
 use Rattle.std.specs.Prelude.{◌≡◌, ◌≤◌, ◌<◌, ℕ, suc, true, false, List, [], ◌∷◌, ◌++◌, length}
 use Rattle.go_tree_nodes.specs.Trees.{FuncTree}
-use Rattle.go_instruction_core.specs.declared.instruction.Distance.TheVariants as distances
-use Rattle.go_instruction_core.specs.declared.instruction.Instruction.{Instruction}
-use Rattle.go_instruction_core.specs.declared.instruction.Instruction.TheVariants as instructions
+use Rattle.go_fragment_core.specs.instruction_core.declared.instruction.Distance.TheVariants as distances
+use Rattle.go_fragment_core.specs.instruction_core.declared.instruction.Instruction.{Instruction}
+use Rattle.go_fragment_core.specs.instruction_core.declared.instruction.Instruction.TheVariants as instructions
 use Rattle.go_fragment_core.specs.Names.{CodeLooks}
 use Rattle.go_fragment_core.specs.Slots.{slots_of}
 use Rattle.go_code_core.specs.Code.{code_of, frame_in}

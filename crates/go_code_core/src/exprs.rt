@@ -6,13 +6,13 @@ ghost use Rattle.go_fragment_core.specs.Names.{frame_of};
 ghost use Rattle.go_code_core.specs.mirrors.Written.{applied};
 
 use crate::code::Code;
-use go_constant_core::{Constant, natural};
+use go_fragment_core::constant_core::{Constant, natural};
+use go_fragment_core::instruction_core::{Distance, Instruction, Letters};
 use go_fragment_core::{
     CodeNames, ConstantWord, Frame, Gives, Meaning, binary_instruction, called, expr_gives, folded,
     is_method, slot_of, unary_instruction,
 };
-use go_instruction_core::{Distance, Instruction, Letters};
-use go_token_core::Operator;
+use go_tree_nodes::token_core::Operator;
 use go_tree_nodes::{BinaryExpr, CallExpr, Expr, Item};
 use std::alloc::AllocError;
 

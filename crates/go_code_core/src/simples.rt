@@ -8,11 +8,11 @@ ghost use Rattle.go_fragment_core.specs.Operators.{update_operator};
 
 use crate::code::Code;
 use crate::exprs::expr;
+use go_fragment_core::instruction_core::Instruction;
 use go_fragment_core::{
     CodeNames, Frame, Gives, Target, declared_target, expr_gives, step_operator, target_of,
     update_operator,
 };
-use go_instruction_core::Instruction;
 use go_tree_nodes::{
     Exprs, Idents, InitPart, Simple, Update, ValueDecl, ValueKind, ValueSpec, ValueSpecs, Values,
 };

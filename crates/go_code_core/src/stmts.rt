@@ -8,8 +8,8 @@ ghost use Rattle.go_code_core.specs.mirrors.Written.{IsMarked, else_code, exits_
 use crate::code::Code;
 use crate::exprs::expr;
 use crate::simples::{declaration, init, one, simple, some_simple};
+use go_fragment_core::instruction_core::{Distance, Instruction};
 use go_fragment_core::{CodeNames, Frame};
-use go_instruction_core::{Distance, Instruction};
 use go_tree_nodes::{Branch, Expr, Exprs, ForHead, Line, Loop, Otherwise, Stmt};
 use std::alloc::AllocError;
 

@@ -5,28 +5,28 @@ use Rattle.std.specs.Option.{option_map}
 use Rattle.std.specs.List.Sorted.{IsStrictlySortedBy}
 use Rattle.go_text_core.specs.Text.{is_blank}
 use Rattle.go_text_core.specs.declared.rule.Rule.TheVariants.{S8}
-use Rattle.go_block_core.specs.graph_core.Packages.{trees_of}
-use Rattle.go_block_core.specs.graph_core.Workspaces.{by_bytes}
+use Rattle.go_fitting_core.specs.graph_core.Packages.{trees_of}
+use Rattle.go_fitting_core.specs.graph_core.Workspaces.{by_bytes}
 use Rattle.go_tree_nodes.specs.declared.names.Ident.{Ident}
 use Rattle.go_tree_nodes.specs.declared.usage.Usage.{Usage}
 use Rattle.go_tree_nodes.specs.declared.usage.Usage.TheVariants as usages
 use Rattle.go_tree_nodes.specs.Trees.{ExprTree, Integer, Text, Named, Paren, Unary, Binary, Select, Call, Literal, StructLiteral, FileTree}
 use Rattle.go_open_core.specs.Blocks.{found_in}
-use Rattle.go_entry_core.specs.scope_core.Models.{ScopesModel, scopes_model}
-use Rattle.go_entry_core.specs.scope_core.Scopes.{scope_blocks}
+use Rattle.go_fitting_core.specs.scope_core.Models.{ScopesModel, scopes_model}
+use Rattle.go_fitting_core.specs.scope_core.Scopes.{scope_blocks}
 use Rattle.go_local_core.specs.Binding.{NameLook}
 use Rattle.go_local_core.specs.mirrors.Walk.{look_in}
 use Rattle.go_term_core.specs.Terms.{Term, Sign}
 use Rattle.go_fitting_core.specs.handle_core.Declarations.{Declaration, Package as PackageOf}
-use Rattle.go_denote_core.specs.declared.things.Stand.{Stand}
-use Rattle.go_denote_core.specs.declared.things.Stand.TheVariants as stands
-use Rattle.go_denote_core.specs.declared.things.Dot.{Dot}
-use Rattle.go_denote_core.specs.declared.things.Dot.TheVariants as dots
-use Rattle.go_denote_core.specs.Selectors.{exported_answer}
-use Rattle.go_expr_core.specs.Looks.{look_of_place}
-use Rattle.go_expr_core.specs.Places.{is_name}
-use Rattle.go_expr_core.specs.Denoting.{ident_answer}
-use Rattle.go_expr_core.specs.Uses.{Context, NameAt, SelectorBehind, rule}
+use Rattle.go_fitting_core.specs.denote_core.declared.things.Stand.{Stand}
+use Rattle.go_fitting_core.specs.denote_core.declared.things.Stand.TheVariants as stands
+use Rattle.go_fitting_core.specs.denote_core.declared.things.Dot.{Dot}
+use Rattle.go_fitting_core.specs.denote_core.declared.things.Dot.TheVariants as dots
+use Rattle.go_fitting_core.specs.denote_core.Selectors.{exported_answer}
+use Rattle.go_place_core.specs.expr_core.Looks.{look_of_place}
+use Rattle.go_place_core.specs.expr_core.Places.{is_name}
+use Rattle.go_place_core.specs.expr_core.Denoting.{ident_answer}
+use Rattle.go_place_core.specs.expr_core.Uses.{Context, NameAt, SelectorBehind, rule}
 use Rattle.go_fitting_core.specs.face_core.Packages.{PackageFacesModel, exported_in}
 use Rattle.go_place_core.specs.env_core.declared.meaning.Meaning.{Meaning}
 use Rattle.go_place_core.specs.env_core.Looks.{TheLooks}
@@ -37,9 +37,9 @@ use Rattle.go_place_core.specs.part_core.Parts.{IsPart, PartModel, package_seen,
 use Rattle.go_fitting_core.specs.context_core.Alone.{HasLocals, fits_some}
 use Rattle.go_fitting_core.specs.context_core.Laws.{is_declared}
 use Rattle.go_fitting_core.specs.context_core.Deciding.{things_decide}
-use Rattle.go_spot_core.specs.Used.{SpotTree, NameSpot, BehindSpot, BehindNameSpot, KeySpot}
-use Rattle.go_spot_core.specs.Contexts.{context_of_spot}
-use Rattle.go_spot_core.specs.Opened.{FileUsed, file_names}
+use Rattle.go_place_core.specs.spot_core.Used.{SpotTree, NameSpot, BehindSpot, BehindNameSpot, KeySpot}
+use Rattle.go_place_core.specs.spot_core.Contexts.{context_of_spot}
+use Rattle.go_place_core.specs.spot_core.Opened.{FileUsed, file_names}
 use Rattle.go_fitting_core.specs.Fitting.{fits_alone, fits_behind, fits_shown, package_at, thing_at}
 use Rattle.go_place_core.specs.Completed.{Completes}
 use Rattle.go_place_core.specs.Completions.{AreNamesFor, is_of_types, stand_of}

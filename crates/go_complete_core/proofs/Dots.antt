@@ -6,18 +6,18 @@ use Rattle.go_text_core.specs.declared.rule.Rule.{Rule}
 use Rattle.go_text_core.specs.declared.rule.Rule.TheVariants.{N8}
 use Rattle.go_tree_nodes.specs.declared.usage.Usage.{Usage}
 use Rattle.go_tree_nodes.specs.declared.usage.Usage.TheVariants as usages
-use Rattle.go_operand_core.specs.declared.types.Operand.{Operand}
-use Rattle.go_denote_core.specs.declared.things.Stand.{Stand}
-use Rattle.go_denote_core.specs.declared.things.Stand.TheVariants as stands
-use Rattle.go_denote_core.specs.declared.things.Answer.{Answer}
-use Rattle.go_denote_core.specs.declared.things.Dot.{Dot}
-use Rattle.go_denote_core.specs.declared.things.Dot.TheVariants as dots
-use Rattle.go_denote_core.specs.declared.things.Found.{Found}
-use Rattle.go_denote_core.specs.declared.things.Found.TheVariants as founds
-use Rattle.go_denote_core.specs.Look.{Look}
-use Rattle.go_denote_core.specs.Answers.{refused, of_value, found_answer, name_answer}
-use Rattle.go_denote_core.specs.Selectors.{dot_of, exported_answer, usage_place}
-use Rattle.go_expr_core.specs.Uses.{Context, SelectorBehind}
+use Rattle.go_fitting_core.specs.operand_core.declared.types.Operand.{Operand}
+use Rattle.go_fitting_core.specs.denote_core.declared.things.Stand.{Stand}
+use Rattle.go_fitting_core.specs.denote_core.declared.things.Stand.TheVariants as stands
+use Rattle.go_fitting_core.specs.denote_core.declared.things.Answer.{Answer}
+use Rattle.go_fitting_core.specs.denote_core.declared.things.Dot.{Dot}
+use Rattle.go_fitting_core.specs.denote_core.declared.things.Dot.TheVariants as dots
+use Rattle.go_fitting_core.specs.denote_core.declared.things.Found.{Found}
+use Rattle.go_fitting_core.specs.denote_core.declared.things.Found.TheVariants as founds
+use Rattle.go_fitting_core.specs.denote_core.Look.{Look}
+use Rattle.go_fitting_core.specs.denote_core.Answers.{refused, of_value, found_answer, name_answer}
+use Rattle.go_fitting_core.specs.denote_core.Selectors.{dot_of, exported_answer, usage_place}
+use Rattle.go_place_core.specs.expr_core.Uses.{Context, SelectorBehind}
 use Rattle.go_term_core.specs.declared.term.MemberPlace.TheVariants as places
 use Rattle.go_fitting_core.specs.handle_core.Declarations.{Declaration, InFile}
 use Rattle.go_fitting_core.specs.face_core.declared.face.Face.TheVariants as faces

@@ -4,7 +4,7 @@ use Rattle.std.specs.Prelude.{Contains, filter}
 use Rattle.std.specs.Str.{bytes_eq, chars}
 use Rattle.go_text_core.specs.Text.{exported}
 use Rattle.go_decl_core.specs.declared.keys.DeclRef.{DeclRef}
-use Rattle.go_block_core.specs.Exports.{exported_names}
+use Rattle.go_fitting_core.specs.block_core.Exports.{exported_names}
 use Rattle.go_open_core.specs.Blocks.{in_block, names_in}
 use Rattle.go_open_core.proofs.Names.{same_bytes}
 use Rattle.go_fitting_core.specs.face_core.declared.shown.ShownFace.{ShownFace}

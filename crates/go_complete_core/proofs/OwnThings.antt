@@ -14,16 +14,16 @@ use Rattle.go_decl_core.specs.declared.places.DeclKind.{DeclKind}
 use Rattle.go_decl_core.specs.declared.places.DeclKind.TheVariants as kinds
 use Rattle.go_decl_core.specs.Outer.{kind_of_value, kind_of_func}
 use Rattle.go_decl_core.specs.TopDecls.{TopDeclTree, FormTree, ValueForm, TypeForm, FuncForm, kind_of_form, top_decls}
-use Rattle.go_block_core.specs.graph_core.Packages.{Trees, tree_shown}
-use Rattle.go_block_core.specs.Declarations.{PackageDeclaration, decl_ref, declaration, has_receiver, is_method_form, unless_method, top_declared, file_declared, files_declared, package_declared}
-use Rattle.go_block_core.specs.Holding.{package_block}
-use Rattle.go_block_core.specs.Tables.{in_block}
-use Rattle.go_block_core.proofs.HoldingLaws.{package_holds}
-use Rattle.go_entry_core.specs.table_core.Entries.{Entry}
-use Rattle.go_entry_core.specs.written_core.Written.{InFile, Meaning}
-use Rattle.go_entry_core.specs.Entries.{file_at}
-use Rattle.go_entry_core.specs.Meanings.{file_meaning}
-use Rattle.go_entry_core.specs.Outlines.{FileOutline, IsOutline, outline_of}
+use Rattle.go_fitting_core.specs.graph_core.Packages.{Trees, tree_shown}
+use Rattle.go_fitting_core.specs.block_core.Declarations.{PackageDeclaration, decl_ref, declaration, has_receiver, is_method_form, unless_method, top_declared, file_declared, files_declared, package_declared}
+use Rattle.go_fitting_core.specs.block_core.Holding.{package_block}
+use Rattle.go_fitting_core.specs.block_core.Tables.{in_block}
+use Rattle.go_fitting_core.specs.block_core.HoldingLaws.{package_holds}
+use Rattle.go_fitting_core.specs.table_core.Entries.{Entry}
+use Rattle.go_fitting_core.specs.written_core.Written.{InFile, Meaning}
+use Rattle.go_fitting_core.specs.entry_core.Entries.{file_at}
+use Rattle.go_fitting_core.specs.entry_core.Meanings.{file_meaning}
+use Rattle.go_fitting_core.specs.entry_core.Outlines.{FileOutline, IsOutline, outline_of}
 use Rattle.go_needs_core.specs.Needs.{needed, NeedsLead, IsEndless, known_in, AreValues}
 use Rattle.go_fitting_core.specs.face_core.declared.face.Face.TheVariants as faces
 use Rattle.go_fitting_core.specs.face_core.Faces.{TheFace, variable_face}

@@ -11,20 +11,20 @@ use Rattle.go_universe_core.specs.declared.Predeclared.TheVariants as universe
 use Rattle.go_universe_core.specs.Universe.{found}
 use Rattle.go_tree_nodes.specs.declared.names.Ident.{Ident}
 use Rattle.go_decl_core.specs.declared.keys.DeclRef.{DeclRef}
-use Rattle.go_block_core.specs.declared.binding.Binding.{Binding}
-use Rattle.go_block_core.specs.declared.binding.Target.{Target}
-use Rattle.go_block_core.specs.declared.binding.Target.TheVariants as targets
-use Rattle.go_block_core.specs.Blocks.{file_binding}
+use Rattle.go_fitting_core.specs.block_core.declared.binding.Binding.{Binding}
+use Rattle.go_fitting_core.specs.block_core.declared.binding.Target.{Target}
+use Rattle.go_fitting_core.specs.block_core.declared.binding.Target.TheVariants as targets
+use Rattle.go_fitting_core.specs.block_core.Blocks.{file_binding}
 use Rattle.go_open_core.specs.declared.DeclId.{DeclId}
 use Rattle.go_open_core.specs.Blocks.{found_in, in_block, is_listed, list_names, names_in, or_else}
 use Rattle.go_open_core.proofs.Names.{listed-block, listed-names, same_bytes}
-use Rattle.go_entry_core.specs.scope_core.Models.{scopes_model}
-use Rattle.go_entry_core.specs.scope_core.Scopes.{Denoted, Universe, Package, File, Local, scope_blocks}
-use Rattle.go_entry_core.specs.scope_core_lemmas.Lookups.{by_parts, in_scope}
+use Rattle.go_fitting_core.specs.scope_core.Models.{scopes_model}
+use Rattle.go_fitting_core.specs.scope_core.Scopes.{Denoted, Universe, Package, File, Local, scope_blocks}
+use Rattle.go_fitting_core.specs.scope_core_lemmas.Lookups.{by_parts, in_scope}
 use Rattle.go_place_core.specs.names_core.Scope.{some_meaning}
 use Rattle.go_local_core.specs.mirrors.Walk.{Names, latest, look_in, names_of}
-use Rattle.go_denote_core.specs.declared.things.Found.{Found}
-use Rattle.go_denote_core.specs.declared.things.Found.TheVariants as founds
+use Rattle.go_fitting_core.specs.denote_core.declared.things.Found.{Found}
+use Rattle.go_fitting_core.specs.denote_core.declared.things.Found.TheVariants as founds
 use Rattle.go_term_core.specs.declared.term.MemberPlace.TheVariants as places
 use Rattle.go_fitting_core.specs.handle_core.Declarations.{Declaration, InFile, Package as PackageOf}
 use Rattle.go_fitting_core.specs.face_core.declared.face.Face.TheVariants as faces

@@ -9,12 +9,17 @@ pub use completing::names_there;
 
 /// What the crates above name of `go_answer_core`.
 pub mod answer_core {
-    pub use go_place_core::answer_core::{Answer, Site};
+    pub use go_place_core::answer_core::{Answer, HeldLocal, Site};
 }
 
 /// What the crates above name of `go_part_core`.
 pub mod part_core {
-    pub use go_place_core::part_core::{Part, part_has_occurrences, types_of};
+    pub use go_place_core::part_core::{Part, PartFile, part_has_occurrences, types_of};
+}
+
+/// What the crates above name of `go_ready_core`.
+pub mod ready_core {
+    pub use go_place_core::ready_core::{PackageAt, package_outlines};
 }
 
 /// What the crates above name of `go_shown_core`.
@@ -25,4 +30,9 @@ pub mod shown_core {
 /// What the crates above name of `go_snap_core`.
 pub mod snap_core {
     pub use go_place_core::snap_core::{FileIn, PlacedFault, Snapshot};
+}
+
+/// What the crates above name of `go_summary_core`.
+pub mod summary_core {
+    pub use go_fitting_core::summary_core::view_of;
 }

@@ -26,7 +26,7 @@ pub use values::{Constant, is_zero, natural, text_length};
 
 /// What the crates above name of `go_text_core`.
 pub mod text_core {
-    pub use go_token_core::text_core::Rule;
+    pub use go_token_core::text_core::{Rule, add, is_blank};
 }
 
 /// What the crates above name of `go_token_core`.

@@ -3,7 +3,7 @@ use Rattle.std.proofs.Common.{◌≡◌, ℕ, zero, suc, ◌+◌, ◌<◌, Bool,
 use Rattle.std.specs.Prelude.{◌↔◌, ◌≤◌, Contains, filter, is_some, IsSome}
 use Rattle.std.proofs.lemmas.List.{map-append, drop_more, drop_all}
 use Rattle.std.proofs.lemmas.List.Elements.{All-contains, All-contains_itself, All-filter, Contains-append_cases, Contains-append_right, filter_passes}
-use Rattle.go_open_core.specs.Blocks.{found_in}
+use Rattle.go_scope_core.specs.open_core.Blocks.{found_in}
 use Rattle.go_scope_core.specs.Models.{ScopesModel}
 use Rattle.go_scope_core.specs.Scopes.{Denoted, scope_blocks}
 use Rattle.go_denote_core.specs.declared.things.Stand.{Stand}

@@ -5,9 +5,9 @@ use Rattle.std.proofs.lemmas.List.{map-append, take-map, take_more}
 use Rattle.std.proofs.lemmas.List.Elements.{filter-append}
 use Rattle.go_text_core.specs.Text.{is_blank}
 use Rattle.go_tree_nodes.specs.declared.names.Ident.{Ident}
-use Rattle.go_open_core.specs.declared.DeclId.{DeclId}
-use Rattle.go_open_core.specs.Blocks.{in_block, names_in, is_taken, is_listed, list_name, list_names, innermost, with_innermost, block_with}
-use Rattle.go_open_core.proofs.Names.{listed-block}
+use Rattle.go_scope_core.specs.open_core.declared.DeclId.{DeclId}
+use Rattle.go_scope_core.specs.open_core.Blocks.{in_block, names_in, is_taken, is_listed, list_name, list_names, innermost, with_innermost, block_with}
+use Rattle.go_scope_core.specs.open_core.Names.{listed-block}
 use Rattle.go_scope_core.specs.block_core.Blocks.{BlocksModel}
 use Rattle.go_scope_core.specs.Models.{ScopesModel}
 use Rattle.go_scope_core.specs.Scopes.{with_open}

@@ -12,8 +12,8 @@ use Rattle.go_scope_core.specs.decl_core.declared.places.DeclKind.TheVariants as
 use Rattle.go_scope_core.specs.block_core.declared.binding.Target.{Target}
 use Rattle.go_scope_core.specs.block_core.declared.binding.Target.TheVariants as targets
 use Rattle.go_scope_core.specs.block_core.Blocks.{BlocksModel}
-use Rattle.go_open_core.specs.Blocks.{found_in, names_in, list_names}
-use Rattle.go_open_core.specs.declared.DeclId.{DeclId}
+use Rattle.go_scope_core.specs.open_core.Blocks.{found_in, names_in, list_names}
+use Rattle.go_scope_core.specs.open_core.declared.DeclId.{DeclId}
 use Rattle.go_scope_core.specs.Models.{ScopesModel, scopes_model}
 use Rattle.go_scope_core.specs.Scopes.{Denoted, Universe, Package, File, Local, scope_blocks}
 use Rattle.go_denote_core.specs.declared.things.Stand.{Stand}

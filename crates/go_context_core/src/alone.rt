@@ -1,14 +1,14 @@
 //! The names that may stand alone at a place.
 ghost use Rattle.std.specs.Prelude.{◌≡◌, ℕ, ◌↔◌, List, [], true, IfOk, IfErr, Contains, map, filter};
 ghost use Rattle.go_scope_core.specs.Scopes.{scope_blocks};
-ghost use Rattle.go_open_core.specs.Blocks.{all_names, list_names};
+ghost use Rattle.go_scope_core.specs.open_core.Blocks.{all_names, list_names};
 ghost use Rattle.go_context_core.specs.Alone as alone;
 
 use crate::things::{fits, thing_of};
 use go_denote_core::Stand;
-use go_open_core::DeclId;
 use go_scope_core::Scopes;
 use go_scope_core::block_core::Blocks;
+use go_scope_core::open_core::DeclId;
 use go_text_core::Rule;
 use go_tree_nodes::Ident;
 use std::alloc::Global;

@@ -16,6 +16,16 @@ pub mod block_core {
     pub use go_scope_core::block_core::Target;
 }
 
+/// What the crates above name of `go_decl_core`.
+pub mod decl_core {
+    pub use go_scope_core::decl_core::DeclKey;
+}
+
+/// What the crates above name of `go_denote_core`.
+pub mod denote_core {
+    pub use go_denote_core::Stand;
+}
+
 /// What the crates above name of `go_scope_core`.
 pub mod scope_core {
     pub use go_scope_core::{InScope, Scopes};

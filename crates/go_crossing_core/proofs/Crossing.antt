@@ -8,7 +8,7 @@ use Rattle.std.proofs.sync.ledger.Book.TheSendSync as book
 use Rattle.std.proofs.sync.ledger.Share.TheSendSync as share
 use Rattle.left_right.proofs.reader.Reader.TheSendSync as reader
 use Rattle.left_right.proofs.writer.Writer.TheSendSync as writer
-use Rattle.go_hall.specs.thread_core_lemmas.Crossing.{crossing, leaves, summary_list_row_send, summary_list_row_sync}
+use Rattle.go_thread_core.proofs.Crossing.{crossing, leaves, summary_list_row_send, summary_list_row_sync}
 use Rattle.go_graph_core.specs.contracts.planning.Plan as plan
 use Rattle.go_reach_core.specs.contracts.graph.Reached as reached
 use Rattle.go_turn_core.specs.contracts.turns.Turns as turns

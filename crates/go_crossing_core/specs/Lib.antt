@@ -1,9 +1,1 @@
 pub mod Threads
-pub mod hall
-pub mod member_core
-pub mod query_core
-pub mod shown_core
-pub mod snap_core
-pub mod submit_core
-pub mod symbol_core
-pub mod type_doc_core

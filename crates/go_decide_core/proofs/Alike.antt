@@ -1,11 +1,11 @@
 -- Identity is decided.
 use Rattle.std.proofs.Common.{◌≡◌, ◌↔◌, ℕ, Bool, true, false, ◌&&◌, List, IsTrue, ◌⊎◌, inl, inr, refl, sym, subst}
 use Rattle.std.specs.Prelude.{nat_eq}
-use Rattle.go_denote_core.specs.text_core.Text.{SameId}
-use Rattle.go_denote_core.specs.term_core.declared.term.MemberPlace.{MemberPlace}
-use Rattle.go_denote_core.specs.term_core.Terms.{Term, NoType, Predeclared, ErrorType, Defined, PointerTo, StructOf, InterfaceOf, Fields, NoField, AField, Methods, NoMethod, AMethod, Sign, SignOf, Terms, NoTerm, ATerm}
-use Rattle.go_denote_core.specs.term_core.Identity.{IsMethod, method_count, IdenticalBy, SameFieldsBy, HasAllBy, SameSignBy, SameTermsBy}
-use Rattle.go_denote_core.specs.term_core.mirrors.Alike.{HasAlike}
+use Rattle.go_text_core.specs.Text.{SameId}
+use Rattle.go_term_core.specs.declared.term.MemberPlace.{MemberPlace}
+use Rattle.go_term_core.specs.Terms.{Term, NoType, Predeclared, ErrorType, Defined, PointerTo, StructOf, InterfaceOf, Fields, NoField, AField, Methods, NoMethod, AMethod, Sign, SignOf, Terms, NoTerm, ATerm}
+use Rattle.go_term_core.specs.Identity.{IsMethod, method_count, IdenticalBy, SameFieldsBy, HasAllBy, SameSignBy, SameTermsBy}
+use Rattle.go_term_core.specs.mirrors.Alike.{HasAlike}
 use Rattle.go_mset_core.specs.table_core.Entries.{same_id}
 use Rattle.go_mset_core.specs.table_core.Underlying.{written_out, IdenticalUnder}
 use Rattle.go_mset_core.specs.embed_core.Ids.{same_id_is, same_id_from}

@@ -1,9 +1,9 @@
 -- Assignability is decided.
 use Rattle.std.proofs.Common.{◌≡◌, ◌↔◌, ℕ, Bool, true, not, ◌&&◌, ◌||◌, List, IsTrue, refl, sym, ap, ◌⊎◌, inl, inr}
-use Rattle.go_denote_core.specs.term_core.declared.term.Basic.{Basic}
-use Rattle.go_denote_core.specs.term_core.declared.term.Basic.TheVariants as basics
-use Rattle.go_denote_core.specs.term_core.Terms.{Term, NoType, Predeclared, ErrorType, Defined, PointerTo, StructOf, InterfaceOf, Fields}
-use Rattle.go_denote_core.specs.term_core.Identity.{Identical}
+use Rattle.go_term_core.specs.declared.term.Basic.{Basic}
+use Rattle.go_term_core.specs.declared.term.Basic.TheVariants as basics
+use Rattle.go_term_core.specs.Terms.{Term, NoType, Predeclared, ErrorType, Defined, PointerTo, StructOf, InterfaceOf, Fields}
+use Rattle.go_term_core.specs.Identity.{Identical}
 use Rattle.go_mset_core.specs.table_core.Entries.{EntryLook, find_entry, underlying_in, IsUnnamed}
 use Rattle.go_mset_core.specs.table_core.Underlying.{IdenticalUnder}
 use Rattle.go_mset_core.specs.table_core.Assign.{Assigned, AValue, ANil, AnInteger, AText, ABoolean, IsNamed, IsInterface, IsPointer, IsValueAssignable, identical, alike, implements_it, IsFitting, is_named}

@@ -1,9 +1,9 @@
 -- Selectors are decided.
 use Rattle.std.proofs.Common.{◌≡◌, ◌↔◌, ℕ, Bool, true, false, ◌||◌, List, Result, Ok, Err, refl, sym, ap, ◌∙◌, subst, ◌⊎◌, inl, inr, if◌then◌else◌}
-use Rattle.go_denote_core.specs.text_core.Text.{is_blank}
-use Rattle.go_denote_core.specs.text_core.declared.rule.Rule.{Rule}
-use Rattle.go_denote_core.specs.text_core.declared.rule.Rule.TheVariants.{M0, S8}
-use Rattle.go_denote_core.specs.term_core.Terms.{Term}
+use Rattle.go_text_core.specs.Text.{is_blank}
+use Rattle.go_text_core.specs.declared.rule.Rule.{Rule}
+use Rattle.go_text_core.specs.declared.rule.Rule.TheVariants.{M0, S8}
+use Rattle.go_term_core.specs.Terms.{Term}
 use Rattle.go_mset_core.specs.table_core.Entries.{Entry, EntryLook, find_entry}
 use Rattle.go_mset_core.specs.embed_core.Owners.{Found, AFieldOf, AMethodOf, AnInterfaces, TheErrorMethod}
 use Rattle.go_mset_core.specs.embed_core.OwnersShown.{found_shown}

@@ -1,6 +1,6 @@
 -- Convertibility is decided.
 use Rattle.std.proofs.Common.{◌≡◌, ◌↔◌, false, IsTrue, ◌⊎◌, inl, inr, refl, subst}
-use Rattle.go_denote_core.specs.term_core.Terms.{Term, NoType, Predeclared, ErrorType, Defined, PointerTo, StructOf, InterfaceOf, is_no_type}
+use Rattle.go_term_core.specs.Terms.{Term, NoType, Predeclared, ErrorType, Defined, PointerTo, StructOf, InterfaceOf, is_no_type}
 use Rattle.go_mset_core.specs.table_core.Entries.{EntryLook, underlying_in}
 use Rattle.go_mset_core.specs.table_core.Assign.{IsType}
 use Rattle.go_decide_core.specs.Identity.{identical_under_of}

@@ -1,7 +1,7 @@
 -- What a selector chooses is what it denotes.
 use Rattle.std.proofs.Common.{◌≡◌, ℕ, Bool, List, Ok, Err, ap}
-use Rattle.go_denote_core.specs.text_core.declared.rule.Rule.{Rule}
-use Rattle.go_denote_core.specs.term_core.Terms.{Term}
+use Rattle.go_text_core.specs.declared.rule.Rule.{Rule}
+use Rattle.go_term_core.specs.Terms.{Term}
 use Rattle.go_mset_core.specs.table_core.Entries.{Entry, find_entry}
 use Rattle.go_mset_core.specs.embed_core.Owners.{Found, AFieldOf, AMethodOf, AnInterfaces, TheErrorMethod}
 use Rattle.go_mset_core.specs.level_core.Selectors.{IsDenoted, IsRule}

@@ -1,10 +1,10 @@
 -- Implementation is decided.
 use Rattle.std.proofs.Common.{◌↔◌, ℕ, Bool, true, false, ◌||◌, List, [], Result, Ok, Err, IsTrue, refl, sym, subst, inl, inr}
 use Rattle.std.specs.Prelude.{codes}
-use Rattle.go_denote_core.specs.text_core.declared.rule.Rule.{Rule}
-use Rattle.go_denote_core.specs.term_core.declared.term.MemberPlace.{MemberPlace}
-use Rattle.go_denote_core.specs.term_core.Terms.{Term, NoType, Predeclared, ErrorType, Defined, PointerTo, StructOf, InterfaceOf, Methods, NoMethod, AMethod, Sign}
-use Rattle.go_denote_core.specs.term_core.Identity.{IsMethod}
+use Rattle.go_text_core.specs.declared.rule.Rule.{Rule}
+use Rattle.go_term_core.specs.declared.term.MemberPlace.{MemberPlace}
+use Rattle.go_term_core.specs.Terms.{Term, NoType, Predeclared, ErrorType, Defined, PointerTo, StructOf, InterfaceOf, Methods, NoMethod, AMethod, Sign}
+use Rattle.go_term_core.specs.Identity.{IsMethod}
 use Rattle.go_mset_core.specs.table_core.Entries.{Entry, EntryLook, find_entry, underlying_in}
 use Rattle.go_mset_core.specs.embed_core.Owners.{Found, AFieldOf, AMethodOf, AnInterfaces, TheErrorMethod}
 use Rattle.go_mset_core.specs.level_core.Selectors.{Searched, Refused, In, FieldsIn, searched, IsFoundAs}

@@ -1,7 +1,7 @@
 -- Items of lists that are put together, and lists whose items differ.
 use Rattle.std.proofs.Common.{List, [], ◌∷◌, ◌++◌, map, refl, sym, subst, inl, inr}
 use Rattle.std.specs.Prelude.{⊤}
-use Rattle.go_denote_core.specs.term_core.Members.{In, in_either, map_in}
+use Rattle.go_term_core.proofs.Members.{In, in_either, map_in}
 
 -- no item is alike to one behind it
 abbrev pub Apart : {A : Type 0} → (A → A → Type 0) → List A → Type 0

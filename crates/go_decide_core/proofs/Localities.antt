@@ -1,11 +1,11 @@
 -- What is decided depends on what the types reach alone.
 use Rattle.std.proofs.Common.{◌≡◌, ◌↔◌, ℕ, Bool, true, false, not, ◌&&◌, ◌||◌, List, [], ◌∷◌, Result, Ok, Err, IsTrue, refl, sym, ap, ◌∙◌, subst, ◌⊎◌, inl, inr}
-use Rattle.go_denote_core.specs.text_core.declared.rule.Rule.{Rule}
-use Rattle.go_denote_core.specs.text_core.declared.rule.Rule.TheVariants.{M0}
+use Rattle.go_text_core.specs.declared.rule.Rule.{Rule}
+use Rattle.go_text_core.specs.declared.rule.Rule.TheVariants.{M0}
 use Rattle.go_mset_core.specs.decl_core.declared.keys.DeclKey.{DeclKey}
-use Rattle.go_denote_core.specs.term_core.declared.term.Basic.TheVariants as basics
-use Rattle.go_denote_core.specs.term_core.Terms.{Term, NoType, Predeclared, PointerTo, is_no_type, term_keys}
-use Rattle.go_denote_core.specs.term_core.Members.{in_contained}
+use Rattle.go_term_core.specs.declared.term.Basic.TheVariants as basics
+use Rattle.go_term_core.specs.Terms.{Term, NoType, Predeclared, PointerTo, is_no_type, term_keys}
+use Rattle.go_term_core.proofs.Members.{in_contained}
 use Rattle.go_mset_core.specs.table_core.Entries.{Entry, EntryLook, find_entry, underlying_in}
 use Rattle.go_mset_core.specs.table_core.Assign.{Assigned, AValue, ANil, AnInteger, AText, ABoolean, is_named}
 use Rattle.go_mset_core.specs.table_core.Laws.{LeadsTo, AgreeFrom, AssignedAgrees}

@@ -1,9 +1,9 @@
 -- What lies at a depth: the types that paths of that length lead to, and the members that an identifier names there.
 use Rattle.std.proofs.Common.{◌≡◌, ℕ, zero, suc, ◌+◌, ◌≤◌, Bool, true, false, not, ◌&&◌, ◌||◌, List, [], ◌∷◌, length, map, Some, refl, sym, ap, ◌∙◌, subst, arith, inl, inr, if◌then◌else◌}
 use Rattle.std.specs.Prelude.{slice_get}
-use Rattle.go_denote_core.specs.text_core.Text.{SameId}
-use Rattle.go_denote_core.specs.term_core.Terms.{Term, NoType, Predeclared, ErrorType, Defined, PointerTo, StructOf, InterfaceOf, Fields, NoField, AField}
-use Rattle.go_denote_core.specs.term_core.Members.{In, contained_in, in_back, in_either, in_front, in_map, map_in}
+use Rattle.go_text_core.specs.Text.{SameId}
+use Rattle.go_term_core.specs.Terms.{Term, NoType, Predeclared, ErrorType, Defined, PointerTo, StructOf, InterfaceOf, Fields, NoField, AField}
+use Rattle.go_term_core.proofs.Members.{In, contained_in, in_back, in_either, in_front, in_map, map_in}
 use Rattle.go_mset_core.specs.table_core.Entries.{EntryLook, same_id, has_method}
 use Rattle.go_mset_core.specs.embed_core.Owners.{OwnerModel, EmbeddedEdge, embedded_edge, owner_in, embedded_edges, term_embedded, embedded_in, Found, Named, members_of}
 use Rattle.go_mset_core.specs.embed_core.OwnersShown.{IsNamedAt}

@@ -1,9 +1,9 @@
 -- The first depth at which an identifier names members tells what it denotes.
 use Rattle.std.proofs.Common.{◌≡◌, ℕ, zero, suc, ◌+◌, ◌<◌, ◌≤◌, Bool, true, false, List, [], ◌∷◌, length, Result, Ok, Err, refl, sym, ap, ◌∙◌, subst, arith, inl, inr}
 use Rattle.std.proofs.lemmas.Bool.{or_cases, or_left, or_right}
-use Rattle.go_denote_core.specs.text_core.declared.rule.Rule.{Rule}
-use Rattle.go_denote_core.specs.term_core.Terms.{Term}
-use Rattle.go_denote_core.specs.term_core.Members.{In}
+use Rattle.go_text_core.specs.declared.rule.Rule.{Rule}
+use Rattle.go_term_core.specs.Terms.{Term}
+use Rattle.go_term_core.proofs.Members.{In}
 use Rattle.go_mset_core.specs.table_core.Entries.{Entry, EntryLook, find_entry}
 use Rattle.go_mset_core.specs.embed_core.Owners.{owner_in, Found, has_spelled}
 use Rattle.go_mset_core.specs.level_core.Paths.{Hit, HasHit, IsSelected, IsAmbiguous, IsMemberSpelled}

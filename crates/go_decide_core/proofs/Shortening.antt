@@ -2,8 +2,8 @@
 use Rattle.std.proofs.Common.{◌≡◌, ℕ, zero, suc, ◌+◌, ◌*◌, ◌<◌, ◌≤◌, Bool, false, ◌||◌, List, [], ◌∷◌, ◌++◌, length, Option, Some, None, refl, ap, subst, arith, ◌⊎◌, inl, inr}
 use Rattle.std.specs.Prelude.{nat_eq}
 use Rattle.std.specs.Map.{lookup}
-use Rattle.go_denote_core.specs.term_core.Terms.{Term, NoType, Predeclared, ErrorType, Defined, PointerTo, StructOf, InterfaceOf}
-use Rattle.go_denote_core.specs.term_core.Members.{In}
+use Rattle.go_term_core.specs.Terms.{Term, NoType, Predeclared, ErrorType, Defined, PointerTo, StructOf, InterfaceOf}
+use Rattle.go_term_core.proofs.Members.{In}
 use Rattle.go_mset_core.specs.table_core.Entries.{Entry, find_entry, term_in, underlying_in}
 use Rattle.go_mset_core.specs.embed_core.Owners.{EmbeddedEdge, owner_in, term_embedded, embedded_in}
 use Rattle.go_mset_core.specs.level_core.Paths.{Step, FieldsLead}

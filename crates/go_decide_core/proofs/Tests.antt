@@ -5,9 +5,9 @@ use Rattle.std.specs.Prelude.{nat_eq}
 use Rattle.std.proofs.lemmas.Bool.{and_parts, and_from, or_cases, or_left, or_right}
 use Rattle.std.proofs.lemmas.Slice.Eq.{bytes_eq-Decides}
 use Rattle.go_mset_core.specs.decl_core.declared.keys.DeclKey.{DeclKey}
-use Rattle.go_denote_core.specs.term_core.declared.term.Basic.{Basic}
-use Rattle.go_denote_core.specs.term_core.declared.term.Basic.TheVariants as basics
-use Rattle.go_denote_core.specs.term_core.Identity.{TagsAgree}
+use Rattle.go_term_core.specs.declared.term.Basic.{Basic}
+use Rattle.go_term_core.specs.declared.term.Basic.TheVariants as basics
+use Rattle.go_term_core.specs.Identity.{TagsAgree}
 use Rattle.go_mset_core.specs.table_core.Entries.{same_key}
 use Rattle.go_mset_core.specs.table_core.Keys.{same_key_itself, same_key_true}
 use Rattle.go_denote_core.specs.operand_core.Values.{is_basic}

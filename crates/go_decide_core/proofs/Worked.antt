@@ -4,7 +4,7 @@ use Rattle.std.specs.Str.{chars}
 use Rattle.unicode.specs.GeneralCategory.{general_category}
 use Rattle.unicode.specs.Rows.{value_in}
 use Rattle.ucd_category.specs.GeneralCategoryRows.{general_category_rows}
-use Rattle.go_denote_core.specs.text_core.Text.{uppercase}
+use Rattle.go_text_core.specs.Text.{uppercase}
 use Rattle.go_decide_core.specs.Worked.{WorkedTypes, WorkedMembers}
 
 pub types_worked : WorkedTypes

@@ -1,6 +1,6 @@
 -- Which types values are convertible to, beside what is assignable: the Go specification, "Conversions".
 use Rattle.std.specs.Prelude.{◌≡◌, Bool, false, not, ◌&&◌, ◌||◌}
-use Rattle.go_denote_core.specs.term_core.Terms.{Term, PointerTo, is_no_type}
+use Rattle.go_term_core.specs.Terms.{Term, PointerTo, is_no_type}
 use Rattle.go_mset_core.specs.table_core.Entries.{EntryLook, underlying_in}
 use Rattle.go_mset_core.specs.table_core.Underlying.{IdenticalUnder}
 use Rattle.go_mset_core.specs.table_core.Assign.{IsType}

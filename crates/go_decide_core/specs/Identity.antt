@@ -1,8 +1,8 @@
 -- Which types are identical, as a test: the Go specification, "Type identity".
 use Rattle.std.specs.Prelude.{ℕ, Bool, true, false, ◌&&◌, ◌||◌, List, nat_eq}
 use Rattle.std.specs.Str.{bytes_eq}
-use Rattle.go_denote_core.specs.term_core.Terms.{Term, NoType, Predeclared, ErrorType, Defined, PointerTo, StructOf, InterfaceOf, Fields, NoField, AField, Methods, NoMethod, AMethod, Sign, SignOf, Terms, NoTerm, ATerm}
-use Rattle.go_denote_core.specs.term_core.Identity.{method_count}
+use Rattle.go_term_core.specs.Terms.{Term, NoType, Predeclared, ErrorType, Defined, PointerTo, StructOf, InterfaceOf, Fields, NoField, AField, Methods, NoMethod, AMethod, Sign, SignOf, Terms, NoTerm, ATerm}
+use Rattle.go_term_core.specs.Identity.{method_count}
 use Rattle.go_mset_core.specs.table_core.Entries.{same_key, same_id}
 use Rattle.go_mset_core.specs.table_core.Underlying.{written_out}
 use Rattle.go_denote_core.specs.operand_core.Values.{is_basic}

@@ -1,11 +1,11 @@
 -- Laws of what is decided.
 use Rattle.std.specs.Prelude.{◌≡◌, ◌↔◌, ◌⊎◌, ℕ, Bool, false, List, IsTrue, Result, Ok, Err}
-use Rattle.go_denote_core.specs.text_core.declared.rule.Rule.{Rule}
-use Rattle.go_denote_core.specs.text_core.declared.rule.Rule.TheVariants.{M0}
-use Rattle.go_denote_core.specs.term_core.declared.term.Basic.{Basic}
-use Rattle.go_denote_core.specs.term_core.declared.term.MemberPlace.{MemberPlace}
-use Rattle.go_denote_core.specs.term_core.Terms.{Term, Predeclared, PointerTo, StructOf, Fields, Sign}
-use Rattle.go_denote_core.specs.term_core.Identity.{Identical, IdenticalButForTags, SameSign}
+use Rattle.go_text_core.specs.declared.rule.Rule.{Rule}
+use Rattle.go_text_core.specs.declared.rule.Rule.TheVariants.{M0}
+use Rattle.go_term_core.specs.declared.term.Basic.{Basic}
+use Rattle.go_term_core.specs.declared.term.MemberPlace.{MemberPlace}
+use Rattle.go_term_core.specs.Terms.{Term, Predeclared, PointerTo, StructOf, Fields, Sign}
+use Rattle.go_term_core.specs.Identity.{Identical, IdenticalButForTags, SameSign}
 use Rattle.go_mset_core.specs.table_core.Entries.{Entry, EntryLook, find_entry, underlying_in, IsUnnamed}
 use Rattle.go_mset_core.specs.embed_core.Owners.{Found, AFieldOf, AMethodOf, AnInterfaces, TheErrorMethod}
 use Rattle.go_mset_core.specs.level_core.declared.search.Selected.{Selected}

@@ -1,8 +1,8 @@
 -- What operands and names are judged by, over the types of a table.
 use Rattle.std.specs.Prelude.{ℕ, Bool, false, List, [], ◌∷◌, Option, Some, None, Result, Ok, Err, if◌then◌else◌}
-use Rattle.go_denote_core.specs.text_core.declared.rule.Rule.{Rule}
-use Rattle.go_denote_core.specs.term_core.declared.term.Basic.TheVariants as basics
-use Rattle.go_denote_core.specs.term_core.Terms.{Term, NoType, Predeclared, ErrorType, Defined, PointerTo, StructOf, InterfaceOf, NoMethod, Sign, SignOf, Terms, NoTerm, ATerm}
+use Rattle.go_text_core.specs.declared.rule.Rule.{Rule}
+use Rattle.go_term_core.specs.declared.term.Basic.TheVariants as basics
+use Rattle.go_term_core.specs.Terms.{Term, NoType, Predeclared, ErrorType, Defined, PointerTo, StructOf, InterfaceOf, NoMethod, Sign, SignOf, Terms, NoTerm, ATerm}
 use Rattle.go_mset_core.specs.table_core.Entries.{Entry, EntryLook, find_entry, underlying_in}
 use Rattle.go_mset_core.specs.table_core.Assign.{AValue}
 use Rattle.go_mset_core.specs.embed_core.Owners.{Found, AFieldOf, AMethodOf, AnInterfaces, TheErrorMethod}

@@ -1,9 +1,9 @@
 -- What a selector denotes, by a search through one depth after another: the Go specification, "Selectors".
 use Rattle.std.specs.Prelude.{ℕ, zero, suc, ◌+◌, ◌*◌, Bool, true, false, ◌||◌, List, [], ◌∷◌, ◌++◌, length, map, Result, Ok, Err, if◌then◌else◌}
-use Rattle.go_denote_core.specs.text_core.Text.{is_blank}
-use Rattle.go_denote_core.specs.text_core.declared.rule.Rule.{Rule}
-use Rattle.go_denote_core.specs.text_core.declared.rule.Rule.TheVariants.{S1, S2, S3, S7, S8}
-use Rattle.go_denote_core.specs.term_core.Terms.{Term}
+use Rattle.go_text_core.specs.Text.{is_blank}
+use Rattle.go_text_core.specs.declared.rule.Rule.{Rule}
+use Rattle.go_text_core.specs.declared.rule.Rule.TheVariants.{S1, S2, S3, S7, S8}
+use Rattle.go_term_core.specs.Terms.{Term}
 use Rattle.go_mset_core.specs.table_core.Entries.{Entry, EntryLook, find_entry, same_id}
 use Rattle.go_mset_core.specs.embed_core.Owners.{EmbeddedEdge, owner_in, embedded_in, Found, AFieldOf, AMethodOf, AnInterfaces, TheErrorMethod, Named, members_of, has_spelled}
 use Rattle.go_mset_core.specs.embed_core.OwnersShown.{found_shown}

@@ -1,12 +1,12 @@
 -- A package with what is decided of its types, worked out by hand.
 use Rattle.std.specs.Prelude.{◌≡◌, ℕ, Bool, true, false, List, [], ◌∷◌, Ok, Err, Some, None, codes}
-use Rattle.go_denote_core.specs.text_core.declared.rule.Rule.TheVariants as rules
+use Rattle.go_text_core.specs.declared.rule.Rule.TheVariants as rules
 use Rattle.go_mset_core.specs.decl_core.declared.places.DeclKind.TheVariants as kinds
 use Rattle.go_mset_core.specs.decl_core.declared.keys.DeclKey.{DeclKey}
-use Rattle.go_denote_core.specs.term_core.declared.term.Basic.TheVariants as basics
-use Rattle.go_denote_core.specs.term_core.declared.term.MemberPlace.{MemberPlace}
-use Rattle.go_denote_core.specs.term_core.declared.term.MemberPlace.TheVariants as places
-use Rattle.go_denote_core.specs.term_core.Terms.{Term, NoType, Predeclared, ErrorType, Defined, PointerTo, StructOf, InterfaceOf, Fields, NoField, AField, NoMethod, AMethod, Sign, SignOf, NoTerm, ATerm}
+use Rattle.go_term_core.specs.declared.term.Basic.TheVariants as basics
+use Rattle.go_term_core.specs.declared.term.MemberPlace.{MemberPlace}
+use Rattle.go_term_core.specs.declared.term.MemberPlace.TheVariants as places
+use Rattle.go_term_core.specs.Terms.{Term, NoType, Predeclared, ErrorType, Defined, PointerTo, StructOf, InterfaceOf, Fields, NoField, AField, NoMethod, AMethod, Sign, SignOf, NoTerm, ATerm}
 use Rattle.go_mset_core.specs.table_core.Entries.{Member, Entry, find_entry}
 use Rattle.go_mset_core.specs.table_core.Assign.{AValue, ANil, AnInteger, AText, ABoolean}
 use Rattle.go_mset_core.specs.embed_core.Owners.{AFieldOf, AMethodOf, AnInterfaces, TheErrorMethod}

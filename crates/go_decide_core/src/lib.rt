@@ -13,14 +13,31 @@ pub use laws::{
     worked_members, worked_types,
 };
 
+/// What the crates above name of `go_constant_core`.
+pub mod constant_core {
+    pub use go_denote_core::constant_core::Constant;
+}
+
 /// What the crates above name of `go_denote_core`.
 pub mod denote_core {
-    pub use go_denote_core::{Outcome, Selection};
+    pub use go_denote_core::Selection;
+}
+
+/// What the crates above name of `go_embed_core`.
+pub mod embed_core {
+    pub use go_mset_core::embed_core::{
+        Hits, MemberFault, check_base, check_hidden_fields, check_methods, check_struct, has_method,
+    };
+}
+
+/// What the crates above name of `go_level_core`.
+pub mod level_core {
+    pub use go_mset_core::level_core::{Operand, behind};
 }
 
 /// What the crates above name of `go_mset_core`.
 pub mod mset_core {
-    pub use go_mset_core::{implements, implements_by_pointer};
+    pub use go_mset_core::{implements, implements_by_pointer, method_set};
 }
 
 /// What the crates above name of `go_operand_core`.
@@ -36,27 +53,24 @@ pub mod path_core {
 /// What the crates above name of `go_select_core`.
 pub mod select_core {
     pub use go_mset_core::select_core::{
-        EmbedPath, Member, Selected, select, select_behind_pointer,
+        EmbedPath, Member, Owner, Selected, path_names, select, select_behind_pointer, selectable,
     };
 }
 
 /// What the crates above name of `go_settle_core`.
 pub mod settle_core {
-    pub use go_mset_core::settle_core::{Kind, kind_of, settle, settle_signature};
+    pub use go_mset_core::settle_core::{Kind, Kinds, kind_of, settle, settle_signature};
 }
 
 /// What the crates above name of `go_table_core`.
 pub mod table_core {
     pub use go_mset_core::table_core::{
-        DeclaredMethod, DefinedType, PackageTypes, TypeTable, identical_under,
-        identical_under_but_for_tags, is_named_type,
+        DeclaredMethod, DefinedType, PackageTypes, StructField, TypeEntry, TypeTable,
+        identical_under, identical_under_but_for_tags, is_named_type,
     };
 }
 
-/// What the crates above name of `go_term_core`.
-pub mod term_core {
-    pub use go_denote_core::term_core::{
-        Basic, MemberPlace, Params, Signature, TypeTerm, copy, copy_signature, identical,
-        identical_but_for_tags, is_no_type,
-    };
+/// What the crates above name of `go_type_core`.
+pub mod type_core {
+    pub use go_mset_core::type_core::{PackageTypes, TypeFault, TypeTable, TypeTerm, build_types};
 }

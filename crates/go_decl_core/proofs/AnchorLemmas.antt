@@ -1,7 +1,7 @@
 -- The places to look for comments, one for each declaration.
 use Rattle.std.proofs.Common.{◌≡◌, ℕ, suc, ◌+◌, ◌<◌, ◌≤◌, List, [], ◌∷◌, ◌++◌, length, map, get_or, drop, drop-cons, add-one, Option, refl, sym, ap, ◌∙◌, append_assoc, append-nil}
 use Rattle.std.proofs.lemmas.List.{drop_all, length-append}
-use Rattle.go_text_core.specs.declared.span.Span.{Span}
+use Rattle.go_path_core.specs.text_core.declared.span.Span.{Span}
 use Rattle.go_tree_nodes.specs.declared.names.Ident.{Ident}
 use Rattle.go_tree_nodes.specs.declared.names.NextIdent.{NextIdent}
 use Rattle.go_tree_nodes.specs.declared.decls.ValueKind.{ValueKind}

@@ -1,6 +1,6 @@
 -- Where the doc comments of the declarations of a file outside functions stand.
 use Rattle.std.specs.Prelude.{◌≡◌, ℕ, List, [], ◌∷◌, ◌++◌, length, Option}
-use Rattle.go_text_core.specs.declared.span.Span.{Span}
+use Rattle.go_path_core.specs.text_core.declared.span.Span.{Span}
 use Rattle.go_tree_nodes.specs.declared.names.Ident.{Ident}
 use Rattle.go_tree_nodes.specs.Trees.{Separated, One, Then, ValueSpecTree, Specs, Single, Group, TypeSpecTree, DeclTree, Value, Types, Func, TopTree, FileTree}
 use Rattle.go_decl_core.specs.declared.anchoring.Anchor.{Anchor}

@@ -11,4 +11,3 @@ pub mod TopDecls
 pub mod mirrors
 pub mod text_core
 pub mod tree_core
-pub mod tree_nodes

@@ -1,6 +1,6 @@
 -- A file with its table and the numbers of its declarations, worked out by hand, and the same file with another body at its front.
 use Rattle.std.specs.Prelude.{◌≡◌, ℕ, ◌+◌, suc, List, [], ◌∷◌, map, Option, Some, None, codes}
-use Rattle.go_text_core.specs.declared.span.Span.{Span}
+use Rattle.go_path_core.specs.text_core.declared.span.Span.{Span}
 use Rattle.go_tree_nodes.specs.declared.names.Ident.{Ident}
 use Rattle.go_tree_nodes.specs.declared.types.TypeName.TheVariants as type_name
 use Rattle.go_tree_nodes.specs.declared.decls.ValueKind.TheVariants as value_kinds

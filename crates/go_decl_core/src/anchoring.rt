@@ -8,7 +8,7 @@ ghost use Rattle.go_tree_nodes.specs.Trees as decls;
 ghost use Rattle.go_tree_nodes.specs.TypeShapes.{shape_idents};
 ghost use Rattle.go_decl_core.specs.Anchors.{anchors_of, decl_anchors, named_anchors};
 
-use go_text_core::add;
+use go_path_core::text_core::add;
 use go_tree_nodes::{Decl, File, Idents, TypeDecl, TypeSpecs, ValueDecl, ValueSpecs};
 use std::alloc::{AllocError, Global};
 

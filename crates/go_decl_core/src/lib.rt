@@ -32,18 +32,10 @@ pub mod path_core {
 
 /// What the crates above name of `go_text_core`.
 pub mod text_core {
-    pub use go_text_core::{Name, add, boxed, same_id};
+    pub use go_path_core::text_core::{Name, Rule, add, boxed, is_blank, is_exported, same_id};
 }
 
 /// What the crates above name of `go_tree_core`.
 pub mod tree_core {
-    pub use go_tree_core::Role;
-}
-
-/// What the crates above name of `go_tree_nodes`.
-pub mod tree_nodes {
-    pub use go_tree_nodes::{
-        File, ImportDecl, ImportName, ImportSpec, ImportSpecs, Results, Signature, TextLiteral,
-        Usage,
-    };
+    pub use go_tree_core::{Occ, Role, occurrences};
 }

@@ -4,8 +4,8 @@ use Rattle.std.specs.Prelude.{Option, Some, None, Result, Ok, Err, ◌==◌, if�
 use Rattle.go_operand_core.specs.text_core.Text.{is_blank}
 use Rattle.go_operand_core.specs.text_core.declared.rule.Rule.{Rule}
 use Rattle.go_operand_core.specs.text_core.declared.rule.Rule.TheVariants.{N8, S4, S8, C2, C3}
-use Rattle.go_operand_core.specs.tree_nodes.declared.usage.Usage.{Usage}
-use Rattle.go_operand_core.specs.tree_nodes.declared.usage.Usage.TheVariants as usages
+use Rattle.go_tree_nodes.specs.declared.usage.Usage.{Usage}
+use Rattle.go_tree_nodes.specs.declared.usage.Usage.TheVariants as usages
 use Rattle.go_operand_core.specs.declared.types.Operand.{Operand}
 use Rattle.go_operand_core.specs.Values.{default_type}
 use Rattle.go_operand_core.specs.Conversions.{convert, length_of}

@@ -6,9 +6,9 @@ use Rattle.std.proofs.lemmas.Bool.Decides.{nat_tests}
 use Rattle.go_operand_core.specs.text_core.Text.{is_blank}
 use Rattle.go_operand_core.specs.text_core.declared.rule.Rule.{Rule}
 use Rattle.go_operand_core.specs.text_core.declared.rule.Rule.TheVariants.{N8, S4, S8, C2, C3, C4, X1}
-use Rattle.go_operand_core.specs.tree_nodes.declared.usage.Usage.{Usage}
-use Rattle.go_operand_core.specs.tree_nodes.declared.usage.Usage.TheVariants as usages
-use Rattle.go_operand_core.specs.term_core.declared.term.Basic.TheVariants as basics
+use Rattle.go_tree_nodes.specs.declared.usage.Usage.{Usage}
+use Rattle.go_tree_nodes.specs.declared.usage.Usage.TheVariants as usages
+use Rattle.go_term_core.specs.declared.term.Basic.TheVariants as basics
 use Rattle.go_operand_core.specs.declared.types.Operand.{Operand}
 use Rattle.go_operand_core.specs.declared.types.ValueType.TheVariants as value_types
 use Rattle.go_operand_core.specs.Values.{is_over, form_basic, basic_under, default_type}

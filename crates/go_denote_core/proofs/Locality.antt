@@ -4,7 +4,7 @@ use Rattle.std.specs.Prelude.{Option, Some, None, Result, Ok, Err, MatchOption, 
 use Rattle.std.specs.List.{list_all}
 use Rattle.go_operand_core.specs.text_core.Text.{is_blank}
 use Rattle.go_operand_core.specs.text_core.declared.rule.Rule.TheVariants.{N8, S4, S8, C2, C3, C4, X1}
-use Rattle.go_operand_core.specs.tree_nodes.declared.usage.Usage.{Usage}
+use Rattle.go_tree_nodes.specs.declared.usage.Usage.{Usage}
 use Rattle.go_denote_core.specs.declared.things.Stand.{Stand}
 use Rattle.go_denote_core.specs.declared.things.Builtin.TheVariants as builtins
 use Rattle.go_denote_core.specs.declared.things.Denoted.{Denoted}
@@ -15,8 +15,8 @@ use Rattle.go_denote_core.specs.declared.things.Argument.{Argument}
 use Rattle.go_denote_core.specs.declared.things.Argument.TheVariants as arguments
 use Rattle.go_operand_core.specs.text_core.declared.rule.Rule.{Rule}
 use Rattle.go_operand_core.specs.constant_core.declared.values.Constant.{Constant}
-use Rattle.go_operand_core.specs.term_core.declared.term.Basic.{Basic}
-use Rattle.go_operand_core.specs.term_core.declared.term.Basic.TheVariants as basics
+use Rattle.go_term_core.specs.declared.term.Basic.{Basic}
+use Rattle.go_term_core.specs.declared.term.Basic.TheVariants as basics
 use Rattle.go_operand_core.specs.declared.types.ValueType.{ValueType}
 use Rattle.go_operand_core.specs.declared.types.ValueType.TheVariants as types
 use Rattle.go_operand_core.specs.declared.types.Operand.{Operand}

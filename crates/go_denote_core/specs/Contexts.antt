@@ -1,6 +1,6 @@
 -- What an identifier has in its context, which is known without its spelling.
 use Rattle.std.specs.Prelude.{ℕ, List}
-use Rattle.go_operand_core.specs.tree_nodes.declared.usage.Usage.{Usage}
+use Rattle.go_tree_nodes.specs.declared.usage.Usage.{Usage}
 use Rattle.go_denote_core.specs.declared.things.Stand.{Stand}
 use Rattle.go_denote_core.specs.declared.things.Dot.{Dot}
 use Rattle.go_denote_core.specs.declared.things.Outcome.{Outcome}

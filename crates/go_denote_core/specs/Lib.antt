@@ -9,6 +9,5 @@ pub mod Laws
 pub mod mirrors
 pub mod constant_core
 pub mod operand_core
-pub mod term_core
 pub mod text_core
 pub mod tree_core

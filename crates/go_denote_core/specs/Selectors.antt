@@ -5,8 +5,8 @@
 use Rattle.std.specs.Prelude.{ℕ, Bool, not, ◌||◌, List, Option, Some, None, if◌then◌else◌}
 use Rattle.go_operand_core.specs.text_core.Text.{is_blank}
 use Rattle.go_operand_core.specs.text_core.declared.rule.Rule.TheVariants.{N2, N3, S4, S5, S6, S8, C1, X1}
-use Rattle.go_operand_core.specs.tree_nodes.declared.usage.Usage.{Usage}
-use Rattle.go_operand_core.specs.tree_nodes.declared.usage.Usage.TheVariants as usages
+use Rattle.go_tree_nodes.specs.declared.usage.Usage.{Usage}
+use Rattle.go_tree_nodes.specs.declared.usage.Usage.TheVariants as usages
 use Rattle.go_operand_core.specs.Values.{default_type}
 use Rattle.go_denote_core.specs.declared.things.Stand.{Stand}
 use Rattle.go_denote_core.specs.declared.things.Stand.TheVariants as stands

@@ -42,12 +42,9 @@ pub mod operand_core {
     };
 }
 
-/// What the crates above name of `go_term_core`.
-pub mod term_core {
-    pub use go_operand_core::term_core::{
-        Basic, Field, FieldLine, LocalPlace, MemberPlace, Params, Signature, TypeTerm, copy,
-        copy_signature, identical, identical_but_for_tags, is_no_type,
-    };
+/// What the crates above name of `go_text_core`.
+pub mod text_core {
+    pub use go_operand_core::text_core::Rule;
 }
 
 /// What the crates above name of `go_tree_core`.

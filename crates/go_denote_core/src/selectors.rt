@@ -8,8 +8,8 @@ use crate::answers::{func_answer, refused, type_answer, value_answer, value_of_t
 use crate::looks::Names;
 use crate::things::{Answer, Denoted, Dot, Exported, Outcome, Selection, Stand};
 use go_operand_core::text_core::Rule;
-use go_operand_core::tree_nodes::Usage;
 use go_operand_core::{Operand, default_type};
+use go_tree_nodes::Usage;
 use std::alloc::{AllocError, Global};
 
 /// What stands left of a dot, by what it denotes, and whether it is a name alone.

@@ -9,3 +9,8 @@ mod runs;
 
 pub use laws::one_doc_comment;
 pub use runs::doc_comment;
+
+/// What the crates above name of `go_scan_core`.
+pub mod scan_core {
+    pub use go_scan_core::comments;
+}

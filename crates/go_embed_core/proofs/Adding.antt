@@ -1,9 +1,9 @@
 -- The members of a type, listed one after another.
 use Rattle.std.proofs.Common.{◌≡◌, ℕ, ◌+◌, ◌<◌, ◌≤◌, Bool, true, false, List, [], ◌∷◌, ◌++◌, map, length, drop, get_or, if◌then◌else◌, inl, inr, sym, ap, ◌∙◌}
 use Rattle.std.proofs.lemmas.List.{drop_more, drop_all, append_assoc, append-nil, map-append}
-use Rattle.go_type_core.specs.term_core.declared.term.Field.{Field}
-use Rattle.go_type_core.specs.term_core.Terms.{StructOf}
-use Rattle.go_type_core.specs.term_core.Shapes.{Line, line_at, fields_in}
+use Rattle.go_term_core.specs.declared.term.Field.{Field}
+use Rattle.go_term_core.specs.Terms.{StructOf}
+use Rattle.go_term_core.specs.Shapes.{Line, line_at, fields_in}
 use Rattle.go_type_core.specs.table_core.Entries.{has_method}
 use Rattle.go_type_core.specs.table_core.Shown.{hides_some}
 use Rattle.std.specs.Borrow.{Bor}

@@ -5,10 +5,10 @@ use Rattle.std.specs.List.{list_any}
 use Rattle.std.specs.Str.{bytes_eq}
 use Rattle.std.proofs.lemmas.Bool.{true≢false}
 use Rattle.std.proofs.lemmas.List.{drop_more, drop_all}
-use Rattle.go_text_core.specs.Text.{SameId}
-use Rattle.go_type_core.specs.term_core.declared.term.Field.{Field}
-use Rattle.go_type_core.specs.term_core.declared.term.Method.{Method}
-use Rattle.go_type_core.specs.term_core.Shapes.{Line, fields_in, method_shapes}
+use Rattle.go_term_core.specs.text_core.Text.{SameId}
+use Rattle.go_term_core.specs.declared.term.Field.{Field}
+use Rattle.go_term_core.specs.declared.term.Method.{Method}
+use Rattle.go_term_core.specs.Shapes.{Line, fields_in, method_shapes}
 use Rattle.go_type_core.specs.table_core.declared.entry.DeclaredMethod.{DeclaredMethod}
 use Rattle.go_type_core.specs.table_core.Entries.{same_id, has_method}
 use Rattle.go_type_core.specs.table_core.Shown.{member_shown}

@@ -3,9 +3,9 @@ use Rattle.std.proofs.Common.{◌≡◌, ℕ, zero, suc, ◌+◌, ◌-◌, ◌<�
 use Rattle.std.specs.Prelude.{◌⊎◌, option_to_list}
 use Rattle.std.proofs.lemmas.Bool.{eq-eqb, ne_eqb, and_right, or_parts, not_from_true}
 use Rattle.std.proofs.lemmas.List.{append_assoc, append-nil, map-append}
-use Rattle.go_type_core.specs.term_core.declared.term.Field.{Field}
-use Rattle.go_type_core.specs.term_core.Terms.{Term, NoType, Predeclared, ErrorType, Defined, PointerTo, StructOf, InterfaceOf, Fields, NoField, AField}
-use Rattle.go_type_core.specs.term_core.Shapes.{Line, line_at, fields_in}
+use Rattle.go_term_core.specs.declared.term.Field.{Field}
+use Rattle.go_term_core.specs.Terms.{Term, NoType, Predeclared, ErrorType, Defined, PointerTo, StructOf, InterfaceOf, Fields, NoField, AField}
+use Rattle.go_term_core.specs.Shapes.{Line, line_at, fields_in}
 use Rattle.go_type_core.specs.table_core.Entries.{has_method}
 use Rattle.go_type_core.specs.table_core.Methods.{term_fields}
 use Rattle.go_type_core.specs.table_core.Shown.{hides_field, hides_some}
@@ -14,7 +14,7 @@ use Rattle.go_embed_core.specs.Owners.{OwnerModel, EmbeddedEdge, embedded_edge, 
 use Rattle.go_embed_core.specs.OwnersShown.{embedded_shown}
 use Rattle.go_embed_core.specs.mirrors.Edges.{hidden_by, IsHiding, edge_if, edges_from}
 use Rattle.go_embed_core.proofs.Rows.{count_list}
-use Rattle.go_type_core.specs.term_core.Forms.{field_count}
+use Rattle.go_term_core.specs.Forms.{field_count}
 
 -- 1. The field at a place.
 

@@ -2,7 +2,7 @@
 use Rattle.std.proofs.Common.{◌≡◌, ℕ, Bool, true, false, List, [], ◌∷◌, ◌++◌, if◌then◌else◌, inl, inr, refl, sym, ap, ◌∙◌}
 use Rattle.std.specs.Str.{bytes_eq}
 use Rattle.std.proofs.lemmas.Bool.{true≢false, or_cases, or_parts, false_from_ne_true}
-use Rattle.go_type_core.specs.term_core.Terms.{Term, NoType, Predeclared, ErrorType, Defined, PointerTo, StructOf, InterfaceOf, Fields, NoField, AField}
+use Rattle.go_term_core.specs.Terms.{Term, NoType, Predeclared, ErrorType, Defined, PointerTo, StructOf, InterfaceOf, Fields, NoField, AField}
 use Rattle.go_type_core.specs.table_core.Entries.{Member, same_id, has_method}
 use Rattle.go_type_core.specs.table_core.Shown.{hides_field, hides_some}
 use Rattle.go_embed_core.specs.Owners.{OwnerModel, AFieldOf, Named, fields_found, declared_found, term_found, is_spelled_in, has_spelled, nobody}

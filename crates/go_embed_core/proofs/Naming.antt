@@ -2,11 +2,11 @@
 use Rattle.std.proofs.Common.{◌≡◌, ℕ, ◌+◌, ◌<◌, ◌≤◌, Bool, true, false, ◌||◌, List, [], ◌∷◌, ◌++◌, map, length, drop, get_or, if◌then◌else◌, refl, sym, ap, ◌∙◌}
 use Rattle.std.specs.Str.{bytes_eq}
 use Rattle.std.proofs.lemmas.List.{drop_more, drop_all}
-use Rattle.go_text_core.specs.declared.rule.Rule.TheVariants as rules
-use Rattle.go_text_core.proofs.Each.{or_false}
-use Rattle.go_type_core.specs.term_core.declared.term.Field.{Field}
-use Rattle.go_type_core.specs.term_core.Terms.{Term, StructOf}
-use Rattle.go_type_core.specs.term_core.Shapes.{Line, fields_in}
+use Rattle.go_term_core.specs.text_core.declared.rule.Rule.TheVariants as rules
+use Rattle.go_term_core.specs.text_core.Each.{or_false}
+use Rattle.go_term_core.specs.declared.term.Field.{Field}
+use Rattle.go_term_core.specs.Terms.{Term, StructOf}
+use Rattle.go_term_core.specs.Shapes.{Line, fields_in}
 use Rattle.go_type_core.specs.settle_core.Settled.{is_among_names}
 use Rattle.go_type_core.specs.table_core.declared.entry.DeclaredMethod.{DeclaredMethod}
 use Rattle.go_type_core.specs.table_core.Entries.{Member}

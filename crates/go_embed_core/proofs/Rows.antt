@@ -1,8 +1,8 @@
 -- The fields of struct types, counted.
 use Rattle.std.proofs.Common.{◌≡◌, suc, List, [], ◌∷◌, length, refl, ap}
-use Rattle.go_type_core.specs.term_core.declared.term.Field.{Field}
-use Rattle.go_type_core.specs.term_core.Shapes.{Line, fields_in}
-use Rattle.go_type_core.specs.term_core.Forms.{field_count}
+use Rattle.go_term_core.specs.declared.term.Field.{Field}
+use Rattle.go_term_core.specs.Shapes.{Line, fields_in}
+use Rattle.go_term_core.specs.Forms.{field_count}
 
 pub count_list : (ls : List Line) (fs : List Field) → field_count (fields_in ls fs) ≡ length fs
 count_list ls [] = refl

@@ -3,8 +3,8 @@ use Rattle.std.proofs.Common.{◌≡◌, ℕ, zero, suc, ◌+◌, ◌<◌, Bool,
 use Rattle.std.specs.Prelude.{◌⊎◌, Contains, Option}
 use Rattle.std.proofs.lemmas.Bool.{true≢false, and_parts, and_from, not-true, not_from_false}
 use Rattle.std.proofs.lemmas.List.Elements.{Contains-append_right, Contains-append_cases}
-use Rattle.go_type_core.specs.term_core.declared.term.MemberPlace.{MemberPlace}
-use Rattle.go_type_core.specs.term_core.Terms.{Term, NoType, Predeclared, ErrorType, Defined, PointerTo, StructOf, InterfaceOf, Fields, NoField, AField}
+use Rattle.go_term_core.specs.declared.term.MemberPlace.{MemberPlace}
+use Rattle.go_term_core.specs.Terms.{Term, NoType, Predeclared, ErrorType, Defined, PointerTo, StructOf, InterfaceOf, Fields, NoField, AField}
 use Rattle.go_type_core.specs.table_core.Entries.{Entry, EntryLook, has_method, methods_in, term_in, underlying_in}
 use Rattle.go_embed_core.specs.Owners.{OwnerModel, EmbeddedEdge, embedded_edge, owner_in, is_starred, off, embedded_edges, term_embedded, embedded_in}
 use Rattle.go_embed_core.specs.Laws.{IsField, IsStep, EmbeddingIsAStep, OwnerIsLocal}

@@ -6,13 +6,13 @@ use Rattle.std.proofs.lemmas.Bool.{true≢false, and_parts, and_from, not-true, 
 use Rattle.std.proofs.lemmas.List.Elements.{Contains-append_left, Contains-append_right, Contains-append_cases}
 use Rattle.std.proofs.lemmas.Slice.Eq.{bytes_eq-Decides}
 use denote.Enum.Bare.{sameb}
-use Rattle.go_text_core.specs.Text.{is_blank}
-use Rattle.go_text_core.specs.declared.rule.Rule.{Rule}
-use Rattle.go_text_core.specs.declared.rule.Rule.TheVariants as rules
-use Rattle.go_text_core.specs.contracts.rule.Rule as rule_type
+use Rattle.go_term_core.specs.text_core.Text.{is_blank}
+use Rattle.go_term_core.specs.text_core.declared.rule.Rule.{Rule}
+use Rattle.go_term_core.specs.text_core.declared.rule.Rule.TheVariants as rules
+use Rattle.go_term_core.specs.text_core.contracts.rule.Rule as rule_type
 use Rattle.go_type_core.specs.decl_core.declared.keys.DeclKey.{DeclKey}
-use Rattle.go_type_core.specs.term_core.declared.term.MemberPlace.{MemberPlace}
-use Rattle.go_type_core.specs.term_core.Terms.{Term, NoType, Predeclared, ErrorType, Defined, PointerTo, StructOf, InterfaceOf, Fields, NoField, AField, Methods, NoMethod, AMethod, Sign, SignOf, Terms, NoTerm, ATerm, term_keys, fields_keys, methods_keys, sign_keys, terms_keys}
+use Rattle.go_term_core.specs.declared.term.MemberPlace.{MemberPlace}
+use Rattle.go_term_core.specs.Terms.{Term, NoType, Predeclared, ErrorType, Defined, PointerTo, StructOf, InterfaceOf, Fields, NoField, AField, Methods, NoMethod, AMethod, Sign, SignOf, Terms, NoTerm, ATerm, term_keys, fields_keys, methods_keys, sign_keys, terms_keys}
 use Rattle.go_type_core.specs.settle_core.declared.kind.Kind.{Kind}
 use Rattle.go_type_core.specs.settle_core.declared.kind.Kind.TheVariants as kinds
 use Rattle.go_type_core.specs.settle_core.Settled.{is_no_pointer, can_be_pointed, can_point, can_be_embedded, is_among_names, repeats_earlier}

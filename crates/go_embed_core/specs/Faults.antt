@@ -1,13 +1,13 @@
 -- The faults of struct types, interface types, methods and receivers: B5, Y2, B6. The terms are as they are written.
 use Rattle.std.specs.Prelude.{ℕ, Bool, true, false, not, ◌&&◌, ◌||◌, List, [], ◌∷◌, ◌++◌, Option, Some, None, nat_eq, if◌then◌else◌}
 use Rattle.std.specs.Str.{bytes_eq}
-use Rattle.go_text_core.specs.Text.{is_blank}
-use Rattle.go_text_core.specs.declared.rule.Rule.{Rule}
-use Rattle.go_text_core.specs.declared.rule.Rule.TheVariants as rules
+use Rattle.go_term_core.specs.text_core.Text.{is_blank}
+use Rattle.go_term_core.specs.text_core.declared.rule.Rule.{Rule}
+use Rattle.go_term_core.specs.text_core.declared.rule.Rule.TheVariants as rules
 use Rattle.go_type_core.specs.decl_core.declared.keys.DeclKey.{DeclKey}
-use Rattle.go_type_core.specs.term_core.declared.term.MemberPlace.{MemberPlace}
-use Rattle.go_type_core.specs.term_core.declared.term.MemberPlace.TheVariants as places
-use Rattle.go_type_core.specs.term_core.Terms.{Term, NoType, Predeclared, ErrorType, Defined, PointerTo, StructOf, InterfaceOf, Fields, NoField, AField, Methods, NoMethod, AMethod, Sign, SignOf, Terms, NoTerm, ATerm}
+use Rattle.go_term_core.specs.declared.term.MemberPlace.{MemberPlace}
+use Rattle.go_term_core.specs.declared.term.MemberPlace.TheVariants as places
+use Rattle.go_term_core.specs.Terms.{Term, NoType, Predeclared, ErrorType, Defined, PointerTo, StructOf, InterfaceOf, Fields, NoField, AField, Methods, NoMethod, AMethod, Sign, SignOf, Terms, NoTerm, ATerm}
 use Rattle.go_type_core.specs.settle_core.declared.kind.Kind.{Kind}
 use Rattle.go_type_core.specs.settle_core.declared.kind.Kind.TheVariants as kinds
 use Rattle.go_type_core.specs.settle_core.Settled.{can_be_embedded, is_among_names, repeats_earlier}

@@ -6,5 +6,4 @@ pub mod mirrors
 pub mod decl_core
 pub mod settle_core
 pub mod table_core
-pub mod term_core
 pub mod type_core

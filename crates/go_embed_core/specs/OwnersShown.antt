@@ -1,8 +1,8 @@
 -- What values of the program hold of the members of types.
 use Rattle.std.specs.Prelude.{◌≡◌, ℕ, List, [], Some, slice_get, codes}
-use Rattle.go_text_core.specs.Text.{SameId}
-use Rattle.go_type_core.specs.term_core.Terms.{NoType}
-use Rattle.go_type_core.specs.term_core.Shapes.{shape, sign_of}
+use Rattle.go_term_core.specs.text_core.Text.{SameId}
+use Rattle.go_term_core.specs.Terms.{NoType}
+use Rattle.go_term_core.specs.Shapes.{shape, sign_of}
 use Rattle.go_type_core.specs.table_core.Entries.{Entry}
 use Rattle.go_type_core.specs.table_core.Shown.{line_shown}
 use Rattle.go_embed_core.specs.declared.owner.Owner.{Owner}

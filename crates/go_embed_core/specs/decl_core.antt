@@ -1,5 +1,4 @@
 -- What the crates above name of go_decl_core.
-pub use Rattle.go_type_core.specs.decl_core.Order as Order
 pub use Rattle.go_type_core.specs.decl_core.Outer as Outer
 pub use Rattle.go_type_core.specs.decl_core.Shown as Shown
 pub use Rattle.go_type_core.specs.decl_core.TopDecls as TopDecls

@@ -12,4 +12,5 @@ pub use Rattle.go_type_core.specs.table_core.Shown as Shown
 pub use Rattle.go_type_core.specs.table_core.Tables as Tables
 pub use Rattle.go_type_core.specs.table_core.Underlying as Underlying
 pub use Rattle.go_type_core.specs.table_core.codes as codes
+pub use Rattle.go_type_core.specs.table_core.contracts as contracts
 pub use Rattle.go_type_core.specs.table_core.declared as declared

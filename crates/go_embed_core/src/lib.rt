@@ -22,7 +22,7 @@ pub use owner::{Embedded, Owner, embeds};
 
 /// What the crates above name of `go_decl_core`.
 pub mod decl_core {
-    pub use go_type_core::decl_core::{DeclForm, DeclRef, Outline, Places, TopDecl, place_order};
+    pub use go_type_core::decl_core::{DeclForm, Places, TopDecl};
 }
 
 /// What the crates above name of `go_path_core`.
@@ -43,11 +43,6 @@ pub mod table_core {
         DeclaredMethod, DefinedType, PackageTypes, StructField, TypeEntry, TypeTable,
         identical_under, identical_under_but_for_tags, is_named_type,
     };
-}
-
-/// What the crates above name of `go_term_core`.
-pub mod term_core {
-    pub use go_type_core::term_core::{Field, MemberPlace, TypeTerm, copy};
 }
 
 /// What the crates above name of `go_type_core`.

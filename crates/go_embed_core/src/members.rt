@@ -1,12 +1,12 @@
 //! The methods of a type, listed.
 ghost use Rattle.std.specs.Prelude.{◌≡◌, ◌++◌, OnOk, map};
-ghost use Rattle.go_type_core.specs.term_core.Shapes.{method_shapes};
+ghost use Rattle.go_term_core.specs.Shapes.{method_shapes};
 ghost use Rattle.go_type_core.specs.table_core.Shown.{member_shown};
 ghost use Rattle.go_embed_core.specs.Owners.{declared_found, methods_found};
 ghost use Rattle.go_embed_core.specs.OwnersShown.{named_shown};
 
 use crate::member::Member;
-use go_text_core::add;
+use go_term_core::text_core::add;
 use go_type_core::path_core::ImportPath;
 use go_type_core::{DeclaredMethod, Method};
 use std::alloc::AllocError;

@@ -1,7 +1,7 @@
 //! A type whose members are asked for.
 ghost use Rattle.std.specs.Prelude.{◌≡◌, ◌++◌, ◌∷◌, [], IfOk, OnOk, map, option_map, option_to_list};
-ghost use Rattle.go_type_core.specs.term_core.Terms.{Defined, NoField, StructOf};
-ghost use Rattle.go_type_core.specs.term_core.Shapes.{shape, shape_found, fields_in, line_at, line_shapes};
+ghost use Rattle.go_term_core.specs.Terms.{Defined, NoField, StructOf};
+ghost use Rattle.go_term_core.specs.Shapes.{shape, shape_found, fields_in, line_at, line_shapes};
 ghost use Rattle.go_type_core.specs.table_core.Entries.{find_entry};
 ghost use Rattle.go_type_core.specs.table_core.Methods.{term_fields};
 ghost use Rattle.go_type_core.specs.table_core.Shown.{line_shown, member_shown};
@@ -14,11 +14,11 @@ use crate::member::{
     Hits, Member, has_method, is_method_spelled, is_spelled, method_hits, term_hits,
 };
 use crate::members::{add_interface, add_methods};
-use go_text_core::add;
+use go_term_core::FieldLine;
+use go_term_core::text_core::add;
 use go_type_core::decl_core::DeclKey;
 use go_type_core::path_core::ImportPath;
 use go_type_core::table_core::{StructField, StructFields};
-use go_type_core::term_core::FieldLine;
 use go_type_core::{DeclaredMethod, DefinedType, Field, TypeTable, TypeTerm};
 use std::alloc::{AllocError, Global};
 

@@ -1,7 +1,7 @@
 -- What is made of a package by the outlines of its files is what its trees give.
 use Rattle.std.proofs.Common.{◌≡◌, ℕ, suc, List, [], ◌∷◌, ◌++◌, map, refl, ap, ◌∙◌}
 use Rattle.go_meaning_core.specs.graph_core.Packages.{Trees, tree_shown, trees_of}
-use Rattle.go_decl_core.specs.TopDecls.{top_decls}
+use Rattle.go_term_core.specs.decl_core.TopDecls.{top_decls}
 use Rattle.go_meaning_core.specs.entry_core.Outlines.{FileOutline, outline_of}
 use Rattle.go_meaning_core.specs.handle_core.Declarations.{Declaration}
 use Rattle.go_object_core.specs.Objects.{ObjectOf}

@@ -4,8 +4,8 @@
 use Rattle.std.specs.Prelude.{ℕ, suc, Bool, true, false, ◌&&◌, nat_lt, List, [], ◌∷◌, ◌++◌, length, map, drop, take_while, Option, Some, None, is_some, if◌then◌else◌}
 use Rattle.std.specs.List.{flat_map, prefix_len}
 use Rattle.go_tree_nodes.specs.Trees.{FileTree, FuncTree}
-use Rattle.go_decl_core.specs.TopDecls.{TopDeclTree, FormTree, ValueForm, TypeForm, FuncForm, top_decls}
-use Rattle.go_meaning_core.specs.term_core.declared.term.MemberPlace.TheVariants as places
+use Rattle.go_term_core.specs.decl_core.TopDecls.{TopDeclTree, FormTree, ValueForm, TypeForm, FuncForm, top_decls}
+use Rattle.go_term_core.specs.declared.term.MemberPlace.TheVariants as places
 use Rattle.go_meaning_core.specs.denote_core.declared.things.Outcome.{Outcome}
 use Rattle.go_meaning_core.specs.denote_core.declared.things.Outcome.TheVariants as outcomes
 use Rattle.go_meaning_core.specs.handle_core.Declarations.{Declaration, InFile}
@@ -17,8 +17,8 @@ use Rattle.go_meaning_core.specs.summary_core.Views.{PathsAreApart, faces_told, 
 use Rattle.go_meaning_core.specs.part_core.Inputs.{InputModel, path_in}
 use Rattle.go_meaning_core.specs.part_core.Parts.{ContentOf, FileOf, PartModel}
 use Rattle.go_code_core.specs.Code.{code_of}
-use Rattle.go_code_core.specs.fragment_core.Names.{CodeLooks}
-use Rattle.go_code_core.specs.fragment_core.Slots.{slots_of}
+use Rattle.go_fragment_core.specs.Names.{CodeLooks}
+use Rattle.go_fragment_core.specs.Slots.{slots_of}
 use Rattle.go_object_core.specs.Objects.{FunctionOf, ObjectOf}
 use Rattle.go_emit_core.specs.Imports.{all_passing}
 use Rattle.go_meaning_core.specs.Looking.{looks_of}

@@ -13,11 +13,11 @@ use Rattle.go_token_core.specs.declared.kind.Operator.TheVariants as operators
 use Rattle.go_universe_core.specs.declared.Predeclared.TheVariants as predeclared
 use Rattle.go_tree_core.specs.declared.occurrence.Role.{Role}
 use Rattle.go_tree_core.specs.declared.occurrence.Role.TheVariants as roles
-use Rattle.go_decl_core.specs.declared.places.DeclKind.TheVariants as kinds
-use Rattle.go_decl_core.specs.TopDecls.{TopDeclTree, FuncForm}
-use Rattle.go_meaning_core.specs.term_core.declared.term.Basic.TheVariants as basics
-use Rattle.go_meaning_core.specs.term_core.declared.term.MemberPlace.TheVariants as places
-use Rattle.go_meaning_core.specs.term_core.Terms.{Term, Predeclared, Sign, SignOf, NoTerm, ATerm}
+use Rattle.go_term_core.specs.decl_core.declared.places.DeclKind.TheVariants as kinds
+use Rattle.go_term_core.specs.decl_core.TopDecls.{TopDeclTree, FuncForm}
+use Rattle.go_term_core.specs.declared.term.Basic.TheVariants as basics
+use Rattle.go_term_core.specs.declared.term.MemberPlace.TheVariants as places
+use Rattle.go_term_core.specs.Terms.{Term, Predeclared, Sign, SignOf, NoTerm, ATerm}
 use Rattle.go_meaning_core.specs.operand_core.declared.types.ValueType.TheVariants as value_types
 use Rattle.go_meaning_core.specs.denote_core.declared.things.Outcome.TheVariants as outcomes
 use Rattle.go_meaning_core.specs.handle_core.Declarations.{Declaration, Universe, InFile}

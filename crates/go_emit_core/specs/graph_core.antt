@@ -2,9 +2,16 @@
 pub use Rattle.go_meaning_core.specs.graph_core.Assemblies as Assemblies
 pub use Rattle.go_meaning_core.specs.graph_core.AssemblyLaws as AssemblyLaws
 pub use Rattle.go_meaning_core.specs.graph_core.Imports as Imports
+pub use Rattle.go_meaning_core.specs.graph_core.Keeping as Keeping
+pub use Rattle.go_meaning_core.specs.graph_core.Lists as Lists
+pub use Rattle.go_meaning_core.specs.graph_core.Numbers as Numbers
+pub use Rattle.go_meaning_core.specs.graph_core.OneTarget as OneTarget
+pub use Rattle.go_meaning_core.specs.graph_core.OutcomeLaws as OutcomeLaws
 pub use Rattle.go_meaning_core.specs.graph_core.Packages as Packages
 pub use Rattle.go_meaning_core.specs.graph_core.Places as Places
 pub use Rattle.go_meaning_core.specs.graph_core.PlanLaws as PlanLaws
+pub use Rattle.go_meaning_core.specs.graph_core.Plans as Plans
+pub use Rattle.go_meaning_core.specs.graph_core.Reading as Reading
 pub use Rattle.go_meaning_core.specs.graph_core.Sources as Sources
 pub use Rattle.go_meaning_core.specs.graph_core.Workspaces as Workspaces
 pub use Rattle.go_meaning_core.specs.graph_core.Zips as Zips

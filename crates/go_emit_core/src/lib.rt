@@ -22,6 +22,16 @@ pub mod answer_core {
     pub use go_meaning_core::answer_core::{Answer, HeldLocal, Site};
 }
 
+/// What the crates above name of `go_block_core`.
+pub mod block_core {
+    pub use go_meaning_core::block_core::{Imported, import_specs};
+}
+
+/// What the crates above name of `go_denote_core`.
+pub mod denote_core {
+    pub use go_meaning_core::denote_core::Outcome;
+}
+
 /// What the crates above name of `go_face_core`.
 pub mod face_core {
     pub use go_meaning_core::face_core::Face;
@@ -29,19 +39,15 @@ pub mod face_core {
 
 /// What the crates above name of `go_graph_core`.
 pub mod graph_core {
-    pub use go_meaning_core::graph_core::{PackageSource, SourceFile, Workspace, assemble};
-}
-
-/// What the crates above name of `go_local_core`.
-pub mod local_core {
-    pub use go_local_core::Fault;
-}
-
-/// What the crates above name of `go_make_core`.
-pub mod make_core {
-    pub use go_meaning_core::make_core::{
-        Told, input_of, package_of, part_of, parts_again, parts_of,
+    pub use go_meaning_core::graph_core::{
+        ImportAt, ImportOutcome, Package, PackageSource, Plan, SourceFile, Workspace, assemble,
+        plan_imports,
     };
+}
+
+/// What the crates above name of `go_operand_core`.
+pub mod operand_core {
+    pub use go_meaning_core::operand_core::{Operand, ValueType};
 }
 
 /// What the crates above name of `go_package_core`.
@@ -52,7 +58,8 @@ pub mod package_core {
 /// What the crates above name of `go_part_core`.
 pub mod part_core {
     pub use go_meaning_core::part_core::{
-        Part, PartFile, PartInput, Parts, compile_part, one_part, part_has_occurrences, types_of,
+        Part, PartFile, PartInput, Parts, compile_over, compile_part, one_part,
+        part_has_occurrences, same_imports, types_of,
     };
 }
 
@@ -63,18 +70,12 @@ pub mod ready_core {
 
 /// What the crates above name of `go_summary_core`.
 pub mod summary_core {
-    pub use go_meaning_core::summary_core::view_of;
-}
-
-/// What the crates above name of `go_tree_core`.
-pub mod tree_core {
-    pub use go_tree_core::OccId;
-}
-
-/// What the crates above name of `go_whole_core`.
-pub mod whole_core {
-    pub use go_meaning_core::whole_core::{
-        check_is_local, imports_bind_theirs, inputs_stay, one_whole, parts_are_whole,
-        parts_come_in_order,
+    pub use go_meaning_core::summary_core::{
+        ReachedSummaries, Summary, SummaryList, View, import_view, view_of,
     };
+}
+
+/// What the crates above name of `go_table_core`.
+pub mod table_core {
+    pub use go_meaning_core::table_core::{DefinedType, PackageTypes, StructField, TypeTable};
 }

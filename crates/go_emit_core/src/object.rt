@@ -16,13 +16,13 @@ ghost use Rattle.go_meaning_core.specs.part_core.Slots.{somes};
 use crate::functions::add_file;
 use crate::imports::passing_of;
 use crate::tables::tables_of;
-use go_decl_core::Outline;
 use go_meaning_core::answer_core::Site;
 use go_meaning_core::entry_core::outlines;
 use go_meaning_core::part_core::{Part, PartFile};
 use go_meaning_core::summary_core::{Summary, View, view_of};
 use go_meaning_core::{PackageNames, Tables, names_of, shorter};
 use go_object_core::{FunctionCode, Object};
+use go_term_core::decl_core::Outline;
 use go_text_core::add;
 use std::alloc::{AllocError, Global};
 

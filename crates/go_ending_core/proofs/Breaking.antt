@@ -4,7 +4,7 @@ use Rattle.std.proofs.lemmas.Bool.{or_cases, or_left, or_right}
 use Rattle.go_text_core.specs.declared.span.Span.{Span}
 use Rattle.go_tree_nodes.specs.Trees as tree
 use Rattle.go_tree_nodes.specs.Trees.{StmtTree, BranchTree, ElseTree, Lines, Empty, Simple, Return, Break, Continue, Block, If, For, Branch, NoElse, ElseBlock, ElseIf, NoLines, Line}
-use Rattle.go_walk_core.specs.Ends.{has_break, branch_has_break, else_has_break, lines_have_break}
+use Rattle.go_body_core.specs.walk_core.Ends.{has_break, branch_has_break, else_has_break, lines_have_break}
 use Rattle.go_ending_core.specs.Ending.{IsStatementOf, IsFirstStatement, IsLaterStatement, IsElse, IsElseBlock, IsElseIf, BreaksOut, ByItself, InBlock, InThen, InElse, AreBrokenOut}
 use Rattle.go_ending_core.specs.Standing.{StandsInFors, IsItself, IsInBlock, IsInThen, IsInElse, IsInFor}
 use Rattle.go_ending_core.specs.Laws.{BreaksAreFound}

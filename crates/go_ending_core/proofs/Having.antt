@@ -3,9 +3,9 @@ use Rattle.std.proofs.Common.{◌≡◌, zero, suc, Bool, true, false, not, ◌&
 use Rattle.std.specs.Prelude.{Contains, if◌then◌else◌}
 use Rattle.std.proofs.lemmas.List.Elements.{Contains-append_left, Contains-append_right, Contains-append_cases}
 use Rattle.go_tree_nodes.specs.Trees.{FuncTree}
-use Rattle.go_local_core.specs.declared.Fault.{Fault}
-use Rattle.go_local_core.specs.Law.{Out}
-use Rattle.go_walk_core.specs.Ends.{are_terminating, lines_loop_faults}
+use Rattle.go_body_core.specs.local_core.declared.Fault.{Fault}
+use Rattle.go_body_core.specs.local_core.Law.{Out}
+use Rattle.go_body_core.specs.walk_core.Ends.{are_terminating, lines_loop_faults}
 use Rattle.go_body_core.specs.Ends.{returns_some, panics_at, calls_one, end_faults}
 use Rattle.go_body_core.specs.env_core.declared.meaning.Meaning.{Meaning}
 use Rattle.go_body_core.specs.Notes.{TheUse, NoteOf, all_uses, noted_faults}

@@ -8,10 +8,10 @@ use Rattle.go_universe_core.specs.declared.Predeclared.TheVariants as predeclare
 use Rattle.go_tree_nodes.specs.Trees as tree
 use Rattle.go_tree_nodes.specs.Trees.{SignatureTree, ResultTree, Signed, NoResult, OneResult, Results, ParamTrees, NoParams, Param, ExprTree, Integer, Named, Paren, Unary, Binary, Select, Call, Literal, StructLiteral, StmtTree, Lines, FuncTree}
 use Rattle.go_body_core.specs.handle_core.Declarations.{Declaration, Universe, OfError, Package, InFile}
-use Rattle.go_denote_core.specs.declared.things.Outcome.{Outcome}
-use Rattle.go_denote_core.specs.declared.things.Outcome.TheVariants as outcomes
-use Rattle.go_walk_core.specs.Ends.{are_terminating}
-use Rattle.go_local_core.specs.declared.Fault.{Fault}
+use Rattle.go_body_core.specs.denote_core.declared.things.Outcome.{Outcome}
+use Rattle.go_body_core.specs.denote_core.declared.things.Outcome.TheVariants as outcomes
+use Rattle.go_body_core.specs.walk_core.Ends.{are_terminating}
+use Rattle.go_body_core.specs.local_core.declared.Fault.{Fault}
 use Rattle.go_body_core.specs.Ends.{returns_some, is_panic_name, is_panic_declaration, has_panic, panics_at, names_one, calls_one}
 use Rattle.go_body_core.specs.Notes.{TheUse}
 use Rattle.go_ending_core.specs.Ending.{IsTerminating, AReturn, APanic, ABlock, AnIf, AFor, EndTerminating}

@@ -10,8 +10,8 @@ use Rattle.go_tree_nodes.proofs.InOrder.{in_order_split, in_order_ends}
 use Rattle.go_token_core.specs.declared.kind.Operator.TheVariants as operator
 use Rattle.go_tree_nodes.specs.Trees as tree
 use Rattle.go_tree_nodes.specs.Trees.{StmtTree, BranchTree, ElseTree, Lines, Empty, Simple, Return, Break, Continue, Block, If, For, Branch, NoElse, ElseBlock, ElseIf, NoLines, Line}
-use Rattle.go_local_core.specs.declared.Fault.{Fault}
-use Rattle.go_walk_core.specs.Ends.{loop_faults, branch_loop_faults, else_loop_faults, lines_loop_faults}
+use Rattle.go_body_core.specs.local_core.declared.Fault.{Fault}
+use Rattle.go_body_core.specs.walk_core.Ends.{loop_faults, branch_loop_faults, else_loop_faults, lines_loop_faults}
 use Rattle.go_ending_core.specs.Ending.{IsStatementOf, IsFirstStatement, IsLaterStatement, IsElse, IsElseBlock, IsElseIf}
 use Rattle.go_ending_core.specs.Standing.{StandsInFors, IsItself, IsInBlock, IsInThen, IsInElse, IsInFor, IsJump, ABreak, AContinue, stray_at, IsStray}
 use Rattle.go_ending_core.specs.Laws.{StraysAreFaults}

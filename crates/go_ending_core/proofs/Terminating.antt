@@ -7,7 +7,7 @@ use Rattle.go_tree_nodes.specs.Trees as tree
 use Rattle.std.specs.Prelude.{Option, Some, None}
 use Rattle.go_tree_nodes.specs.Trees.{ExprTree, SimpleTree, Alone, Step, Assign, Update, Define, ForTree, Forever, While, Clauses, StmtTree, BranchTree, ElseTree, Lines, Empty, Simple, Return, Break, Continue, Block, If, For, Branch, NoElse, ElseBlock, ElseIf, NoLines, Line}
 use Rattle.go_tree_nodes.specs.Counts.{is_empty}
-use Rattle.go_walk_core.specs.Ends.{lines_have_break, has_no_condition, are_empty, is_panic, is_terminating, is_branch_terminating, is_else_terminating, are_terminating}
+use Rattle.go_body_core.specs.walk_core.Ends.{lines_have_break, has_no_condition, are_empty, is_panic, is_terminating, is_branch_terminating, is_else_terminating, are_terminating}
 use Rattle.go_ending_core.specs.Ending.{IsElse, IsElseBlock, IsElseIf, AreBrokenOut, HasNoCondition, NoClause, NoneBetween, AreEmpty, NoneLeft, EmptyFirst, IsFinal, IsHere, IsBehind, IsTerminating, AReturn, APanic, ABlock, AnIf, AFor, EndTerminating}
 use Rattle.go_ending_core.specs.Laws.{Passes, EndingsAreTerminating}
 use Rattle.go_ending_core.proofs.Breaking.{lists_decide}

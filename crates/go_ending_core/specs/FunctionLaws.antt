@@ -3,8 +3,8 @@
 -- docs/RULES.md, "Bodies of functions". The Go specification, "Function declarations", "Terminating statements", "Handling panics".
 use Rattle.std.specs.Prelude.{◌≡◌, ◌↔◌, List, [], ◌∷◌, IsTrue, Contains}
 use Rattle.go_tree_nodes.specs.Trees.{ExprTree, FuncTree}
-use Rattle.go_local_core.specs.Law.{Out}
-use Rattle.go_local_core.specs.declared.Fault.{Fault}
+use Rattle.go_body_core.specs.local_core.Law.{Out}
+use Rattle.go_body_core.specs.local_core.declared.Fault.{Fault}
 use Rattle.go_body_core.specs.Body.{body_of}
 use Rattle.go_body_core.specs.Ends.{panics_at, calls_one, end_faults}
 use Rattle.go_body_core.specs.env_core.declared.meaning.Meaning.{Meaning}

@@ -8,9 +8,9 @@ use Rattle.go_universe_core.specs.declared.Predeclared.TheVariants as predeclare
 use Rattle.go_tree_nodes.specs.declared.names.Ident.{Ident}
 use Rattle.go_tree_nodes.specs.Trees.{Separated, TypeTree, SignatureTree, Signed, OneResult, Results, ParamTrees, Param, ExprTree, ItemTrees, Named, Paren, Call, FuncTree}
 use Rattle.go_body_core.specs.handle_core.Declarations.{Universe}
-use Rattle.go_denote_core.specs.declared.things.Outcome.TheVariants as outcomes
-use Rattle.go_local_core.specs.declared.Fault.{Fault}
-use Rattle.go_local_core.specs.Law.{Out}
+use Rattle.go_body_core.specs.denote_core.declared.things.Outcome.TheVariants as outcomes
+use Rattle.go_body_core.specs.local_core.declared.Fault.{Fault}
+use Rattle.go_body_core.specs.local_core.Law.{Out}
 use Rattle.go_body_core.specs.env_core.declared.meaning.Meaning.{Meaning}
 use Rattle.go_body_core.specs.Notes.{TheUse, NoteOf, all_uses, noted_faults}
 use Rattle.go_ending_core.specs.Ending.{EndTerminating}

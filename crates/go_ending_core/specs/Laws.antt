@@ -7,8 +7,8 @@ use Rattle.go_text_core.specs.declared.span.Span.{Span}
 use Rattle.go_tree_nodes.specs.Terminals.{InOrder}
 use Rattle.go_tree_nodes.specs.Spelling.{spell_lines}
 use Rattle.go_tree_nodes.specs.Trees.{ExprTree, StmtTree, Lines, Break}
-use Rattle.go_local_core.specs.declared.Fault.{Fault}
-use Rattle.go_walk_core.specs.Ends.{has_break, lines_have_break, is_terminating, are_terminating, lines_loop_faults}
+use Rattle.go_body_core.specs.local_core.declared.Fault.{Fault}
+use Rattle.go_body_core.specs.walk_core.Ends.{has_break, lines_have_break, is_terminating, are_terminating, lines_loop_faults}
 use Rattle.go_ending_core.specs.Ending.{BreaksOut, AreBrokenOut, IsTerminating, EndTerminating}
 use Rattle.go_ending_core.specs.Standing.{StandsInFors, IsStray}
 

@@ -6,17 +6,17 @@ use Rattle.std.specs.Prelude.{◌≡◌, ℕ, suc, false, List, [], ◌∷◌, S
 use Rattle.go_universe_core.specs.declared.Predeclared.TheVariants as predeclared
 use Rattle.go_tree_nodes.specs.Trees.{One, Signed, ResultTree, NoResult, OneResult, Results, NoParams, Param, ExprTree, Integer, Named, Paren, Call, ItemTrees, NoItems, Item, Alone, Forever, While, Clauses, StmtTree, ElseTree, Lines, Empty, Simple, Return, Break, Continue, Block, If, For, Branch, NoElse, ElseBlock, ElseIf, NoLines, Line, FuncTree}
 use Rattle.go_tree_nodes.specs.Samples.{at, called, int_at}
-use Rattle.go_decl_core.specs.declared.places.DeclKind.TheVariants as decl_kind
+use Rattle.go_term_core.specs.decl_core.declared.places.DeclKind.TheVariants as decl_kind
 use Rattle.go_term_core.specs.declared.term.MemberPlace.TheVariants as places
-use Rattle.go_tree_core.specs.declared.occurrence.Role.TheVariants as roles
-use Rattle.go_denote_core.specs.declared.things.Outcome.{Outcome}
-use Rattle.go_denote_core.specs.declared.things.Outcome.TheVariants as outcomes
+use Rattle.go_term_core.specs.tree_core.declared.occurrence.Role.TheVariants as roles
+use Rattle.go_body_core.specs.denote_core.declared.things.Outcome.{Outcome}
+use Rattle.go_body_core.specs.denote_core.declared.things.Outcome.TheVariants as outcomes
 use Rattle.go_body_core.specs.handle_core.Declarations.{Declaration, Universe, InFile}
 use Rattle.go_body_core.specs.Ends.{end_faults}
 use Rattle.go_body_core.specs.Notes.{TheUse}
 use Rattle.go_ending_core.specs.Standing.{stray_at}
 use Rattle.go_ending_core.specs.Functions.{lack_at}
-use Rattle.go_walk_core.specs.Ends.{lines_loop_faults}
+use Rattle.go_body_core.specs.walk_core.Ends.{lines_loop_faults}
 
 -- func f() RESULT { BODY }, with the places of its braces
 abbrev pub func_f : ResultTree → ℕ → Lines → ℕ → FuncTree

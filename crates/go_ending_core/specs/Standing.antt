@@ -5,7 +5,7 @@ use Rattle.std.specs.Prelude.{◌≡◌, ℕ, suc}
 use Rattle.go_text_core.specs.declared.span.Span.{Span}
 use Rattle.go_text_core.specs.declared.rule.Rule.TheVariants.{Y6}
 use Rattle.go_tree_nodes.specs.Trees.{IfTree, ForTree, StmtTree, ElseTree, Lines, Break, Continue, Block, If, For, Branch}
-use Rattle.go_local_core.specs.declared.Fault.{Fault}
+use Rattle.go_body_core.specs.local_core.declared.Fault.{Fault}
 use Rattle.go_ending_core.specs.Ending.{IsStatementOf, IsElse}
 
 -- a statement stands in another one, or is it, and so many `for`s of that one are around it

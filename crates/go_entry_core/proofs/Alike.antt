@@ -2,12 +2,12 @@
 use Rattle.std.proofs.Common.{◌≡◌, ℕ, suc, ◌+◌, inl, inr, true, List, [], ◌∷◌, ◌++◌, Option, Some, None, is_some, refl, ap, subst, arith}
 use Rattle.std.specs.Prelude.{slice_get}
 use Rattle.std.specs.List.{flat_map, enumerate_from}
-use Rattle.go_written_core.specs.tree_nodes.declared.files.Receiver.{Receiver}
-use Rattle.go_written_core.specs.tree_nodes.declared.types.TypeName.{TypeName}
-use Rattle.go_written_core.specs.tree_nodes.Trees.{TypeTree, NamedType, Pointer, ParenType, Struct, Interface, FieldTrees, NoFields, NamedFields, EmbeddedField, MethodTrees, NoMethods, Method, SignatureTree, Signed, ResultTree, NoResult, OneResult, Results, ParamTrees, NoParams, Param, FuncTree}
+use Rattle.go_tree_nodes.specs.declared.files.Receiver.{Receiver}
+use Rattle.go_tree_nodes.specs.declared.types.TypeName.{TypeName}
+use Rattle.go_tree_nodes.specs.Trees.{TypeTree, NamedType, Pointer, ParenType, Struct, Interface, FieldTrees, NoFields, NamedFields, EmbeddedField, MethodTrees, NoMethods, Method, SignatureTree, Signed, ResultTree, NoResult, OneResult, Results, ParamTrees, NoParams, Param, FuncTree}
 use Rattle.go_written_core.specs.decl_core.declared.places.DeclKind.TheVariants as kinds
 use Rattle.go_written_core.specs.decl_core.TopDecls.{TopDeclTree, FormTree, ValueForm, TypeForm, FuncForm}
-use Rattle.go_written_core.specs.term_core.Terms.{PointerTo, StructOf, InterfaceOf, AField, AMethod, SignOf, NoTerm, ATerm}
+use Rattle.go_term_core.specs.Terms.{PointerTo, StructOf, InterfaceOf, AField, AMethod, SignOf, NoTerm, ATerm}
 use Rattle.go_table_core.specs.Entries.{Entry}
 use Rattle.go_written_core.specs.Written.{InFile, Meaning, member_place, term_starred, tag_of, named_fields, for_names, term_of, fields_of_tree, methods_of_tree, signature_of, results_of_tree, params_of_tree}
 use Rattle.go_written_core.specs.decl_core.Outer.{last_ident}
@@ -17,7 +17,7 @@ use Rattle.go_entry_core.specs.Meanings.{file_meaning}
 use Rattle.go_entry_core.specs.Names.{received_names, form_names, names_written}
 use Rattle.go_entry_core.specs.Outlines.{FileOutline}
 use Rattle.go_entry_core.proofs.Among.{Among, among_left, among_right, among_to}
-use Rattle.go_written_core.specs.tree_nodes.TypeNames.{type_names_in, field_names_in, method_names_in, signature_names_in, result_names_in, param_names_in}
+use Rattle.go_tree_nodes.specs.TypeNames.{type_names_in, field_names_in, method_names_in, signature_names_in, result_names_in, param_names_in}
 
 abbrev Agrees : Meaning → Meaning → List TypeName → Type 0
 Agrees mean other ns = (x : TypeName) → Among ns x → mean x ≡ other x

@@ -4,16 +4,16 @@ use Rattle.std.specs.Prelude.{slice_get, ⊤, AllPairs, Contains}
 use Rattle.std.specs.List.{filter, flat_map, enumerate_from}
 use Rattle.std.proofs.lemmas.List.Elements.{All-head, All-tail, Contains-get_or}
 use Rattle.std.proofs.lemmas.Option.{slice_get-get_or}
-use Rattle.go_written_core.specs.tree_nodes.declared.files.Receiver.{Receiver}
-use Rattle.go_written_core.specs.tree_nodes.Trees.{FuncTree, TypeSpecTree}
+use Rattle.go_tree_nodes.specs.declared.files.Receiver.{Receiver}
+use Rattle.go_tree_nodes.specs.Trees.{FuncTree, TypeSpecTree}
 use Rattle.go_written_core.specs.decl_core.declared.places.DeclKind.TheVariants as kinds
 use Rattle.go_written_core.specs.decl_core.declared.keys.DeclKey.{DeclKey}
 use Rattle.go_written_core.specs.decl_core.declared.keys.DeclRef.{DeclRef}
 use Rattle.go_written_core.specs.decl_core.TopDecls.{TopDeclTree, FormTree, ValueForm, TypeForm, FuncForm}
 use Rattle.go_scope_core.specs.block_core.Blocks.{BlocksModel}
-use Rattle.go_written_core.specs.term_core.declared.term.MemberPlace.{MemberPlace}
-use Rattle.go_written_core.specs.term_core.declared.term.MemberPlace.TheVariants as places
-use Rattle.go_written_core.specs.term_core.Terms.{Term, Defined}
+use Rattle.go_term_core.specs.declared.term.MemberPlace.{MemberPlace}
+use Rattle.go_term_core.specs.declared.term.MemberPlace.TheVariants as places
+use Rattle.go_term_core.specs.Terms.{Term, Defined}
 use Rattle.go_table_core.specs.Entries.{Entry, Member}
 use Rattle.go_table_core.specs.Tables.{KeysRise}
 use Rattle.go_written_core.specs.Written.{InFile, Meaning}

@@ -2,7 +2,7 @@
 use Rattle.std.proofs.Common.{◌≡◌, ℕ, ◌+◌, ◌<◌, List, [], ◌∷◌, ◌++◌, length, get_or, take, map, All, Ok, Err, Result, refl, sym, ap, ◌∙◌, append-nil}
 use Rattle.std.proofs.lemmas.List.{map-append, take_more}
 use Rattle.std.proofs.lemmas.List.Elements.{All-map, All-same}
-use Rattle.go_written_core.specs.tree_nodes.Trees.{FileTree}
+use Rattle.go_tree_nodes.specs.Trees.{FileTree}
 use Rattle.go_scope_core.specs.parse_core.declared.error.SynFault.{SynFault}
 use Rattle.go_written_core.specs.decl_core.declared.tops.Outline.{Outline}
 use Rattle.go_written_core.specs.decl_core.Outer.{places_of}

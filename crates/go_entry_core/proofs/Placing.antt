@@ -6,7 +6,7 @@ use Rattle.std.proofs.lemmas.Bool.{true≢false, cases_order, false_from_ne_true
 use Rattle.std.proofs.lemmas.Option.{slice_get_within, slice_get-map, slice_get-get_or, get_or_from_slice_get}
 use Rattle.go_written_core.specs.decl_core.declared.keys.DeclKey.{DeclKey}
 use Rattle.go_written_core.specs.decl_core.declared.keys.DeclRef.{DeclRef}
-use Rattle.go_written_core.specs.term_core.Terms.{Term, NoType, Predeclared, ErrorType, Defined, PointerTo, StructOf, InterfaceOf}
+use Rattle.go_term_core.specs.Terms.{Term, NoType, Predeclared, ErrorType, Defined, PointerTo, StructOf, InterfaceOf}
 use Rattle.go_table_core.specs.declared.entry.TypeEntry.{TypeEntry}
 use Rattle.go_table_core.specs.Entries.{Entry, same_key}
 use Rattle.go_table_core.specs.Shown.{entry_shown}

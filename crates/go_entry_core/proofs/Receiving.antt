@@ -4,8 +4,8 @@ use Rattle.std.specs.Prelude.{slice_get}
 use Rattle.std.proofs.lemmas.List.{map-append, map-set}
 use Rattle.std.proofs.lemmas.Option.{get_or_from_slice_get}
 use Rattle.go_written_core.specs.decl_core.declared.keys.DeclKey.{DeclKey}
-use Rattle.go_written_core.specs.term_core.Shapes.{shape}
-use Rattle.go_written_core.specs.term_core.Terms.{Term, Defined}
+use Rattle.go_term_core.specs.Shapes.{shape}
+use Rattle.go_term_core.specs.Terms.{Term, Defined}
 use Rattle.go_table_core.specs.declared.entry.DeclaredMethod.{DeclaredMethod}
 use Rattle.go_table_core.specs.declared.entry.TypeEntry.{TypeEntry}
 use Rattle.go_table_core.specs.Entries.{Entry}

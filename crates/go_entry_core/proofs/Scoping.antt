@@ -1,8 +1,8 @@
 -- A name of a type means what it denotes by the blocks that are open at the top of a file.
 use Rattle.std.proofs.Common.{◌≡◌, ℕ, List, [], Option, Some, None, is_some, refl, sym, ap, ◌∙◌, if◌then◌else◌}
 use Rattle.std.specs.Prelude.{option_map}
-use Rattle.go_scope_core.specs.universe_core.declared.Predeclared.{Predeclared}
-use Rattle.go_scope_core.specs.universe_core.Universe.{found}
+use Rattle.go_universe_core.specs.declared.Predeclared.{Predeclared}
+use Rattle.go_universe_core.specs.Universe.{found}
 use Rattle.go_written_core.specs.decl_core.declared.keys.DeclRef.{DeclRef}
 use Rattle.go_scope_core.specs.block_core.declared.binding.Binding.{Binding}
 use Rattle.go_scope_core.specs.block_core.Blocks.{BlocksModel, file_binding, file_has}

@@ -1,6 +1,6 @@
 -- The sample is computed.
 use Rattle.std.proofs.Common.{refl}
-use Rattle.go_scope_core.specs.universe_core.Universe.{found, spelling_of}
+use Rattle.go_universe_core.specs.Universe.{found, spelling_of}
 use Rattle.go_entry_core.specs.Sample.{EntrySampleIsRight}
 
 pub sample_is_right : EntrySampleIsRight

@@ -1,16 +1,16 @@
 -- The types that a package declares, as they are written.
 use Rattle.std.specs.Prelude.{ℕ, Bool, false, List, [], ◌∷◌, Option, Some, None, is_some, map}
 use Rattle.std.specs.List.{filter, flat_map, enumerate_from}
-use Rattle.go_written_core.specs.tree_nodes.declared.files.Receiver.{Receiver}
-use Rattle.go_written_core.specs.tree_nodes.Trees.{FuncTree, TypeSpecTree}
+use Rattle.go_tree_nodes.specs.declared.files.Receiver.{Receiver}
+use Rattle.go_tree_nodes.specs.Trees.{FuncTree, TypeSpecTree}
 use Rattle.go_written_core.specs.decl_core.declared.places.DeclKind.{DeclKind}
 use Rattle.go_written_core.specs.decl_core.declared.places.DeclKind.TheVariants as kinds
 use Rattle.go_written_core.specs.decl_core.declared.keys.DeclKey.{DeclKey}
 use Rattle.go_written_core.specs.decl_core.TopDecls.{TopDeclTree, FormTree, ValueForm, TypeForm, FuncForm}
 use Rattle.go_scope_core.specs.block_core.Blocks.{BlocksModel}
-use Rattle.go_written_core.specs.term_core.declared.term.MemberPlace.{MemberPlace}
-use Rattle.go_written_core.specs.term_core.declared.term.MemberPlace.TheVariants as places
-use Rattle.go_written_core.specs.term_core.Terms.{Term, Defined}
+use Rattle.go_term_core.specs.declared.term.MemberPlace.{MemberPlace}
+use Rattle.go_term_core.specs.declared.term.MemberPlace.TheVariants as places
+use Rattle.go_term_core.specs.Terms.{Term, Defined}
 use Rattle.go_table_core.specs.Entries.{Entry, Member, same_key}
 use Rattle.go_written_core.specs.Written.{InFile, Meaning, term_of, signature_of}
 use Rattle.go_entry_core.specs.Meanings.{Shows, file_meaning}

@@ -1,14 +1,14 @@
 -- Laws of the types that a package declares.
 use Rattle.std.specs.Prelude.{◌≡◌, ◌↔◌, ◌&&◌, ◌||◌, ℕ, List, Some, nat_eq, nat_lt, slice_get, map, true, All, AllPairs, Contains}
-use Rattle.go_written_core.specs.tree_nodes.declared.files.Receiver.{Receiver}
-use Rattle.go_written_core.specs.tree_nodes.declared.types.TypeName.{TypeName}
-use Rattle.go_written_core.specs.tree_nodes.Trees.{FuncTree, TypeSpecTree}
+use Rattle.go_tree_nodes.specs.declared.files.Receiver.{Receiver}
+use Rattle.go_tree_nodes.specs.declared.types.TypeName.{TypeName}
+use Rattle.go_tree_nodes.specs.Trees.{FuncTree, TypeSpecTree}
 use Rattle.go_written_core.specs.decl_core.declared.keys.DeclKey.{DeclKey}
 use Rattle.go_written_core.specs.decl_core.TopDecls.{TopDeclTree, TypeForm, FuncForm}
 use Rattle.go_scope_core.specs.block_core.Blocks.{BlocksModel}
-use Rattle.go_written_core.specs.term_core.declared.term.MemberPlace.{MemberPlace}
-use Rattle.go_written_core.specs.term_core.declared.term.MemberPlace.TheVariants as places
-use Rattle.go_written_core.specs.term_core.Terms.{Term, Defined}
+use Rattle.go_term_core.specs.declared.term.MemberPlace.{MemberPlace}
+use Rattle.go_term_core.specs.declared.term.MemberPlace.TheVariants as places
+use Rattle.go_term_core.specs.Terms.{Term, Defined}
 use Rattle.go_table_core.specs.Entries.{Entry, Member}
 use Rattle.go_table_core.specs.Tables.{AreOf, KeysRise}
 use Rattle.go_entry_core.specs.Meanings.{Shows, file_meaning}

@@ -11,9 +11,7 @@ pub mod block_core
 pub mod block_core_lemmas
 pub mod decl_core
 pub mod graph_core
-pub mod open_core
 pub mod parse_core
 pub mod scope_core
 pub mod scope_core_lemmas
-pub mod table_core
 pub mod written_core

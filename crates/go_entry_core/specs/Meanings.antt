@@ -1,10 +1,10 @@
 -- What the names of types mean at the top of a file.
 use Rattle.std.specs.Prelude.{ℕ, List, Option, Some, None}
-use Rattle.go_written_core.specs.tree_nodes.declared.types.TypeName.{TypeName}
-use Rattle.go_written_core.specs.tree_nodes.declared.types.TypeName.TheVariants as type_names
-use Rattle.go_scope_core.specs.universe_core.declared.Predeclared.{Predeclared as PredeclaredName}
-use Rattle.go_scope_core.specs.universe_core.declared.Predeclared.TheVariants as universe
-use Rattle.go_scope_core.specs.universe_core.Universe.{found}
+use Rattle.go_tree_nodes.specs.declared.types.TypeName.{TypeName}
+use Rattle.go_tree_nodes.specs.declared.types.TypeName.TheVariants as type_names
+use Rattle.go_universe_core.specs.declared.Predeclared.{Predeclared as PredeclaredName}
+use Rattle.go_universe_core.specs.declared.Predeclared.TheVariants as universe
+use Rattle.go_universe_core.specs.Universe.{found}
 use Rattle.go_written_core.specs.decl_core.declared.places.DeclKind.{DeclKind}
 use Rattle.go_written_core.specs.decl_core.declared.places.DeclKind.TheVariants as kinds
 use Rattle.go_written_core.specs.decl_core.declared.keys.DeclKey.{DeclKey}
@@ -14,8 +14,8 @@ use Rattle.go_scope_core.specs.block_core.declared.binding.Target.{Target}
 use Rattle.go_scope_core.specs.block_core.declared.binding.Target.TheVariants as targets
 use Rattle.go_scope_core.specs.block_core.Blocks.{BlocksModel, file_binding}
 use Rattle.go_scope_core.specs.block_core.Tables.{in_block}
-use Rattle.go_written_core.specs.term_core.declared.term.Basic.TheVariants as basics
-use Rattle.go_written_core.specs.term_core.Terms.{Term, NoType, Predeclared, ErrorType, Defined, InterfaceOf, NoMethod}
+use Rattle.go_term_core.specs.declared.term.Basic.TheVariants as basics
+use Rattle.go_term_core.specs.Terms.{Term, NoType, Predeclared, ErrorType, Defined, InterfaceOf, NoMethod}
 use Rattle.go_scope_core.specs.block_core.Bindings.{key_of}
 
 -- the type that a declaration of this kind declares

@@ -1,12 +1,12 @@
 -- The names of types that are written in type declarations and in methods outside their bodies.
 use Rattle.std.specs.Prelude.{List, [], ◌∷◌, Option, None, Some}
 use Rattle.std.specs.List.{flat_map}
-use Rattle.go_written_core.specs.tree_nodes.declared.files.Receiver.{Receiver}
-use Rattle.go_written_core.specs.tree_nodes.declared.types.TypeName.{TypeName}
-use Rattle.go_written_core.specs.tree_nodes.Trees.{FuncTree}
+use Rattle.go_tree_nodes.specs.declared.files.Receiver.{Receiver}
+use Rattle.go_tree_nodes.specs.declared.types.TypeName.{TypeName}
+use Rattle.go_tree_nodes.specs.Trees.{FuncTree}
 use Rattle.go_written_core.specs.decl_core.TopDecls.{FormTree, ValueForm, TypeForm, FuncForm}
 use Rattle.go_entry_core.specs.Outlines.{FileOutline}
-use Rattle.go_written_core.specs.tree_nodes.TypeNames.{type_names_in, signature_names_in}
+use Rattle.go_tree_nodes.specs.TypeNames.{type_names_in, signature_names_in}
 
 -- a method writes the base of its receiver and its signature
 abbrev pub received_names : FuncTree → Option Receiver → List TypeName

@@ -1,6 +1,6 @@
 -- What is known of a file of a package: its declarations outside functions, and the identifiers that it declares outside function bodies.
 use Rattle.std.specs.Prelude.{◌≡◌, List, map}
-use Rattle.go_written_core.specs.tree_nodes.Trees.{FileTree}
+use Rattle.go_tree_nodes.specs.Trees.{FileTree}
 use Rattle.go_written_core.specs.decl_core.declared.places.Place.{Place}
 use Rattle.go_written_core.specs.decl_core.declared.tops.Outline.{Outline}
 use Rattle.go_written_core.specs.decl_core.Outer.{places_of}

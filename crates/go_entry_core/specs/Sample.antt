@@ -1,18 +1,18 @@
 -- The types of a package of two files, worked out by hand.
 use Rattle.std.specs.Prelude.{◌≡◌, ℕ, Bool, true, false, List, [], ◌∷◌, Some, None, codes}
-use Rattle.go_written_core.specs.tree_nodes.declared.types.TypeName.TheVariants as type_names
-use Rattle.go_written_core.specs.tree_nodes.Trees.{One, Struct, NoFields, NamedFields, EmbeddedField, NoLines, Types, Func, Single, TopTree, FileTree}
-use Rattle.go_written_core.specs.tree_nodes.Samples.{at, int_at, called}
+use Rattle.go_tree_nodes.specs.declared.types.TypeName.TheVariants as type_names
+use Rattle.go_tree_nodes.specs.Trees.{One, Struct, NoFields, NamedFields, EmbeddedField, NoLines, Types, Func, Single, TopTree, FileTree}
+use Rattle.go_tree_nodes.specs.Samples.{at, int_at, called}
 use Rattle.go_written_core.specs.decl_core.declared.keys.DeclKey.{DeclKey}
 use Rattle.go_written_core.specs.decl_core.declared.places.DeclKind.{DeclKind}
 use Rattle.go_written_core.specs.decl_core.declared.places.DeclKind.TheVariants as kinds
 use Rattle.go_written_core.specs.decl_core.Sample.{one_param, top}
 use Rattle.go_scope_core.specs.block_core.declared.binding.Target.TheVariants as targets
 use Rattle.go_scope_core.specs.block_core.Blocks.{BlocksModel, blocks_model}
-use Rattle.go_written_core.specs.term_core.declared.term.Basic.TheVariants as basics
-use Rattle.go_written_core.specs.term_core.declared.term.MemberPlace.{MemberPlace}
-use Rattle.go_written_core.specs.term_core.declared.term.MemberPlace.TheVariants as places
-use Rattle.go_written_core.specs.term_core.Terms.{Predeclared, Defined, StructOf, NoField, AField, Sign, SignOf, NoTerm, ATerm}
+use Rattle.go_term_core.specs.declared.term.Basic.TheVariants as basics
+use Rattle.go_term_core.specs.declared.term.MemberPlace.{MemberPlace}
+use Rattle.go_term_core.specs.declared.term.MemberPlace.TheVariants as places
+use Rattle.go_term_core.specs.Terms.{Predeclared, Defined, StructOf, NoField, AField, Sign, SignOf, NoTerm, ATerm}
 use Rattle.go_table_core.specs.Entries.{Entry, Member}
 use Rattle.go_entry_core.specs.Entries.{declared_entries}
 use Rattle.go_entry_core.specs.Meanings.{Shows}

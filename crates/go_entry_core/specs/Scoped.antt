@@ -1,13 +1,13 @@
 -- What names of types mean at the top of a file, by the blocks that are open there.
 use Rattle.std.specs.Prelude.{◌≡◌, ℕ, List, [], Option, Some, None}
 use Rattle.go_text_core.specs.declared.span.Span.{Span}
-use Rattle.go_written_core.specs.tree_nodes.declared.names.Ident.{Ident}
-use Rattle.go_written_core.specs.tree_nodes.declared.types.TypeName.TheVariants as type_names
+use Rattle.go_tree_nodes.specs.declared.names.Ident.{Ident}
+use Rattle.go_tree_nodes.specs.declared.types.TypeName.TheVariants as type_names
 use Rattle.go_scope_core.specs.block_core.Blocks.{BlocksModel}
 use Rattle.go_scope_core.specs.Laws.{denotes}
 use Rattle.go_scope_core.specs.Models.{scopes_model}
 use Rattle.go_scope_core.specs.Scopes.{Denoted, Universe, Package, File, Local}
-use Rattle.go_written_core.specs.term_core.Terms.{Term, NoType}
+use Rattle.go_term_core.specs.Terms.{Term, NoType}
 use Rattle.go_entry_core.specs.Meanings.{Shows, file_meaning, type_in_target, type_of_key, type_of_predeclared, type_of_target}
 use Rattle.go_scope_core.specs.block_core.Bindings.{key_of}
 

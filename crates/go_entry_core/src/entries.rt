@@ -1,7 +1,7 @@
 //! The types that a package declares.
 ghost use Rattle.std.specs.Prelude.{◌≡◌, ◌++◌, [], ◌∷◌, All, IfOk, OnOk, map};
 ghost use Rattle.go_written_core.specs.decl_core.Shown.{decl_shown};
-ghost use Rattle.go_written_core.specs.tree_nodes.Shapes.{shape_type_spec};
+ghost use Rattle.go_tree_nodes.specs.Shapes.{shape_type_spec};
 ghost use Rattle.go_table_core.specs.Shown.{entry_shown};
 ghost use Rattle.go_table_core.specs.Tables.{AreOf, KeysRise};
 ghost use Rattle.go_written_core.specs.Written.{in_file};
@@ -13,9 +13,9 @@ use crate::methods::add_methods;
 use go_scope_core::block_core::Blocks;
 use go_table_core::TypeEntry;
 use go_text_core::add;
+use go_tree_nodes::TypeSpec;
 use go_written_core::decl_core::{DeclForm, DeclKey, DeclKind, DeclRef, Outline, TopDecl};
 use go_written_core::path_core::ImportPath;
-use go_written_core::tree_nodes::TypeSpec;
 use go_written_core::{TypeNames, WrittenIn, write_type};
 use std::alloc::{AllocError, Global};
 

@@ -2,17 +2,17 @@
 ghost use Rattle.std.specs.Prelude.{◌≡◌, IfOk, option_copied};
 ghost use Rattle.go_scope_core.specs.block_core.Blocks.{file_binding};
 ghost use Rattle.go_scope_core.specs.block_core.Tables.{in_block};
-ghost use Rattle.go_written_core.specs.term_core.Shapes.{shape};
-ghost use Rattle.go_scope_core.specs.universe_core.Universe.{found};
+ghost use Rattle.go_term_core.specs.Shapes.{shape};
+ghost use Rattle.go_universe_core.specs.Universe.{found};
 ghost use Rattle.go_entry_core.specs.Meanings.{outside_meaning, plain_meaning, qualified_meaning, shown_type, type_in_binding, type_in_target, type_of_key, type_of_target, type_of_universe};
 ghost use Rattle.go_scope_core.specs.block_core.Bindings.{key_of};
 
 use go_scope_core::block_core::{Binding, Blocks, DeclKey, DeclKind, DeclRef, Target};
-use go_scope_core::universe_core::{Predeclared, find_predeclared};
+use go_term_core::{Basic, TypeTerm};
+use go_tree_nodes::TypeName;
+use go_universe_core::{Predeclared, find_predeclared};
 use go_written_core::TypeNames;
 use go_written_core::path_core::ImportPath;
-use go_written_core::term_core::{Basic, TypeTerm};
-use go_written_core::tree_nodes::TypeName;
 use std::alloc::{AllocError, Global};
 
 /// What packages show to those that import them.

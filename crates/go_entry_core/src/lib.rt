@@ -22,8 +22,8 @@ pub use shown_packages::ShownPackages;
 /// What the crates above name of `go_block_core`.
 pub mod block_core {
     pub use go_scope_core::block_core::{
-        Binding, BlockFault, Blocks, DeclRef, Exports, Imported, NamedDecl, Target, blocks,
-        import_names,
+        Binding, BlockFault, Blocks, DeclKind, DeclRef, Exports, Imported, NamedDecl, Target,
+        blocks, import_names, import_specs, one_blocks_alone, workspace_blocks,
     };
 }
 
@@ -36,12 +36,20 @@ pub mod decl_core {
 
 /// What the crates above name of `go_graph_core`.
 pub mod graph_core {
-    pub use go_scope_core::graph_core::{Package, SourceFile};
+    pub use go_scope_core::graph_core::{
+        ImportAt, ImportOutcome, Package, PackageSource, Plan, SourceFile, Workspace, assemble,
+        one_outcome, plan_imports,
+    };
+}
+
+/// What the crates above name of `go_parse_core`.
+pub mod parse_core {
+    pub use go_scope_core::parse_core::{ParseError, Parsed, one_rule, one_tree, parse, tree_of};
 }
 
 /// What the crates above name of `go_scope_core`.
 pub mod scope_core {
-    pub use go_scope_core::Scopes;
+    pub use go_scope_core::{DeclId, InScope, Scopes, ShortDecl, ShortName};
 }
 
 /// What the crates above name of `go_written_core`.

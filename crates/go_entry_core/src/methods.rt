@@ -2,9 +2,9 @@
 ghost use Rattle.std.specs.Prelude.{◌≡◌, ◌≤◌, ◌∷◌, [], false, length, IfOk, OnOk, map, true};
 ghost use Rattle.std.specs.List.Sorted.{IsPartitionPoint};
 ghost use Rattle.go_written_core.specs.decl_core.Shown.{decl_shown};
-ghost use Rattle.go_written_core.specs.term_core.Shapes.{shape};
-ghost use Rattle.go_written_core.specs.term_core.Terms.{Defined};
-ghost use Rattle.go_written_core.specs.tree_nodes.Shapes.{func_of};
+ghost use Rattle.go_term_core.specs.Shapes.{shape};
+ghost use Rattle.go_term_core.specs.Terms.{Defined};
+ghost use Rattle.go_tree_nodes.specs.Shapes.{func_of};
 ghost use Rattle.go_table_core.specs.Shown.{entry_shown, member_shown};
 ghost use Rattle.go_table_core.specs.Tables.{KeysRise};
 ghost use Rattle.go_written_core.specs.Written.{in_file};
@@ -13,10 +13,10 @@ ghost use Rattle.go_entry_core.specs.mirrors.Gaining.{all_gaining, IsMeantAt};
 ghost use Rattle.go_written_core.specs.decl_core.Order.{is_ref_before};
 
 use go_table_core::{DeclaredMethod, TypeEntry};
+use go_term_core::{MemberPlace, TypeTerm};
 use go_text_core::add;
+use go_tree_nodes::{FuncDecl, Receiver, TypeName};
 use go_written_core::decl_core::{DeclForm, DeclKey, DeclKind, DeclRef, TopDecl};
-use go_written_core::term_core::{MemberPlace, TypeTerm};
-use go_written_core::tree_nodes::{FuncDecl, Receiver, TypeName};
 use go_written_core::{TypeNames, WrittenIn, write_signature};
 use std::alloc::{AllocError, Global};
 

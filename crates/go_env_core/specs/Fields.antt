@@ -5,13 +5,13 @@
 use Rattle.std.specs.Prelude.{ℕ, Bool, ◌||◌, List, [], ◌∷◌, if◌then◌else◌}
 use Rattle.std.specs.Str.{bytes_eq, chars}
 use Rattle.go_text_core.specs.Text.{exported}
-use Rattle.go_expr_core.specs.term_core.declared.term.MemberPlace.{MemberPlace}
-use Rattle.go_expr_core.specs.term_core.Terms.{Term, NoType, Predeclared, ErrorType, Defined, PointerTo, StructOf, InterfaceOf, Fields, NoField, AField}
-use Rattle.go_inline_core.specs.table_core.Entries.{find_entry, has_method}
-use Rattle.go_inline_core.specs.embed_core.Owners.{OwnerModel, owner_in}
+use Rattle.go_term_core.specs.declared.term.MemberPlace.{MemberPlace}
+use Rattle.go_term_core.specs.Terms.{Term, NoType, Predeclared, ErrorType, Defined, PointerTo, StructOf, InterfaceOf, Fields, NoField, AField}
+use Rattle.go_face_core.specs.table_core.Entries.{find_entry, has_method}
+use Rattle.go_face_core.specs.embed_core.Owners.{OwnerModel, owner_in}
 use Rattle.go_face_core.specs.decide_core.Rules.{typed}
-use Rattle.go_expr_core.specs.literal_core.declared.things.LiteralField.{LiteralField}
-use Rattle.go_expr_core.specs.literal_core.Look.{FieldOf, LiteralRules}
+use Rattle.go_top_core.specs.literal_core.declared.things.LiteralField.{LiteralField}
+use Rattle.go_top_core.specs.literal_core.Look.{FieldOf, LiteralRules}
 use Rattle.go_face_core.specs.handle_core.Declarations.{Declaration, InFile}
 use Rattle.go_env_core.specs.Scenes.{SceneModel}
 

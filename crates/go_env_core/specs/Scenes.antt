@@ -1,7 +1,7 @@
 -- What is known of a package where its expressions are judged.
 use Rattle.std.specs.Prelude.{ℕ, List}
-use Rattle.go_inline_core.specs.block_core.Blocks.{BlocksModel}
-use Rattle.go_inline_core.specs.table_core.Entries.{Entry}
+use Rattle.go_face_core.specs.block_core.Blocks.{BlocksModel}
+use Rattle.go_face_core.specs.table_core.Entries.{Entry}
 use Rattle.go_face_core.specs.Packages.{PackageFacesModel}
 use Rattle.go_face_core.specs.Written.{WrittenOf}
 use Rattle.go_env_core.specs.declared.scene.Scene.{Scene}

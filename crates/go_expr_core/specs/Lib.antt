@@ -18,6 +18,5 @@ pub mod denote_core
 pub mod literal_core
 pub mod local_core
 pub mod operand_core
-pub mod term_core
+pub mod token_core
 pub mod tree_core
-pub mod tree_nodes

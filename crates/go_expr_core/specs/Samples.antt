@@ -6,7 +6,7 @@ use Rattle.std.specs.Str.{bytes_eq}
 use Rattle.go_tree_nodes.specs.text_core.declared.rule.Rule.{Rule}
 use Rattle.go_tree_nodes.specs.text_core.declared.rule.Rule.TheVariants.{N1, N6, S1, S5, C1, C2, X1, F2, F3, F4, F5, F6, F7, Y3, Y4, Y7}
 use Rattle.go_tree_nodes.specs.token_core.declared.kind.Operator.TheVariants as operators
-use Rattle.go_literal_core.specs.term_core.declared.term.Basic.TheVariants as basics
+use Rattle.go_term_core.specs.declared.term.Basic.TheVariants as basics
 use Rattle.go_tree_nodes.specs.declared.exprs.Key.{Key}
 use Rattle.go_tree_nodes.specs.declared.types.TypeName.TheVariants as type_names
 use Rattle.go_tree_nodes.specs.declared.usage.Usage.TheVariants as usages

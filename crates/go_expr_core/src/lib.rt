@@ -34,13 +34,15 @@ pub mod constant_core {
 /// What the crates above name of `go_denote_core`.
 pub mod denote_core {
     pub use go_literal_core::denote_core::{
-        Builtin, Exported, Found, Names, Outcome, Selection, Stand,
+        Argument, Builtin, Denoted, Dot, Exported, Found, Names, Outcome, Selection, Stand,
+        argument_of, arguments_of, dot_of, fits_type, is_free, is_refused, name_answer,
+        single_rule,
     };
 }
 
 /// What the crates above name of `go_literal_core`.
 pub mod literal_core {
-    pub use go_literal_core::{LiteralField, Literals};
+    pub use go_literal_core::{Keys, LiteralField, Literals, keys_among};
 }
 
 /// What the crates above name of `go_local_core`.
@@ -50,22 +52,13 @@ pub mod local_core {
 
 /// What the crates above name of `go_operand_core`.
 pub mod operand_core {
-    pub use go_literal_core::operand_core::{Operand, TypeForm, TypeLooks, ValueType};
-}
-
-/// What the crates above name of `go_term_core`.
-pub mod term_core {
-    pub use go_literal_core::term_core::{
-        Field, FieldLine, LocalPlace, MemberPlace, Signature, TypeTerm,
+    pub use go_literal_core::operand_core::{
+        Operand, TypeForm, TypeLooks, ValueType, assignable_to, basic_under, default_type,
+        form_basic, increment, is_condition, update,
     };
 }
 
-/// What the crates above name of `go_tree_core`.
-pub mod tree_core {
-    pub use go_literal_core::tree_core::Role;
-}
-
-/// What the crates above name of `go_tree_nodes`.
-pub mod tree_nodes {
-    pub use go_tree_nodes::{TypeExpr, type_start};
+/// What the crates above name of `go_token_core`.
+pub mod token_core {
+    pub use go_tree_nodes::token_core::Operator;
 }

@@ -7,7 +7,7 @@ use Rattle.std.proofs.lemmas.Slice.Eq.{bytes_eq-Decides}
 use Rattle.go_text_core.specs.Text.{exported}
 use Rattle.go_entry_core.specs.decl_core.declared.keys.DeclRef.{DeclRef}
 use Rattle.go_entry_core.specs.block_core.Tables.{has, in_block, with_first}
-use Rattle.go_entry_core.specs.open_core.Blocks.{or_else}
+use Rattle.go_open_core.specs.Blocks.{or_else}
 use Rattle.go_entry_core.proofs.Among.{among_from}
 use Rattle.go_face_core.specs.Packages.{DeclaredOf, PackageFacesModel, as_seen, face_among, face_in_some, names_seen, package_faces, package_in, seen_after, shown_by, shown_in_some, shown_name, with_faces}
 use Rattle.go_face_core.specs.Showing.{FacesAreFound, FacesShowTheirBlock, TablesShowTheirPackages}

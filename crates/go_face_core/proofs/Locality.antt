@@ -13,7 +13,7 @@ use Rattle.go_entry_core.specs.block_core.Blocks.{BlocksModel}
 use Rattle.go_handle_core.specs.settle_core.Settled.{kind_of_term, settled, settled_sign}
 use Rattle.go_handle_core.specs.settle_core.Local.{settling_is_local, sign_alike}
 use Rattle.go_handle_core.specs.settle_core.Mentions.{settled_mentions_written}
-use Rattle.go_handle_core.specs.term_core.Terms.{Term, NoType, Predeclared, ErrorType, Defined, PointerTo, StructOf, InterfaceOf, is_no_type, term_keys, sign_keys}
+use Rattle.go_term_core.specs.Terms.{Term, NoType, Predeclared, ErrorType, Defined, PointerTo, StructOf, InterfaceOf, is_no_type, term_keys, sign_keys}
 use Rattle.go_handle_core.specs.table_core.Entries.{Entry, find_entry, term_in}
 use Rattle.go_entry_core.specs.written_core.Written.{InFile, Meaning, term_of, signature_of}
 use Rattle.go_entry_core.specs.written_core.ByNames.{written_by_names}

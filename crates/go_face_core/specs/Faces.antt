@@ -3,10 +3,10 @@
 -- docs/RULES.md, "Faces of declarations". The Go specification, "Declarations and scope", "Variables".
 use Rattle.std.specs.Prelude.{true, Option, None}
 use Rattle.std.specs.Option.{option_map}
-use Rattle.go_handle_core.specs.term_core.declared.term.TypeTerm.{TypeTerm}
-use Rattle.go_handle_core.specs.term_core.declared.term.Signature.{Signature}
-use Rattle.go_handle_core.specs.term_core.Terms.{Term, Sign}
-use Rattle.go_handle_core.specs.term_core.Shapes.{shape, sign_of}
+use Rattle.go_term_core.specs.declared.term.TypeTerm.{TypeTerm}
+use Rattle.go_term_core.specs.declared.term.Signature.{Signature}
+use Rattle.go_term_core.specs.Terms.{Term, Sign}
+use Rattle.go_term_core.specs.Shapes.{shape, sign_of}
 use Rattle.go_handle_core.specs.operand_core.declared.types.ValueType.{ValueType}
 use Rattle.go_handle_core.specs.operand_core.declared.types.ValueType.TheVariants as value_types
 use Rattle.go_handle_core.specs.operand_core.declared.types.Operand.{Operand}

@@ -1,7 +1,7 @@
 -- What is held of declarations, as contracts see it.
 use Rattle.std.specs.Prelude.{Option, Some, None}
 use Rattle.std.specs.Option.{option_map}
-use Rattle.go_handle_core.specs.term_core.Shapes.{shape, sign_of}
+use Rattle.go_term_core.specs.Shapes.{shape, sign_of}
 use Rattle.go_face_core.specs.declared.face.Face.TheVariants as faces
 use Rattle.go_face_core.specs.declared.shown.DeclaredFace.{DeclaredFace}
 use Rattle.go_face_core.specs.declared.written.WrittenDecl.{WrittenDecl}

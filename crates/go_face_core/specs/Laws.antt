@@ -7,7 +7,7 @@ use Rattle.go_entry_core.specs.decl_core.declared.keys.DeclRef.{DeclRef}
 use Rattle.go_tree_nodes.specs.Trees.{TypeSpecTree}
 use Rattle.go_entry_core.specs.decl_core.TopDecls.{TopDeclTree, TypeForm, kind_of_form}
 use Rattle.go_entry_core.specs.block_core.Blocks.{BlocksModel}
-use Rattle.go_handle_core.specs.term_core.Terms.{term_keys}
+use Rattle.go_term_core.specs.Terms.{term_keys}
 use Rattle.go_handle_core.specs.table_core.Entries.{Entry, find_entry}
 use Rattle.go_entry_core.specs.Entries.{file_at, type_key}
 use Rattle.go_entry_core.specs.Laws.{IsDeclaredInFile}

@@ -9,8 +9,8 @@ use Rattle.go_entry_core.specs.decl_core.declared.places.DeclKind.{DeclKind}
 use Rattle.go_entry_core.specs.decl_core.declared.places.DeclKind.TheVariants as kinds
 use Rattle.go_entry_core.specs.decl_core.Sample.{one_param, top}
 use Rattle.go_entry_core.specs.block_core.Blocks.{BlocksModel, blocks_model}
-use Rattle.go_handle_core.specs.term_core.declared.term.Basic.TheVariants as basics
-use Rattle.go_handle_core.specs.term_core.Terms.{Term, Predeclared, Defined, PointerTo, SignOf, NoTerm, ATerm}
+use Rattle.go_term_core.specs.declared.term.Basic.TheVariants as basics
+use Rattle.go_term_core.specs.Terms.{Term, Predeclared, Defined, PointerTo, SignOf, NoTerm, ATerm}
 use Rattle.go_handle_core.specs.table_core.Entries.{Entry}
 use Rattle.go_entry_core.specs.Meanings.{Shows}
 use Rattle.go_entry_core.specs.Outlines.{outline_of}

@@ -12,7 +12,7 @@ use Rattle.go_entry_core.specs.decl_core.declared.keys.DeclRef.{DeclRef}
 use Rattle.go_entry_core.specs.decl_core.TopDecls.{TopDeclTree, FormTree, ValueForm, TypeForm, FuncForm, kind_of_form}
 use Rattle.go_entry_core.specs.block_core.Blocks.{BlocksModel}
 use Rattle.go_handle_core.specs.settle_core.Settled.{settled, settled_sign}
-use Rattle.go_handle_core.specs.term_core.Terms.{Term, Defined}
+use Rattle.go_term_core.specs.Terms.{Term, Defined}
 use Rattle.go_handle_core.specs.table_core.Entries.{Entry, find_entry}
 use Rattle.go_entry_core.specs.written_core.Written.{InFile, Meaning, term_of, signature_of}
 use Rattle.go_entry_core.specs.Outlines.{FileOutline}

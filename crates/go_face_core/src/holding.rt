@@ -1,15 +1,15 @@
 //! Faces that are held, of lent ones.
 ghost use Rattle.std.specs.Prelude.{◌≡◌, IfOk};
 ghost use Rattle.std.specs.Option.{option_map};
-ghost use Rattle.go_handle_core.specs.term_core.Shapes.{shape, sign_of};
-ghost use Rattle.go_handle_core.specs.term_core.Terms.{PointerTo};
+ghost use Rattle.go_term_core.specs.Shapes.{shape, sign_of};
+ghost use Rattle.go_term_core.specs.Terms.{PointerTo};
 ghost use Rattle.go_handle_core.specs.Stars.{starred};
 ghost use Rattle.go_face_core.specs.Faces.{face_shown, operand_shown, value_type_shown};
 
 use crate::face::Face;
 use go_handle_core::operand_core::{Operand, ValueType};
-use go_handle_core::term_core::{Signature, TypeTerm, copy, copy_signature};
 use go_handle_core::{SignatureRef, TypeRef};
+use go_term_core::{Signature, TypeTerm, copy, copy_signature};
 use go_text_core::boxed;
 use std::alloc::{AllocError, Global};
 

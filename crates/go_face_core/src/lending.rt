@@ -1,13 +1,13 @@
 //! Faces that are lent.
 ghost use Rattle.std.specs.Prelude.{◌≡◌, IfOk};
 ghost use Rattle.std.specs.Option.{option_map};
-ghost use Rattle.go_handle_core.specs.term_core.Shapes.{shape};
+ghost use Rattle.go_term_core.specs.Shapes.{shape};
 ghost use Rattle.go_face_core.specs.Faces.{face_shown, operand_shown, value_type_shown, face_variable};
 
 use crate::face::Face;
 use go_handle_core::operand_core::{Operand, ValueType};
-use go_handle_core::term_core::{Signature, TypeTerm};
 use go_handle_core::{SignatureRef, TypeRef};
+use go_term_core::{Signature, TypeTerm};
 use std::alloc::AllocError;
 
 /// A type that may be there, lent.

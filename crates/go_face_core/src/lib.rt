@@ -30,23 +30,34 @@ pub use written::WrittenFaces;
 /// What the crates above name of `go_block_core`.
 pub mod block_core {
     pub use go_entry_core::block_core::{
-        Blocks, Exports, Imported, NamedDecl, blocks, import_names,
+        Binding, BlockFault, Blocks, DeclKind, DeclRef, Exports, Imported, NamedDecl, Target,
+        blocks, import_names, import_specs, one_blocks_alone, workspace_blocks,
     };
 }
 
-/// What the crates above name of `go_denote_core`.
-pub mod denote_core {
-    pub use go_handle_core::denote_core::Outcome;
+/// What the crates above name of `go_constant_core`.
+pub mod constant_core {
+    pub use go_handle_core::constant_core::Constant;
+}
+
+/// What the crates above name of `go_embed_core`.
+pub mod embed_core {
+    pub use go_handle_core::embed_core::{
+        Hits, MemberFault, check_base, check_hidden_fields, check_methods, check_struct, has_method,
+    };
 }
 
 /// What the crates above name of `go_entry_core`.
 pub mod entry_core {
-    pub use go_entry_core::ShownPackages;
+    pub use go_entry_core::{FileNames, ImportedNames, ShownPackages, outlines, type_entries};
 }
 
 /// What the crates above name of `go_graph_core`.
 pub mod graph_core {
-    pub use go_entry_core::graph_core::{Package, SourceFile};
+    pub use go_entry_core::graph_core::{
+        ImportAt, ImportOutcome, Package, PackageSource, Plan, SourceFile, Workspace, assemble,
+        one_outcome, plan_imports,
+    };
 }
 
 /// What the crates above name of `go_handle_core`.
@@ -57,17 +68,49 @@ pub mod handle_core {
     };
 }
 
+/// What the crates above name of `go_mset_core`.
+pub mod mset_core {
+    pub use go_handle_core::mset_core::{implements, implements_by_pointer, method_set};
+}
+
 /// What the crates above name of `go_operand_core`.
 pub mod operand_core {
-    pub use go_handle_core::operand_core::{Operand, ValueType};
+    pub use go_handle_core::operand_core::{Operand, TypeForm, TypeLooks, ValueType};
+}
+
+/// What the crates above name of `go_parse_core`.
+pub mod parse_core {
+    pub use go_entry_core::parse_core::{ParseError, Parsed, one_rule, one_tree, parse, tree_of};
+}
+
+/// What the crates above name of `go_scope_core`.
+pub mod scope_core {
+    pub use go_entry_core::scope_core::{DeclId, InScope, Scopes, ShortDecl, ShortName};
 }
 
 /// What the crates above name of `go_select_core`.
 pub mod select_core {
-    pub use go_handle_core::select_core::EmbedPath;
+    pub use go_handle_core::select_core::{EmbedPath, Member, Owner, Selected, select, selectable};
+}
+
+/// What the crates above name of `go_settle_core`.
+pub mod settle_core {
+    pub use go_handle_core::settle_core::{Kinds, settle};
 }
 
 /// What the crates above name of `go_table_core`.
 pub mod table_core {
-    pub use go_handle_core::table_core::{DeclaredMethod, DefinedType, PackageTypes, TypeTable};
+    pub use go_handle_core::table_core::{
+        DeclaredMethod, DefinedType, PackageTypes, StructField, TypeEntry, TypeTable,
+    };
+}
+
+/// What the crates above name of `go_type_core`.
+pub mod type_core {
+    pub use go_handle_core::type_core::{PackageTypes, TypeFault, TypeTable, build_types};
+}
+
+/// What the crates above name of `go_written_core`.
+pub mod written_core {
+    pub use go_entry_core::written_core::{TypeNames, WrittenIn, write_type};
 }

@@ -2,7 +2,7 @@
 ghost use Rattle.std.specs.Prelude.{◌≡◌, IfOk};
 ghost use Rattle.std.specs.Option.{option_map};
 ghost use Rattle.go_tree_nodes.specs.TypeShapes.{shape_type, shape_signature};
-ghost use Rattle.go_handle_core.specs.term_core.Shapes.{shape, sign_of};
+ghost use Rattle.go_term_core.specs.Shapes.{shape, sign_of};
 ghost use Rattle.go_handle_core.specs.table_core.Entries.{find_entry};
 ghost use Rattle.go_handle_core.specs.settle_core.Settled.{settled_sign};
 ghost use Rattle.go_entry_core.specs.written_core.Written.{in_file, signature_of};
@@ -13,7 +13,7 @@ ghost use Rattle.go_handle_core.specs.table_core.Entries.{kinds_in};
 use go_entry_core::written_core::{TypeNames, WrittenIn, write_signature, write_type};
 use go_handle_core::settle_core::{settle, settle_signature};
 use go_handle_core::table_core::TypeTable;
-use go_handle_core::term_core::{Signature, TypeTerm, is_no_type};
+use go_term_core::{Signature, TypeTerm, is_no_type};
 use go_tree_nodes::TypeExpr;
 use std::alloc::{AllocError, Global};
 

@@ -3,7 +3,7 @@ ghost use Rattle.std.specs.Prelude.{◌≡◌, [], OnOk, OnErr, option_copied};
 ghost use Rattle.go_face_core.specs.Packages.{package_in, with_faces};
 
 use crate::shown::PackageFaces;
-use go_handle_core::path_core::ImportPath;
+use go_path_core::ImportPath;
 use indexmap::IndexMap;
 use std::alloc::{AllocError, Global};
 use std::marker::Model;

@@ -7,8 +7,8 @@ ghost use Rattle.go_face_core.specs.Written.{DeclsRise, decls_of, position_of, w
 use crate::face::Face;
 use crate::lending::{lend_type, variable};
 use go_entry_core::decl_core::{DeclRef, place_order};
-use go_handle_core::term_core::{Signature, TypeTerm};
 use go_handle_core::{SignatureRef, TypeRef};
+use go_term_core::{Signature, TypeTerm};
 use std::marker::Model;
 
 /// What a declaration is as it is written.

@@ -2,7 +2,7 @@
 use Rattle.std.proofs.Common.{◌≡◌, ℕ, ◌+◌, ◌<◌, ◌≤◌, List, [], ◌++◌, map, length, take, get_or, ◌∷◌, refl, ap, sym, ◌∙◌}
 use Rattle.std.specs.List.{flat_map, enumerate_from}
 use Rattle.std.proofs.lemmas.List.{append_assoc, get_or_default, take_all}
-use Rattle.go_entry_core.proofs.Numbered.{flat_more, flat_item}
+use Rattle.go_summary_core.specs.entry_core.Numbered.{flat_more, flat_item}
 
 -- what each item of a list gives, seen in another way
 pub item_step : {A B C : Type 0} (see : A → B) (f : B → List C) (xs : List A) (i : ℕ) (x : A) (first old new : List C) → i < length xs → x ≡ get_or xs i x

@@ -2,12 +2,12 @@
 use Rattle.std.specs.Prelude.{ℕ, List, [], ◌∷◌, Option, Some, None, slice_get}
 use Rattle.std.specs.List.{flat_map}
 use Rattle.go_text_core.specs.declared.rule.Rule.{Rule}
-use Rattle.go_embed_core.specs.decl_core.declared.keys.DeclRef.{DeclRef}
-use Rattle.go_embed_core.specs.decl_core.declared.places.Place.{Place}
-use Rattle.go_embed_core.specs.term_core.declared.term.MemberPlace.{MemberPlace}
-use Rattle.go_embed_core.specs.term_core.declared.term.MemberPlace.TheVariants as places
-use Rattle.go_embed_core.specs.declared.faults.MemberFault.{MemberFault}
-use Rattle.go_entry_core.specs.Outlines.{FileOutline}
+use Rattle.go_term_core.specs.decl_core.declared.keys.DeclRef.{DeclRef}
+use Rattle.go_term_core.specs.decl_core.declared.places.Place.{Place}
+use Rattle.go_term_core.specs.declared.term.MemberPlace.{MemberPlace}
+use Rattle.go_term_core.specs.declared.term.MemberPlace.TheVariants as places
+use Rattle.go_summary_core.specs.embed_core.declared.faults.MemberFault.{MemberFault}
+use Rattle.go_summary_core.specs.entry_core.Outlines.{FileOutline}
 use Rattle.go_fault_core.specs.declared.places.PackageFault.{PackageFault}
 
 abbrev pub fault_in : ℕ → ℕ → Rule → PackageFault

@@ -9,18 +9,18 @@ use Rattle.go_tree_nodes.specs.declared.files.Receiver.{Receiver}
 use Rattle.go_tree_nodes.specs.declared.types.TypeName.{TypeName}
 use Rattle.go_tree_nodes.specs.Starts.{type_name_start}
 use Rattle.go_tree_nodes.specs.Trees.{FuncTree}
-use Rattle.go_embed_core.specs.decl_core.TopDecls.{TopDeclTree, FormTree, ValueForm, TypeForm, FuncForm}
-use Rattle.go_embed_core.specs.term_core.declared.term.MemberPlace.TheVariants as places
-use Rattle.go_embed_core.specs.term_core.Terms.{Term, NoType, Predeclared, ErrorType, Defined, PointerTo, StructOf, InterfaceOf}
-use Rattle.go_embed_core.specs.table_core.Entries.{Entry, find_entry, term_in}
-use Rattle.go_embed_core.specs.type_core.declared.build.TypeFault.{TypeFault}
-use Rattle.go_embed_core.specs.Faults.{term_faults, declared_faults, hidden_faults, can_be_base}
-use Rattle.go_entry_core.specs.written_core.Written.{Meaning}
-use Rattle.go_entry_core.specs.Entries.{Meanings}
-use Rattle.go_entry_core.specs.Outlines.{FileOutline}
+use Rattle.go_term_core.specs.decl_core.TopDecls.{TopDeclTree, FormTree, ValueForm, TypeForm, FuncForm}
+use Rattle.go_term_core.specs.declared.term.MemberPlace.TheVariants as places
+use Rattle.go_term_core.specs.Terms.{Term, NoType, Predeclared, ErrorType, Defined, PointerTo, StructOf, InterfaceOf}
+use Rattle.go_summary_core.specs.table_core.Entries.{Entry, find_entry, term_in}
+use Rattle.go_summary_core.specs.type_core.declared.build.TypeFault.{TypeFault}
+use Rattle.go_summary_core.specs.embed_core.Faults.{term_faults, declared_faults, hidden_faults, can_be_base}
+use Rattle.go_summary_core.specs.written_core.Written.{Meaning}
+use Rattle.go_summary_core.specs.entry_core.Entries.{Meanings}
+use Rattle.go_summary_core.specs.entry_core.Outlines.{FileOutline}
 use Rattle.go_fault_core.specs.declared.places.PackageFault.{PackageFault}
 use Rattle.go_fault_core.specs.Places.{fault_in, located, all_located}
-use Rattle.go_embed_core.specs.table_core.Entries.{kinds_in}
+use Rattle.go_summary_core.specs.table_core.Entries.{kinds_in}
 
 -- the type whose fields the methods of a defined type may meet: its underlying type, or, where it is no type, the type as it is written
 abbrev pub met_type : Term → Term → Term

@@ -1,21 +1,21 @@
 //! The faults of type declarations.
 ghost use Rattle.std.specs.Prelude.{◌≡◌, ◌++◌, IfOk, OnOk, map, slice_get};
-ghost use Rattle.go_embed_core.specs.term_core.Shapes.{shape};
-ghost use Rattle.go_embed_core.specs.table_core.Shown.{entry_shown};
-ghost use Rattle.go_entry_core.specs.Entries.{package_meanings};
-ghost use Rattle.go_entry_core.specs.Outlines.{outline_shown};
+ghost use Rattle.go_term_core.specs.Shapes.{shape};
+ghost use Rattle.go_summary_core.specs.table_core.Shown.{entry_shown};
+ghost use Rattle.go_summary_core.specs.entry_core.Entries.{package_meanings};
+ghost use Rattle.go_summary_core.specs.entry_core.Outlines.{outline_shown};
 ghost use Rattle.go_fault_core.specs.TypeFaults.{entries_faults, entry_faults, faults_of_types, type_loop_fault, loops_faults, met_in};
 
 use crate::places::{PackageFault, add_fault, add_faults};
 use crate::receivers::add_receivers;
-use go_embed_core::decl_core::Outline;
-use go_embed_core::table_core::{TypeEntry, TypeTable};
-use go_embed_core::term_core::{MemberPlace, TypeTerm};
-use go_embed_core::type_core::TypeFault;
-use go_embed_core::{check_hidden_fields, check_methods, check_struct};
-use go_entry_core::ImportedNames;
-use go_entry_core::block_core::Blocks;
 use go_path_core::ImportPath;
+use go_summary_core::block_core::Blocks;
+use go_summary_core::embed_core::{check_hidden_fields, check_methods, check_struct};
+use go_summary_core::entry_core::ImportedNames;
+use go_summary_core::table_core::{TypeEntry, TypeTable};
+use go_summary_core::type_core::TypeFault;
+use go_term_core::decl_core::Outline;
+use go_term_core::{MemberPlace, TypeTerm};
 use std::alloc::{AllocError, Global};
 
 /// The types of a package as they are written, beside its files. All is lent.

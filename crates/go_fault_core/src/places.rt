@@ -1,11 +1,11 @@
 //! Faults at places of the files of a package.
 ghost use Rattle.std.specs.Prelude.{◌≡◌, ◌++◌, OnOk, map};
-ghost use Rattle.go_entry_core.specs.Outlines.{outline_shown};
+ghost use Rattle.go_summary_core.specs.entry_core.Outlines.{outline_shown};
 ghost use Rattle.go_fault_core.specs.Places.{all_located, located, file_place_of};
 
-use go_embed_core::MemberFault;
-use go_embed_core::decl_core::Outline;
-use go_embed_core::term_core::MemberPlace;
+use go_summary_core::embed_core::MemberFault;
+use go_term_core::MemberPlace;
+use go_term_core::decl_core::Outline;
 use go_text_core::Rule;
 use std::alloc::{AllocError, Global};
 

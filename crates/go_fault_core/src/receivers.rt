@@ -1,19 +1,19 @@
 //! The faults of receivers.
 ghost use Rattle.std.specs.Prelude.{◌≡◌, ◌++◌, OnOk, map};
-ghost use Rattle.go_embed_core.specs.decl_core.Shown.{decl_shown};
+ghost use Rattle.go_term_core.specs.decl_core.Shown.{decl_shown};
 ghost use Rattle.go_tree_nodes.specs.Shapes.{func_of};
-ghost use Rattle.go_entry_core.specs.Entries.{package_meanings};
-ghost use Rattle.go_entry_core.specs.Outlines.{outline_shown};
+ghost use Rattle.go_summary_core.specs.entry_core.Entries.{package_meanings};
+ghost use Rattle.go_summary_core.specs.entry_core.Outlines.{outline_shown};
 ghost use Rattle.go_fault_core.specs.TypeFaults.{base_fault, file_receivers, form_fault, received_fault, receivers_faults};
 
 use crate::places::PackageFault;
-use go_embed_core::check_base;
-use go_embed_core::decl_core::{DeclForm, Outline, TopDecl};
-use go_embed_core::table_core::TypeTable;
-use go_entry_core::block_core::Blocks;
-use go_entry_core::written_core::TypeNames;
-use go_entry_core::{FileNames, ImportedNames};
 use go_path_core::ImportPath;
+use go_summary_core::block_core::Blocks;
+use go_summary_core::embed_core::check_base;
+use go_summary_core::entry_core::{FileNames, ImportedNames};
+use go_summary_core::table_core::TypeTable;
+use go_summary_core::written_core::TypeNames;
+use go_term_core::decl_core::{DeclForm, Outline, TopDecl};
 use go_tree_nodes::{FuncDecl, TypeName, type_name_start};
 use std::alloc::{AllocError, Global};
 

@@ -13,15 +13,15 @@ use Rattle.go_func_core.specs.tree_core.declared.occurrence.Occ.{Occ}
 use Rattle.go_func_core.specs.tree_core.Occurrences.{group_occs, specs_occs, value_spec_occs, type_spec_occs, decl_occs, tops_occs, import_occs, imports_occs}
 use Rattle.go_func_core.specs.block_core.declared.imports.Imported.{Imported}
 use Rattle.go_func_core.specs.block_core.Naming.{specs_in, specs_of, file_specs}
-use Rattle.go_func_core.specs.term_core.Terms.{Term, Sign}
+use Rattle.go_term_core.specs.Terms.{Term, Sign}
 use Rattle.go_func_core.specs.handle_core.Declarations.{Declaration}
-use Rattle.go_top_core.specs.local_core.Steps.{Spec}
-use Rattle.go_top_core.specs.expr_core.Laws.{use_place, occurrence_place}
-use Rattle.go_top_core.specs.expr_core.Occurring.{uses_occur}
-use Rattle.go_top_core.specs.piece_core.Specifications.{spec_uses}
-use Rattle.go_top_core.specs.piece_core.Occurring.{pieces_occur}
+use Rattle.go_func_core.specs.local_core.Steps.{Spec}
+use Rattle.go_func_core.specs.expr_core.Laws.{use_place, occurrence_place}
+use Rattle.go_func_core.specs.expr_core.Occurring.{uses_occur}
+use Rattle.go_func_core.specs.piece_core.Specifications.{spec_uses}
+use Rattle.go_func_core.specs.piece_core.Occurring.{pieces_occur}
 use Rattle.go_func_core.specs.env_core.Looks.{TheLooks}
-use Rattle.go_top_core.specs.Tops.{type_spec_uses}
+use Rattle.go_func_core.specs.top_core.Tops.{type_spec_uses}
 use Rattle.go_func_core.specs.body_core.Notes.{TheUse}
 use Rattle.go_func_core.specs.Stands.{FileStand, outer_looks}
 use Rattle.go_func_core.proofs.Occurring.{functions_have_occurrences}

@@ -4,7 +4,7 @@ use Rattle.std.specs.List.{AllZip}
 use Rattle.std.proofs.lemmas.List.{map-append}
 use Rattle.go_tree_nodes.specs.declared.files.File.{File}
 use Rattle.go_func_core.specs.entry_core.Meanings.{Shows}
-use Rattle.go_top_core.specs.local_core.declared.Fault.{Fault}
+use Rattle.go_func_core.specs.local_core.declared.Fault.{Fault}
 use Rattle.go_func_core.specs.body_core.Notes.{TheUse, TheLocal}
 use Rattle.go_file_core.specs.declared.file_at.FileAt.{FileAt}
 use Rattle.go_file_core.specs.declared.whole.CheckedFile.{CheckedFile}

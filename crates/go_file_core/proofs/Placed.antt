@@ -6,7 +6,7 @@ use Rattle.go_tree_nodes.specs.Terminals.{InOrder}
 use Rattle.go_tree_nodes.specs.Trees.{FuncTree, DeclTree, Value, Types, Func, TopTree}
 use Rattle.go_tree_nodes.specs.Spelling.{mark, spell_decl, spell_tops, spell_imports}
 use Rattle.go_tree_nodes.proofs.InOrder.{in_order_split}
-use Rattle.go_top_core.specs.local_core.Tables.{IsFuncPlaced}
+use Rattle.go_func_core.specs.local_core.Tables.{IsFuncPlaced}
 use Rattle.go_file_core.specs.Stands.{decl_funcs, tops_funcs}
 use Rattle.go_file_core.specs.Laws.{FunctionsArePlaced}
 

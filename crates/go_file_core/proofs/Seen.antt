@@ -9,24 +9,24 @@ use Rattle.go_tree_nodes.specs.declared.decls.ValueKind.{ValueKind}
 use Rattle.go_tree_nodes.specs.declared.decls.ValueKind.TheVariants as kinds
 use Rattle.go_tree_nodes.specs.Trees.{Separated, One, Then, TypeTree, ExprTree, ValueSpecTree, TypeSpecTree, Specs, Single, Group, ValueTree, TypeDeclTree, of_specs}
 use Rattle.go_tree_nodes.specs.WrittenTypes.{expr_types, exprs_types, values_types, some_type, spec_types, specs_types}
-use Rattle.go_func_core.specs.term_core.Terms.{Term, Sign}
+use Rattle.go_term_core.specs.Terms.{Term, Sign}
 use Rattle.go_func_core.specs.handle_core.Declarations.{Declaration}
-use Rattle.go_top_core.specs.local_core.Steps.{Spec, Condition}
-use Rattle.go_top_core.specs.denote_core.declared.things.Stand.TheVariants as stands
-use Rattle.go_top_core.specs.expr_core.Places.{start}
-use Rattle.go_top_core.specs.expr_core.Faults.{fault_at}
-use Rattle.go_top_core.specs.expr_core.Denoting.{named_type}
-use Rattle.go_top_core.specs.expr_core.Laws.{AgreeOnIdents}
-use Rattle.go_top_core.specs.expr_core.Locality.{SameWritten}
-use Rattle.go_top_core.specs.expr_core.Alike.{pieces, expressions_seen}
-use Rattle.go_top_core.specs.inline_core.Types.{InlineOf}
-use Rattle.go_top_core.specs.piece_core.Laws.{SamePiece, SameOuter, piece_idents}
-use Rattle.go_top_core.specs.local_core.Pieces.{piece_types}
-use Rattle.go_top_core.specs.piece_core.Specifications.{spec_uses}
-use Rattle.go_top_core.specs.piece_core.Local.{pieces_local, outer_local}
+use Rattle.go_func_core.specs.local_core.Steps.{Spec, Condition}
+use Rattle.go_func_core.specs.denote_core.declared.things.Stand.TheVariants as stands
+use Rattle.go_func_core.specs.expr_core.Places.{start}
+use Rattle.go_func_core.specs.expr_core.Faults.{fault_at}
+use Rattle.go_func_core.specs.expr_core.Denoting.{named_type}
+use Rattle.go_func_core.specs.expr_core.Laws.{AgreeOnIdents}
+use Rattle.go_func_core.specs.expr_core.Locality.{SameWritten}
+use Rattle.go_func_core.specs.expr_core.Alike.{pieces, expressions_seen}
+use Rattle.go_func_core.specs.inline_core.Types.{InlineOf}
+use Rattle.go_func_core.specs.piece_core.Laws.{SamePiece, SameOuter, piece_idents}
+use Rattle.go_func_core.specs.local_core.Pieces.{piece_types}
+use Rattle.go_func_core.specs.piece_core.Specifications.{spec_uses}
+use Rattle.go_func_core.specs.piece_core.Local.{pieces_local, outer_local}
 use Rattle.go_func_core.specs.env_core.Looks.{TheLooks, inline_rules}
-use Rattle.go_top_core.specs.Initial.{initial_rule, expr_initial_faults, list_initial_faults, values_initial_faults, initial_faults}
-use Rattle.go_top_core.specs.Tops.{top_spec_faults, value_decl_uses, value_decl_faults, type_spec_uses, type_decl_uses}
+use Rattle.go_func_core.specs.top_core.Initial.{initial_rule, expr_initial_faults, list_initial_faults, values_initial_faults, initial_faults}
+use Rattle.go_func_core.specs.top_core.Tops.{top_spec_faults, value_decl_uses, value_decl_faults, type_spec_uses, type_decl_uses}
 use Rattle.go_func_core.specs.body_core.Rules.{outside_looks}
 use Rattle.go_func_core.specs.Stands.{FileStand, outer_looks}
 use Rattle.go_file_core.specs.mirrors.Steps.{AreSeen}

@@ -9,14 +9,14 @@ use Rattle.go_tree_nodes.specs.Shapes.{shape_type_decl, shape_value}
 use Rattle.go_func_core.specs.scope_core.Models.{scopes_model}
 use Rattle.go_func_core.specs.entry_core.Meanings.{Shows}
 use Rattle.go_func_core.specs.names_core.declared.look.OpenNames.{OpenNames}
-use Rattle.go_top_core.specs.local_core.Tables.{IsFuncPlaced}
-use Rattle.go_top_core.specs.inline_core.Types.{InlineOf}
-use Rattle.go_top_core.specs.local_core.declared.Fault.{Fault}
+use Rattle.go_func_core.specs.local_core.Tables.{IsFuncPlaced}
+use Rattle.go_func_core.specs.inline_core.Types.{InlineOf}
+use Rattle.go_func_core.specs.local_core.declared.Fault.{Fault}
 use Rattle.go_func_core.specs.env_core.declared.here.Here.{Here}
 use Rattle.go_func_core.specs.env_core.declared.meaning.Meaning.{Meaning}
 use Rattle.go_func_core.specs.env_core.Scenes.{scene_shown}
 use Rattle.go_func_core.specs.env_core.Looks.{here_looks, inline_rules}
-use Rattle.go_top_core.specs.Tops.{value_decl_uses, value_decl_faults, type_decl_uses}
+use Rattle.go_func_core.specs.top_core.Tops.{value_decl_uses, value_decl_faults, type_decl_uses}
 use Rattle.go_func_core.specs.body_core.Notes.{TheUse, TheLocal}
 use Rattle.go_func_core.specs.body_core.Body.{IsGivenBody}
 use Rattle.go_func_core.specs.body_core.Standing.{on_ok, top_standing}

@@ -7,9 +7,9 @@ use Rattle.go_tree_nodes.specs.declared.files.TopDecl.{TopDecl}
 use Rattle.go_tree_nodes.specs.Trees.{FuncTree, DeclTree, Value, Types, Func, TopTree}
 use Rattle.go_tree_nodes.specs.Shapes.{top_of, decl_of}
 use Rattle.go_func_core.specs.entry_core.Numbered.{flat_item}
-use Rattle.go_top_core.specs.local_core.Tables.{IsFuncPlaced}
-use Rattle.go_top_core.specs.inline_core.Types.{InlineOf}
-use Rattle.go_top_core.specs.inline_core.Trees.{decl_types}
+use Rattle.go_func_core.specs.local_core.Tables.{IsFuncPlaced}
+use Rattle.go_func_core.specs.inline_core.Types.{InlineOf}
+use Rattle.go_func_core.specs.inline_core.Trees.{decl_types}
 use Rattle.go_func_core.specs.Stands.{FileStand}
 use Rattle.go_func_core.specs.Laws.{AreFuncTypes}
 use Rattle.go_file_core.specs.Stands.{decl_funcs, tops_funcs}

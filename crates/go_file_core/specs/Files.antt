@@ -7,8 +7,8 @@ use Rattle.std.specs.List.{flat_map}
 use Rattle.go_tree_nodes.specs.Trees.{DeclTree, Value, Types, Func, TopTree, FileTree}
 use Rattle.go_func_core.specs.block_core.declared.imports.Imported.{Imported}
 use Rattle.go_func_core.specs.block_core.Naming.{file_specs}
-use Rattle.go_top_core.specs.local_core.declared.Fault.{Fault}
-use Rattle.go_top_core.specs.Tops.{value_decl_uses, value_decl_faults, type_decl_uses, type_decl_faults}
+use Rattle.go_func_core.specs.local_core.declared.Fault.{Fault}
+use Rattle.go_func_core.specs.top_core.Tops.{value_decl_uses, value_decl_faults, type_decl_uses, type_decl_faults}
 use Rattle.go_func_core.specs.body_core.Notes.{TheUse, TheLocal}
 use Rattle.go_func_core.specs.Stands.{FileStand, outer_looks}
 use Rattle.go_func_core.specs.Functions.{checked_func}

@@ -6,8 +6,8 @@ use Rattle.go_tree_nodes.specs.Trees.{ImportSpecTree}
 use Rattle.go_func_core.specs.tree_core.declared.occurrence.Role.TheVariants as roles
 use Rattle.go_func_core.specs.block_core.declared.imports.Imported.{Imported}
 use Rattle.go_func_core.specs.block_core.declared.imports.Imported.TheVariants as given
-use Rattle.go_top_core.specs.denote_core.declared.things.Outcome.{Outcome}
-use Rattle.go_top_core.specs.denote_core.declared.things.Outcome.TheVariants as outcomes
+use Rattle.go_func_core.specs.denote_core.declared.things.Outcome.{Outcome}
+use Rattle.go_func_core.specs.denote_core.declared.things.Outcome.TheVariants as outcomes
 use Rattle.go_func_core.specs.handle_core.Declarations.{Declaration, Package}
 use Rattle.go_func_core.specs.body_core.Notes.{TheUse}
 

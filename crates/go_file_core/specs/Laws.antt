@@ -7,8 +7,8 @@ use Rattle.go_tree_nodes.specs.Rules.{Wf_file}
 use Rattle.go_func_core.specs.tree_core.Occurrences.{file_occs}
 use Rattle.go_func_core.specs.block_core.declared.imports.Imported.{Imported}
 use Rattle.go_func_core.specs.block_core.Naming.{file_specs}
-use Rattle.go_top_core.specs.local_core.Tables.{IsFuncPlaced}
-use Rattle.go_top_core.specs.expr_core.Laws.{use_place, occurrence_place}
+use Rattle.go_func_core.specs.local_core.Tables.{IsFuncPlaced}
+use Rattle.go_func_core.specs.expr_core.Laws.{use_place, occurrence_place}
 use Rattle.go_func_core.specs.Stands.{FileStand}
 use Rattle.go_file_core.specs.Files.{decl_uses, decl_faults, decl_locals, tops_uses, tops_faults, tops_locals, file_uses}
 use Rattle.go_file_core.specs.Stands.{file_funcs}

@@ -5,14 +5,7 @@ pub mod Package
 pub mod Stands
 pub mod mirrors
 pub mod body_core
-pub mod entry_core
-pub mod env_core
 pub mod func_core
-pub mod inline_core
-pub mod names_core
 pub mod piece_core
-pub mod statement_core
+pub mod select_core
 pub mod top_core
-pub mod tree_core
-pub mod type_core
-pub mod walk_core

@@ -6,7 +6,7 @@ use Rattle.go_tree_nodes.specs.Trees.{FileTree}
 use Rattle.go_tree_nodes.specs.Shapes.{file_of}
 use Rattle.go_func_core.specs.block_core.declared.imports.Imported.{Imported}
 use Rattle.go_func_core.specs.entry_core.Meanings.{Shows}
-use Rattle.go_top_core.specs.local_core.declared.Fault.{Fault}
+use Rattle.go_func_core.specs.local_core.declared.Fault.{Fault}
 use Rattle.go_func_core.specs.body_core.Notes.{TheUse, TheLocal}
 use Rattle.go_func_core.specs.Stands.{FileStand}
 use Rattle.go_file_core.specs.declared.file_at.FileAt.{FileAt}

@@ -5,9 +5,9 @@ use Rattle.std.specs.Prelude.{◌≡◌, ℕ, List, [], ◌∷◌}
 use Rattle.std.specs.List.{flat_map, AllZip}
 use Rattle.go_tree_nodes.specs.Trees.{FuncTree, DeclTree, Value, Types, Func, TopTree, FileTree}
 use Rattle.go_func_core.specs.entry_core.Meanings.{Shows, file_meaning}
-use Rattle.go_top_core.specs.inline_core.Types.{InlineOf}
-use Rattle.go_top_core.specs.inline_core.Trees.{file_types}
-use Rattle.go_top_core.specs.inline_core.Inline.{inlines}
+use Rattle.go_func_core.specs.inline_core.Types.{InlineOf}
+use Rattle.go_func_core.specs.inline_core.Trees.{file_types}
+use Rattle.go_func_core.specs.inline_core.Inline.{inlines}
 use Rattle.go_func_core.specs.env_core.Scenes.{scene_shown}
 use Rattle.go_func_core.specs.Stands.{FileStand, kinds_in_scene}
 use Rattle.go_func_core.specs.Laws.{AreFuncTypes}

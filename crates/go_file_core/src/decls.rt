@@ -2,11 +2,11 @@
 ghost use Rattle.std.specs.Prelude.{◌≡◌, ◌++◌, [], IfOk, OnOk, map};
 ghost use Rattle.go_tree_nodes.specs.Shapes.{decl_of, func_of, shape_type_decl, shape_value, top_of};
 ghost use Rattle.go_tree_nodes.specs.WrittenTypes.{specs_types};
-ghost use Rattle.go_top_core.specs.local_core.Tables.{IsFuncPlaced};
-ghost use Rattle.go_top_core.specs.inline_core.Trees.{decl_types};
+ghost use Rattle.go_func_core.specs.local_core.Tables.{IsFuncPlaced};
+ghost use Rattle.go_func_core.specs.inline_core.Trees.{decl_types};
 ghost use Rattle.go_func_core.specs.scope_core.Models.{scopes_model};
 ghost use Rattle.go_func_core.specs.env_core.Scenes.{scene_shown};
-ghost use Rattle.go_top_core.specs.Tops as tops;
+ghost use Rattle.go_func_core.specs.top_core.Tops as tops;
 ghost use Rattle.go_func_core.specs.Stands.{outer_looks};
 ghost use Rattle.go_func_core.specs.Functions.{checked_func};
 ghost use Rattle.go_func_core.specs.Laws.{AreFuncTypes};
@@ -21,9 +21,9 @@ use crate::spec_decl::{SpecDecl, check_spec_decl};
 use go_func_core::body_core::{Local, check_body};
 use go_func_core::entry_core::ImportedNames;
 use go_func_core::env_core::{Meaning, outer_names, stand};
+use go_func_core::inline_core::InlineTypes;
 use go_func_core::names_core::OpenNames;
 use go_func_core::scope_core::Scopes;
-use go_top_core::inline_core::InlineTypes;
 use go_tree_nodes::{Decl, FuncDecl, TopDecl, TypeDecl, ValueDecl};
 use std::alloc::{AllocError, Global};
 

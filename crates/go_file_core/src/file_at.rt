@@ -4,7 +4,7 @@ use go_func_core::decl_core::Places;
 use go_func_core::env_core::Scene;
 use go_func_core::face_core::Face;
 use go_func_core::handle_core::{SignatureRef, TypeRef};
-use go_top_core::inline_core::InlineTypes;
+use go_func_core::inline_core::InlineTypes;
 
 /// What a file of a package is checked by. All is lent.
 #[derive(Drop)]

@@ -7,12 +7,12 @@ ghost use Rattle.go_file_core.specs.Imports as has;
 
 use go_func_core::block_core::{Imported, import_specs};
 use go_func_core::body_core::BodyUse;
+use go_func_core::denote_core::Outcome;
+use go_func_core::expr_core::Use;
 use go_func_core::handle_core::{Decl, DeclSite};
 use go_func_core::select_core::EmbedPath;
 use go_func_core::tree_core::Role;
 use go_text_core::add;
-use go_top_core::denote_core::Outcome;
-use go_top_core::expr_core::Use;
 use go_tree_nodes::{ImportDecl, ImportSpec};
 use std::alloc::{AllocError, Global};
 

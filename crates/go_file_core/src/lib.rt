@@ -23,27 +23,12 @@ pub mod body_core {
     pub use go_func_core::body_core::Local;
 }
 
-/// What the crates above name of `go_entry_core`.
-pub mod entry_core {
-    pub use go_func_core::entry_core::{ImportedNames, outlines};
-}
-
-/// What the crates above name of `go_env_core`.
-pub mod env_core {
-    pub use go_func_core::env_core::Scene;
-}
-
 /// What the crates above name of `go_func_core`.
 pub mod func_core {
     pub use go_func_core::{functions_have_one_table, locals_are_declarations};
 }
 
-/// What the crates above name of `go_inline_core`.
-pub mod inline_core {
-    pub use go_top_core::inline_core::InlineTypes;
-}
-
-/// What the crates above name of `go_type_core`.
-pub mod type_core {
-    pub use go_top_core::type_core::{PackageTypes, TypeTable};
+/// What the crates above name of `go_select_core`.
+pub mod select_core {
+    pub use go_func_core::select_core::EmbedPath;
 }

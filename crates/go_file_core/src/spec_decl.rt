@@ -1,10 +1,10 @@
 //! Declarations outside functions by specifications, and their check in any environment.
 ghost use Rattle.std.specs.Prelude.{◌≡◌, ◌++◌, OnOk};
-ghost use Rattle.go_top_core.specs.expr_core.Looks.{everywhere};
+ghost use Rattle.go_func_core.specs.expr_core.Looks.{everywhere};
 ghost use Rattle.go_file_core.specs.mirrors.SpecDecls.{spec_decl_faults, spec_decl_uses};
 
-use go_top_core::expr_core::{Exprs, Notes};
-use go_top_core::{check_type_decl, check_value_decl};
+use go_func_core::expr_core::{Exprs, Notes};
+use go_func_core::top_core::{check_type_decl, check_value_decl};
 use go_tree_nodes::{TypeDecl, ValueDecl};
 use std::alloc::{AllocError, Global};
 

@@ -11,8 +11,8 @@ use crate::imports::add_imports;
 use crate::notes::nothing;
 use go_func_core::body_core::{BodyUse, Local};
 use go_func_core::entry_core::ImportedNames;
-use go_top_core::expr_core::Notes;
-use go_top_core::local_core::Fault;
+use go_func_core::expr_core::Notes;
+use go_func_core::local_core::Fault;
 use go_tree_nodes::File;
 use std::alloc::{AllocError, Global};
 

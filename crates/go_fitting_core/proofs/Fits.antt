@@ -10,16 +10,16 @@ use Rattle.std.proofs.lemmas.Slice.Eq.{bytes_eq-Decides}
 use Rattle.go_text_core.specs.Text.{is_blank}
 use Rattle.go_context_core.specs.graph_core.Workspaces.{by_bytes}
 use Rattle.go_tree_nodes.specs.declared.usage.Usage.{Usage}
-use Rattle.go_decl_core.specs.declared.keys.DeclKey.{DeclKey}
+use Rattle.go_context_core.specs.decl_core.declared.keys.DeclKey.{DeclKey}
 use Rattle.go_context_core.specs.block_core.declared.binding.Target.{Target}
 use Rattle.go_context_core.specs.block_core.declared.binding.Target.TheVariants as targets
 use Rattle.go_open_core.specs.Blocks.{found_in, names_in}
 use Rattle.go_context_core.specs.scope_core.Models.{ScopesModel}
 use Rattle.go_context_core.specs.scope_core.Scopes.{Denoted, Universe, Package, File, Local, scope_blocks}
-use Rattle.go_denote_core.specs.declared.things.Stand.{Stand}
-use Rattle.go_face_core.specs.declared.shown.ShownFace.{ShownFace}
-use Rattle.go_face_core.specs.declared.shown.ShownFace.TheVariants as shows
-use Rattle.go_face_core.specs.Packages.{PackageFacesModel, exported_in, face_in, package_in, shown_by, shown_in_some}
+use Rattle.go_context_core.specs.denote_core.declared.things.Stand.{Stand}
+use Rattle.go_shown_core.specs.face_core.declared.shown.ShownFace.{ShownFace}
+use Rattle.go_shown_core.specs.face_core.declared.shown.ShownFace.TheVariants as shows
+use Rattle.go_shown_core.specs.face_core.Packages.{PackageFacesModel, exported_in, face_in, package_in, shown_by, shown_in_some}
 use Rattle.go_shown_core.specs.summary_core.Summaries.{SummaryModel}
 use Rattle.go_shown_core.specs.summary_core.Views.{faces_told}
 use Rattle.go_context_core.specs.Alone as alone

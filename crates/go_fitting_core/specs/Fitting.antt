@@ -5,23 +5,23 @@
 use Rattle.std.specs.Prelude.{◌≡◌, ℕ, Bool, true, false, ◌&&◌, not, List, Option, Some, None, Contains}
 use Rattle.go_text_core.specs.Text.{is_blank}
 use Rattle.go_tree_nodes.specs.declared.usage.Usage.{Usage}
-use Rattle.go_decl_core.specs.declared.keys.DeclRef.{DeclRef}
-use Rattle.go_decl_core.specs.declared.keys.DeclKey.{DeclKey}
+use Rattle.go_context_core.specs.decl_core.declared.keys.DeclRef.{DeclRef}
+use Rattle.go_context_core.specs.decl_core.declared.keys.DeclKey.{DeclKey}
 use Rattle.go_context_core.specs.block_core.declared.binding.Target.{Target}
 use Rattle.go_context_core.specs.block_core.declared.binding.Target.TheVariants as targets
 use Rattle.go_open_core.specs.Blocks.{found_in, names_in}
 use Rattle.go_context_core.specs.scope_core.Models.{ScopesModel}
 use Rattle.go_context_core.specs.scope_core.Scopes.{Denoted, Universe, Package, File, Local, scope_blocks}
-use Rattle.go_denote_core.specs.declared.things.Stand.{Stand}
-use Rattle.go_denote_core.specs.Selectors.{usage_place}
+use Rattle.go_context_core.specs.denote_core.declared.things.Stand.{Stand}
+use Rattle.go_context_core.specs.denote_core.Selectors.{usage_place}
 use Rattle.go_context_core.specs.declared.things.Thing.{Thing}
 use Rattle.go_context_core.specs.declared.things.Thing.TheVariants as things
 use Rattle.go_context_core.specs.Alone.{fits, fits_some, thing_of_decl, thing_of_predeclared}
-use Rattle.go_face_core.specs.declared.face.Face.TheVariants as faces
-use Rattle.go_face_core.specs.declared.shown.ShownFace.{ShownFace}
-use Rattle.go_face_core.specs.declared.shown.ShownFace.TheVariants as shows
-use Rattle.go_face_core.specs.Faces.{TheFace}
-use Rattle.go_face_core.specs.Packages.{PackageFacesModel, exported_in, face_in, shown_by}
+use Rattle.go_shown_core.specs.face_core.declared.face.Face.TheVariants as faces
+use Rattle.go_shown_core.specs.face_core.declared.shown.ShownFace.{ShownFace}
+use Rattle.go_shown_core.specs.face_core.declared.shown.ShownFace.TheVariants as shows
+use Rattle.go_shown_core.specs.face_core.Faces.{TheFace}
+use Rattle.go_shown_core.specs.face_core.Packages.{PackageFacesModel, exported_in, face_in, shown_by}
 use Rattle.go_shown_core.specs.summary_core.Summaries.{SummaryModel}
 
 -- what a declaration is that is this; one of which nothing is known is a constant or a variable

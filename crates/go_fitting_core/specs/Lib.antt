@@ -1,7 +1,16 @@
 pub mod Fitting
 pub mod mirrors
+pub mod block_core
 pub mod context_core
+pub mod denote_core
+pub mod entry_core
 pub mod face_core
+pub mod graph_core
 pub mod handle_core
+pub mod operand_core
+pub mod scope_core
+pub mod scope_core_lemmas
 pub mod shown_core
 pub mod summary_core
+pub mod table_core
+pub mod written_core

@@ -1,9 +1,8 @@
 -- What the crates above name of go_face_core.
-pub use Rattle.go_face_core.proofs.Displaying as Displaying
-pub use Rattle.go_face_core.specs.Faces as Faces
-pub use Rattle.go_face_core.specs.Laws as Laws
-pub use Rattle.go_face_core.specs.Packages as Packages
-pub use Rattle.go_face_core.proofs.Places as Places
-pub use Rattle.go_face_core.specs.Written as Written
-pub use Rattle.go_face_core.specs.codes as codes
-pub use Rattle.go_face_core.specs.declared as declared
+pub use Rattle.go_shown_core.specs.face_core.Displaying as Displaying
+pub use Rattle.go_shown_core.specs.face_core.Faces as Faces
+pub use Rattle.go_shown_core.specs.face_core.Laws as Laws
+pub use Rattle.go_shown_core.specs.face_core.Packages as Packages
+pub use Rattle.go_shown_core.specs.face_core.Places as Places
+pub use Rattle.go_shown_core.specs.face_core.Written as Written
+pub use Rattle.go_shown_core.specs.face_core.declared as declared

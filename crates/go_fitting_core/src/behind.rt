@@ -3,7 +3,7 @@ ghost use Rattle.std.specs.Prelude.{◌≡◌, ◌↔◌, ℕ, List, true, All, 
 ghost use Rattle.std.specs.List.Sorted.{IsStrictlySortedBy};
 ghost use Rattle.go_context_core.specs.graph_core.Workspaces.{by_bytes};
 ghost use Rattle.go_open_core.specs.Blocks.{names_in};
-ghost use Rattle.go_denote_core.specs.Selectors as selectors;
+ghost use Rattle.go_context_core.specs.denote_core.Selectors as selectors;
 ghost use Rattle.go_shown_core.specs.Shown.{texts};
 ghost use Rattle.go_shown_core.specs.summary_core.Views.{faces_told};
 ghost use Rattle.go_fitting_core.specs.Fitting as fitting;
@@ -12,9 +12,9 @@ ghost use Rattle.go_fitting_core.specs.mirrors.Steps as steps;
 
 use crate::listing::{in_order, owned};
 use crate::things::{fits, thing_of_face, told_by};
-use go_denote_core::Stand;
-use go_face_core::{PackageFaces, ShownFace};
+use go_context_core::denote_core::Stand;
 use go_path_core::ImportPath;
+use go_shown_core::face_core::{PackageFaces, ShownFace};
 use go_shown_core::summary_core::{ReachedSummaries, Summary};
 use go_text_core::{Rule, is_blank};
 use go_tree_nodes::Usage;

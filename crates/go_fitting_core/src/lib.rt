@@ -16,6 +16,16 @@ pub mod context_core {
     pub use go_context_core::scopes_with;
 }
 
+/// What the crates above name of `go_denote_core`.
+pub mod denote_core {
+    pub use go_context_core::denote_core::Stand;
+}
+
+/// What the crates above name of `go_scope_core`.
+pub mod scope_core {
+    pub use go_context_core::scope_core::Scopes;
+}
+
 /// What the crates above name of `go_shown_core`.
 pub mod shown_core {
     pub use go_shown_core::{deps_shown, imports_shown};
@@ -23,5 +33,5 @@ pub mod shown_core {
 
 /// What the crates above name of `go_summary_core`.
 pub mod summary_core {
-    pub use go_shown_core::summary_core::ReachedSummaries;
+    pub use go_shown_core::summary_core::{ReachedSummaries, view_of};
 }

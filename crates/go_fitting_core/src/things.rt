@@ -1,16 +1,16 @@
 //! What a declaration is, as far as it matters where its name stands.
 ghost use Rattle.std.specs.Prelude.{◌≡◌, Contains, IfOk, MatchOption, Some, None};
 ghost use Rattle.go_context_core.specs.Alone as alone;
-ghost use Rattle.go_face_core.specs.Packages.{face_in, package_in};
+ghost use Rattle.go_shown_core.specs.face_core.Packages.{face_in, package_in};
 ghost use Rattle.go_shown_core.specs.summary_core.Views.{faces_told};
 ghost use Rattle.go_fitting_core.specs.Fitting as fitting;
 
 use go_context_core::Thing;
-use go_decl_core::DeclKey;
-use go_denote_core::Stand;
-use go_face_core::Face;
-use go_face_core::handle_core::{SignatureRef, TypeRef};
+use go_context_core::decl_core::DeclKey;
+use go_context_core::denote_core::Stand;
 use go_path_core::ImportPath;
+use go_shown_core::face_core::Face;
+use go_shown_core::handle_core::{SignatureRef, TypeRef};
 use go_shown_core::summary_core::{ReachedSummaries, Summary};
 use std::alloc::AllocError;
 

@@ -6,38 +6,38 @@ use Rattle.go_text_core.specs.declared.rule.Rule.TheVariants.{N8, S4, S8, C1, C2
 use Rattle.go_tree_nodes.specs.declared.usage.Usage.TheVariants as usages
 use Rattle.go_term_core.specs.declared.term.Basic.{Basic}
 use Rattle.go_term_core.specs.declared.term.Basic.TheVariants as basics
-use Rattle.go_constant_core.specs.declared.values.Constant.{Constant}
-use Rattle.go_operand_core.specs.declared.types.ValueType.{ValueType}
-use Rattle.go_operand_core.specs.declared.types.ValueType.TheVariants as value_types
-use Rattle.go_operand_core.specs.declared.types.TypeForm.{TypeForm}
-use Rattle.go_operand_core.specs.declared.types.TypeForm.TheVariants as forms
-use Rattle.go_operand_core.specs.Assign.{takes_untyped}
-use Rattle.go_operand_core.specs.declared.types.Operand.{Operand}
-use Rattle.go_operand_core.specs.TypeRules.{TypeRules}
-use Rattle.go_operand_core.specs.Values.{form_basic, basic_under, default_type}
-use Rattle.go_operand_core.specs.Operators.{value}
-use Rattle.go_operand_core.specs.Conversions.{kept, makes_text, fits}
-use Rattle.go_denote_core.specs.declared.things.Stand.TheVariants as stands
-use Rattle.go_denote_core.specs.declared.things.Outcome.{Outcome}
-use Rattle.go_denote_core.specs.declared.things.Outcome.TheVariants as outcomes
-use Rattle.go_denote_core.specs.declared.things.Denoted.{Denoted}
-use Rattle.go_denote_core.specs.declared.things.Denoted.TheVariants as denotes
-use Rattle.go_denote_core.specs.declared.things.Answer.{Answer}
-use Rattle.go_denote_core.specs.declared.things.Argument.{Argument}
-use Rattle.go_denote_core.specs.declared.things.Argument.TheVariants as arguments
-use Rattle.go_denote_core.specs.declared.things.Found.{Found}
-use Rattle.go_denote_core.specs.declared.things.Found.TheVariants as founds
-use Rattle.go_denote_core.specs.declared.things.Exported.{Exported}
-use Rattle.go_denote_core.specs.declared.things.Exported.TheVariants as exporteds
-use Rattle.go_denote_core.specs.declared.things.Selection.{Selection}
-use Rattle.go_denote_core.specs.declared.things.Selection.TheVariants as selections
-use Rattle.go_denote_core.specs.declared.things.Dot.{Dot}
-use Rattle.go_denote_core.specs.declared.things.Dot.TheVariants as dots
-use Rattle.go_denote_core.specs.Look.{Look}
-use Rattle.go_denote_core.specs.Answers.{declared, refused, value_of_type, found_answer, name_answer}
-use Rattle.go_denote_core.specs.Selectors.{exported_answer, method_answer, member_answer, value_selector, selector_answer}
-use Rattle.go_denote_core.specs.Arguments.{argument_of_result, arguments_of, is_free}
-use Rattle.go_denote_core.specs.Calls.{of_results, of_conversion, convert_argument, conversion, free_call, call_answer}
+use Rattle.go_fragment_core.specs.constant_core.declared.values.Constant.{Constant}
+use Rattle.go_expr_core.specs.operand_core.declared.types.ValueType.{ValueType}
+use Rattle.go_expr_core.specs.operand_core.declared.types.ValueType.TheVariants as value_types
+use Rattle.go_expr_core.specs.operand_core.declared.types.TypeForm.{TypeForm}
+use Rattle.go_expr_core.specs.operand_core.declared.types.TypeForm.TheVariants as forms
+use Rattle.go_expr_core.specs.operand_core.Assign.{takes_untyped}
+use Rattle.go_expr_core.specs.operand_core.declared.types.Operand.{Operand}
+use Rattle.go_expr_core.specs.operand_core.TypeRules.{TypeRules}
+use Rattle.go_expr_core.specs.operand_core.Values.{form_basic, basic_under, default_type}
+use Rattle.go_expr_core.specs.operand_core.Operators.{value}
+use Rattle.go_expr_core.specs.operand_core.Conversions.{kept, makes_text, fits}
+use Rattle.go_expr_core.specs.denote_core.declared.things.Stand.TheVariants as stands
+use Rattle.go_expr_core.specs.denote_core.declared.things.Outcome.{Outcome}
+use Rattle.go_expr_core.specs.denote_core.declared.things.Outcome.TheVariants as outcomes
+use Rattle.go_expr_core.specs.denote_core.declared.things.Denoted.{Denoted}
+use Rattle.go_expr_core.specs.denote_core.declared.things.Denoted.TheVariants as denotes
+use Rattle.go_expr_core.specs.denote_core.declared.things.Answer.{Answer}
+use Rattle.go_expr_core.specs.denote_core.declared.things.Argument.{Argument}
+use Rattle.go_expr_core.specs.denote_core.declared.things.Argument.TheVariants as arguments
+use Rattle.go_expr_core.specs.denote_core.declared.things.Found.{Found}
+use Rattle.go_expr_core.specs.denote_core.declared.things.Found.TheVariants as founds
+use Rattle.go_expr_core.specs.denote_core.declared.things.Exported.{Exported}
+use Rattle.go_expr_core.specs.denote_core.declared.things.Exported.TheVariants as exporteds
+use Rattle.go_expr_core.specs.denote_core.declared.things.Selection.{Selection}
+use Rattle.go_expr_core.specs.denote_core.declared.things.Selection.TheVariants as selections
+use Rattle.go_expr_core.specs.denote_core.declared.things.Dot.{Dot}
+use Rattle.go_expr_core.specs.denote_core.declared.things.Dot.TheVariants as dots
+use Rattle.go_expr_core.specs.denote_core.Look.{Look}
+use Rattle.go_expr_core.specs.denote_core.Answers.{declared, refused, value_of_type, found_answer, name_answer}
+use Rattle.go_expr_core.specs.denote_core.Selectors.{exported_answer, method_answer, member_answer, value_selector, selector_answer}
+use Rattle.go_expr_core.specs.denote_core.Arguments.{argument_of_result, arguments_of, is_free}
+use Rattle.go_expr_core.specs.denote_core.Calls.{of_results, of_conversion, convert_argument, conversion, free_call, call_answer}
 use Rattle.go_expr_core.specs.Looks.{Looks, look_of_place}
 use Rattle.go_instruction_core.specs.declared.letters.Word.{Word}
 use Rattle.go_instruction_core.specs.declared.letters.Word.TheVariants as words

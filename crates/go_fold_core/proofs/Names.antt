@@ -5,29 +5,29 @@ use Rattle.go_text_core.specs.Text.{is_blank}
 use Rattle.go_text_core.specs.declared.rule.Rule.TheVariants.{N8, S4, S8}
 use Rattle.go_tree_nodes.specs.declared.usage.Usage.{Usage}
 use Rattle.go_tree_nodes.specs.declared.usage.Usage.TheVariants as usages
-use Rattle.go_constant_core.specs.declared.values.Constant.{Constant}
-use Rattle.go_constant_core.specs.declared.values.Constant.TheVariants as values
-use Rattle.go_operand_core.specs.declared.types.Operand.{Operand}
-use Rattle.go_operand_core.specs.TypeRules.{TypeRules}
-use Rattle.go_operand_core.specs.declared.types.ValueType.{ValueType}
-use Rattle.go_operand_core.specs.Values.{basic_under, default_type}
-use Rattle.go_denote_core.specs.declared.things.Stand.{Stand}
-use Rattle.go_denote_core.specs.declared.things.Stand.TheVariants as stands
-use Rattle.go_denote_core.specs.declared.things.Outcome.{Outcome}
-use Rattle.go_denote_core.specs.declared.things.Outcome.TheVariants as outcomes
-use Rattle.go_denote_core.specs.declared.things.Denoted.{Denoted}
-use Rattle.go_denote_core.specs.declared.things.Denoted.TheVariants as denotes
-use Rattle.go_denote_core.specs.declared.things.Answer.{Answer}
-use Rattle.go_denote_core.specs.declared.things.Found.{Found}
-use Rattle.go_denote_core.specs.declared.things.Found.TheVariants as founds
-use Rattle.go_denote_core.specs.declared.things.Exported.{Exported}
-use Rattle.go_denote_core.specs.declared.things.Exported.TheVariants as exporteds
-use Rattle.go_denote_core.specs.declared.things.Selection.{Selection}
-use Rattle.go_denote_core.specs.declared.things.Selection.TheVariants as selections
-use Rattle.go_denote_core.specs.declared.things.Dot.{Dot}
-use Rattle.go_denote_core.specs.declared.things.Dot.TheVariants as dots
-use Rattle.go_denote_core.specs.Answers.{refused, of_value, package_answer, type_answer, func_answer, value_answer, found_answer, name_answer}
-use Rattle.go_denote_core.specs.Selectors.{usage_place, exported_answer, field_answer, method_answer, member_answer, value_selector, selector_answer}
+use Rattle.go_fragment_core.specs.constant_core.declared.values.Constant.{Constant}
+use Rattle.go_fragment_core.specs.constant_core.declared.values.Constant.TheVariants as values
+use Rattle.go_expr_core.specs.operand_core.declared.types.Operand.{Operand}
+use Rattle.go_expr_core.specs.operand_core.TypeRules.{TypeRules}
+use Rattle.go_expr_core.specs.operand_core.declared.types.ValueType.{ValueType}
+use Rattle.go_expr_core.specs.operand_core.Values.{basic_under, default_type}
+use Rattle.go_expr_core.specs.denote_core.declared.things.Stand.{Stand}
+use Rattle.go_expr_core.specs.denote_core.declared.things.Stand.TheVariants as stands
+use Rattle.go_expr_core.specs.denote_core.declared.things.Outcome.{Outcome}
+use Rattle.go_expr_core.specs.denote_core.declared.things.Outcome.TheVariants as outcomes
+use Rattle.go_expr_core.specs.denote_core.declared.things.Denoted.{Denoted}
+use Rattle.go_expr_core.specs.denote_core.declared.things.Denoted.TheVariants as denotes
+use Rattle.go_expr_core.specs.denote_core.declared.things.Answer.{Answer}
+use Rattle.go_expr_core.specs.denote_core.declared.things.Found.{Found}
+use Rattle.go_expr_core.specs.denote_core.declared.things.Found.TheVariants as founds
+use Rattle.go_expr_core.specs.denote_core.declared.things.Exported.{Exported}
+use Rattle.go_expr_core.specs.denote_core.declared.things.Exported.TheVariants as exporteds
+use Rattle.go_expr_core.specs.denote_core.declared.things.Selection.{Selection}
+use Rattle.go_expr_core.specs.denote_core.declared.things.Selection.TheVariants as selections
+use Rattle.go_expr_core.specs.denote_core.declared.things.Dot.{Dot}
+use Rattle.go_expr_core.specs.denote_core.declared.things.Dot.TheVariants as dots
+use Rattle.go_expr_core.specs.denote_core.Answers.{refused, of_value, package_answer, type_answer, func_answer, value_answer, found_answer, name_answer}
+use Rattle.go_expr_core.specs.denote_core.Selectors.{usage_place, exported_answer, field_answer, method_answer, member_answer, value_selector, selector_answer}
 use Rattle.go_expr_core.specs.Looks.{Looks, look_of_place}
 use Rattle.go_instruction_core.specs.declared.letters.Word.{Word}
 use Rattle.go_fragment_core.specs.declared.names.ConstantWord.{ConstantWord}

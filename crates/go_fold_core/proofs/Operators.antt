@@ -3,24 +3,24 @@ use Rattle.std.proofs.Common.{◌≡◌, Bool, true, false, ◌||◌, ◌⊎◌,
 use Rattle.std.proofs.lemmas.Option.{none-some}
 use Rattle.std.specs.Prelude.{ℤ, pos, neg_ℤ, ◌+ℤ◌, ◌-ℤ◌, ◌*ℤ◌, int_div, int_rem}
 use Rattle.go_text_core.specs.declared.rule.Rule.{Rule}
-use Rattle.go_token_core.specs.declared.kind.Operator.{Operator}
-use Rattle.go_token_core.specs.declared.kind.Operator.TheVariants as operators
-use Rattle.go_constant_core.specs.declared.values.Constant.{Constant}
-use Rattle.go_constant_core.specs.declared.values.Constant.TheVariants as values
-use Rattle.go_constant_core.specs.Values as constants
-use Rattle.go_operand_core.specs.declared.types.ValueType.{ValueType}
-use Rattle.go_operand_core.specs.declared.types.ValueType.TheVariants as value_types
-use Rattle.go_operand_core.specs.declared.types.Operand.{Operand}
-use Rattle.go_operand_core.specs.TypeRules.{TypeRules}
-use Rattle.go_operand_core.specs.Values.{is_over, basic_under}
-use Rattle.go_operand_core.specs.Assign.{common, comparable}
+use Rattle.go_tree_nodes.specs.token_core.declared.kind.Operator.{Operator}
+use Rattle.go_tree_nodes.specs.token_core.declared.kind.Operator.TheVariants as operators
+use Rattle.go_fragment_core.specs.constant_core.declared.values.Constant.{Constant}
+use Rattle.go_fragment_core.specs.constant_core.declared.values.Constant.TheVariants as values
+use Rattle.go_fragment_core.specs.constant_core.Values as constants
+use Rattle.go_expr_core.specs.operand_core.declared.types.ValueType.{ValueType}
+use Rattle.go_expr_core.specs.operand_core.declared.types.ValueType.TheVariants as value_types
+use Rattle.go_expr_core.specs.operand_core.declared.types.Operand.{Operand}
+use Rattle.go_expr_core.specs.operand_core.TypeRules.{TypeRules}
+use Rattle.go_expr_core.specs.operand_core.Values.{is_over, basic_under}
+use Rattle.go_expr_core.specs.operand_core.Assign.{common, comparable}
 use Rattle.go_term_core.specs.declared.term.Basic.{Basic}
 use Rattle.go_term_core.specs.declared.term.Basic.TheVariants as basics
-use Rattle.go_operand_core.specs.Operators as binaries
-use Rattle.go_operand_core.specs.Prefixes as unaries
-use Rattle.go_operand_core.specs.Prefixes.{refused_unary}
-use Rattle.go_denote_core.specs.declared.things.Denoted.{Denoted}
-use Rattle.go_denote_core.specs.declared.things.Denoted.TheVariants as denotes
+use Rattle.go_expr_core.specs.operand_core.Operators as binaries
+use Rattle.go_expr_core.specs.operand_core.Prefixes as unaries
+use Rattle.go_expr_core.specs.operand_core.Prefixes.{refused_unary}
+use Rattle.go_expr_core.specs.denote_core.declared.things.Denoted.{Denoted}
+use Rattle.go_expr_core.specs.denote_core.declared.things.Denoted.TheVariants as denotes
 use Rattle.go_expr_core.specs.Operators.{of_operand, passed, pointer_type, is_star, operand_of, unary_of, binary_operands, binary_of}
 use Rattle.go_instruction_core.specs.declared.letters.Word.{Word}
 use Rattle.go_instruction_core.specs.declared.letters.Word.TheVariants as words

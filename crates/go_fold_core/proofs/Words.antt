@@ -1,17 +1,17 @@
 -- What operators of code give is over their words: the constants that are folded, and the types that the check gives.
 use Rattle.std.proofs.Common.{◌≡◌, Bool, true, false, ◌||◌, ◌⊎◌, inl, inr, refl, sym, ◌∙◌, ap, if◌then◌else◌}
 use Rattle.std.specs.Prelude.{ℤ, pos, neg_ℤ, ◌+ℤ◌, ◌-ℤ◌, ◌*ℤ◌, int_div, int_rem, Option, Some, None}
-use Rattle.go_token_core.specs.declared.kind.Operator.{Operator}
-use Rattle.go_token_core.specs.declared.kind.Operator.TheVariants as operators
-use Rattle.go_constant_core.specs.declared.values.Constant.TheVariants as values
-use Rattle.go_constant_core.specs.Values as constants
+use Rattle.go_tree_nodes.specs.token_core.declared.kind.Operator.{Operator}
+use Rattle.go_tree_nodes.specs.token_core.declared.kind.Operator.TheVariants as operators
+use Rattle.go_fragment_core.specs.constant_core.declared.values.Constant.TheVariants as values
+use Rattle.go_fragment_core.specs.constant_core.Values as constants
 use Rattle.go_term_core.specs.declared.term.Basic.{Basic}
 use Rattle.go_term_core.specs.declared.term.Basic.TheVariants as basics
-use Rattle.go_operand_core.specs.declared.types.ValueType.{ValueType}
-use Rattle.go_operand_core.specs.declared.types.ValueType.TheVariants as value_types
-use Rattle.go_operand_core.specs.TypeRules.{TypeRules}
-use Rattle.go_operand_core.specs.Values.{is_basic, is_over, basic_under}
-use Rattle.go_operand_core.specs.Assign.{assignable, common}
+use Rattle.go_expr_core.specs.operand_core.declared.types.ValueType.{ValueType}
+use Rattle.go_expr_core.specs.operand_core.declared.types.ValueType.TheVariants as value_types
+use Rattle.go_expr_core.specs.operand_core.TypeRules.{TypeRules}
+use Rattle.go_expr_core.specs.operand_core.Values.{is_basic, is_over, basic_under}
+use Rattle.go_expr_core.specs.operand_core.Assign.{assignable, common}
 use Rattle.go_instruction_core.specs.declared.letters.Word.{Word}
 use Rattle.go_instruction_core.specs.declared.letters.Word.TheVariants as words
 use Rattle.go_fragment_core.specs.declared.names.ConstantWord.{ConstantWord}

@@ -2,20 +2,20 @@
 --
 -- docs/RULES.md, "Stack code". The Go specification, "Constants", "Variables", "Types", "Calls".
 use Rattle.std.specs.Prelude.{◌≡◌, ℕ, ⊤, List, [], ◌∷◌, Option, Some, None}
-use Rattle.go_constant_core.specs.declared.values.Constant.{Constant}
+use Rattle.go_fragment_core.specs.constant_core.declared.values.Constant.{Constant}
 use Rattle.go_term_core.specs.declared.term.Basic.{Basic}
 use Rattle.go_term_core.specs.declared.term.Basic.TheVariants as basics
-use Rattle.go_operand_core.specs.declared.types.Operand.{Operand}
-use Rattle.go_operand_core.specs.TypeRules.{TypeRules}
-use Rattle.go_operand_core.specs.Values.{form_basic}
-use Rattle.go_denote_core.specs.declared.things.Outcome.{Outcome}
-use Rattle.go_denote_core.specs.declared.things.Outcome.TheVariants as outcomes
-use Rattle.go_denote_core.specs.declared.things.Found.{Found}
-use Rattle.go_denote_core.specs.declared.things.Found.TheVariants as founds
-use Rattle.go_denote_core.specs.declared.things.Exported.{Exported}
-use Rattle.go_denote_core.specs.declared.things.Exported.TheVariants as exporteds
-use Rattle.go_denote_core.specs.declared.things.Selection.{Selection}
-use Rattle.go_denote_core.specs.declared.things.Selection.TheVariants as selections
+use Rattle.go_expr_core.specs.operand_core.declared.types.Operand.{Operand}
+use Rattle.go_expr_core.specs.operand_core.TypeRules.{TypeRules}
+use Rattle.go_expr_core.specs.operand_core.Values.{form_basic}
+use Rattle.go_expr_core.specs.denote_core.declared.things.Outcome.{Outcome}
+use Rattle.go_expr_core.specs.denote_core.declared.things.Outcome.TheVariants as outcomes
+use Rattle.go_expr_core.specs.denote_core.declared.things.Found.{Found}
+use Rattle.go_expr_core.specs.denote_core.declared.things.Found.TheVariants as founds
+use Rattle.go_expr_core.specs.denote_core.declared.things.Exported.{Exported}
+use Rattle.go_expr_core.specs.denote_core.declared.things.Exported.TheVariants as exporteds
+use Rattle.go_expr_core.specs.denote_core.declared.things.Selection.{Selection}
+use Rattle.go_expr_core.specs.denote_core.declared.things.Selection.TheVariants as selections
 use Rattle.go_expr_core.specs.Looks.{Looks}
 use Rattle.go_instruction_core.specs.declared.letters.Word.{Word}
 use Rattle.go_instruction_core.specs.declared.letters.Word.TheVariants as words

@@ -2,13 +2,13 @@
 -- and places of tokens.
 use Rattle.std.specs.Prelude.{◌≡◌, [], ◌∷◌, Some, None}
 use Rattle.go_text_core.specs.declared.span.Span.{Span}
-use Rattle.go_token_core.specs.declared.kind.Operator.TheVariants as operators
+use Rattle.go_tree_nodes.specs.token_core.declared.kind.Operator.TheVariants as operators
 use Rattle.go_tree_nodes.specs.declared.names.Ident.{Ident}
 use Rattle.go_tree_nodes.specs.declared.names.TextLiteral.{TextLiteral}
 use Rattle.go_tree_nodes.specs.declared.exprs.Key.{Key}
 use Rattle.go_tree_nodes.specs.declared.types.TypeName.{TypeName}
 use Rattle.go_tree_nodes.specs.Trees.{TypeTree, Integer, Text, Named, Paren, Unary, Binary, Select, Call, Literal, StructLiteral, NoItems, Item}
-use Rattle.go_denote_core.specs.declared.things.Stand.TheVariants as stands
+use Rattle.go_expr_core.specs.denote_core.declared.things.Stand.TheVariants as stands
 use Rattle.go_fold_core.specs.Parts.{parts}
 
 pub record SampleParts : Type 0 where

@@ -5,18 +5,18 @@ use Rattle.std.specs.Prelude.{◌≡◌, ℕ, ⊤, true, List, [], Option, Some,
 use Rattle.std.specs.List.{Contains}
 use Rattle.go_term_core.specs.declared.term.Basic.{Basic}
 use Rattle.go_tree_nodes.specs.Trees.{ExprTree}
-use Rattle.go_operand_core.specs.declared.types.ValueType.{ValueType}
-use Rattle.go_operand_core.specs.declared.types.Operand.{Operand}
-use Rattle.go_operand_core.specs.TypeRules.{TypeRules}
-use Rattle.go_operand_core.specs.Values.{form_basic, basic_under}
-use Rattle.go_denote_core.specs.declared.things.Stand.{Stand}
-use Rattle.go_denote_core.specs.declared.things.Outcome.{Outcome}
-use Rattle.go_denote_core.specs.declared.things.Outcome.TheVariants as outcomes
-use Rattle.go_denote_core.specs.declared.things.Denoted.TheVariants as denotes
-use Rattle.go_denote_core.specs.declared.things.Found.{Found}
-use Rattle.go_denote_core.specs.declared.things.Found.TheVariants as founds
-use Rattle.go_denote_core.specs.declared.things.Exported.{Exported}
-use Rattle.go_denote_core.specs.declared.things.Exported.TheVariants as exporteds
+use Rattle.go_expr_core.specs.operand_core.declared.types.ValueType.{ValueType}
+use Rattle.go_expr_core.specs.operand_core.declared.types.Operand.{Operand}
+use Rattle.go_expr_core.specs.operand_core.TypeRules.{TypeRules}
+use Rattle.go_expr_core.specs.operand_core.Values.{form_basic, basic_under}
+use Rattle.go_expr_core.specs.denote_core.declared.things.Stand.{Stand}
+use Rattle.go_expr_core.specs.denote_core.declared.things.Outcome.{Outcome}
+use Rattle.go_expr_core.specs.denote_core.declared.things.Outcome.TheVariants as outcomes
+use Rattle.go_expr_core.specs.denote_core.declared.things.Denoted.TheVariants as denotes
+use Rattle.go_expr_core.specs.denote_core.declared.things.Found.{Found}
+use Rattle.go_expr_core.specs.denote_core.declared.things.Found.TheVariants as founds
+use Rattle.go_expr_core.specs.denote_core.declared.things.Exported.{Exported}
+use Rattle.go_expr_core.specs.denote_core.declared.things.Exported.TheVariants as exporteds
 use Rattle.go_expr_core.specs.Looks.{Looks}
 use Rattle.go_expr_core.specs.Denoting.{denoted}
 use Rattle.go_expr_core.specs.Uses.{uses}

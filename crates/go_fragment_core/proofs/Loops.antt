@@ -3,7 +3,7 @@ use Rattle.std.proofs.Common.{◌≡◌, ◌≤◌, suc, false, List, [], ◌∷
 use Rattle.std.specs.Prelude.{Option, Some, None}
 use Rattle.go_tree_nodes.specs.declared.exprs.«Item» as declared_item
 use Rattle.go_tree_nodes.specs.Shapes.{items_of}
-use Rattle.go_text_core.specs.declared.span.Span.{Span}
+use Rattle.go_constant_core.specs.text_core.declared.span.Span.{Span}
 use Rattle.go_tree_nodes.specs.declared.names.Idents.{Idents}
 use Rattle.go_tree_nodes.specs.declared.types.«Param» as declared_param
 use Rattle.go_tree_nodes.specs.Trees.{TypeTree, Param}

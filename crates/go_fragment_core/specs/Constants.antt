@@ -2,7 +2,7 @@
 --
 -- The Go specification, "Constant expressions".
 use Rattle.std.specs.Prelude.{Option, Some, None}
-use Rattle.go_token_core.specs.declared.kind.Operator.{Operator}
+use Rattle.go_constant_core.specs.token_core.declared.kind.Operator.{Operator}
 use Rattle.go_constant_core.specs.declared.values.Constant.{Constant}
 use Rattle.go_constant_core.specs.declared.values.Constant.TheVariants as values
 use Rattle.go_constant_core.specs.Values.{natural, unary, binary}

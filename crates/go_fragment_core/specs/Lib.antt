@@ -5,4 +5,5 @@ pub mod Names
 pub mod Operators
 pub mod Slots
 pub mod mirrors
-pub mod tree_nodes
+pub mod constant_core
+pub mod instruction_core

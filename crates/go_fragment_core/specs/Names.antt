@@ -1,6 +1,6 @@
 -- What code asks of names, and the slots of a function.
 use Rattle.std.specs.Prelude.{ℕ, suc, Bool, true, false, nat_eq, List, [], ◌∷◌, Option, Some, None, if◌then◌else◌}
-use Rattle.go_text_core.specs.Text.{is_blank}
+use Rattle.go_constant_core.specs.text_core.Text.{is_blank}
 use Rattle.go_tree_nodes.specs.declared.names.Ident.{Ident}
 use Rattle.go_tree_nodes.specs.Trees.{ExprTree, Integer, Text, Named, Paren, Unary, Binary, Select, Call, Literal, StructLiteral}
 use Rattle.go_instruction_core.specs.declared.letters.Word.{Word}

@@ -1,7 +1,7 @@
 -- The instructions of operators on words.
 use Rattle.std.specs.Prelude.{List, [], ◌∷◌, Option, Some, None}
-use Rattle.go_token_core.specs.declared.kind.Operator.{Operator}
-use Rattle.go_token_core.specs.declared.kind.Operator.TheVariants as operators
+use Rattle.go_constant_core.specs.token_core.declared.kind.Operator.{Operator}
+use Rattle.go_constant_core.specs.token_core.declared.kind.Operator.TheVariants as operators
 use Rattle.go_instruction_core.specs.declared.instruction.Instruction.{Instruction}
 use Rattle.go_instruction_core.specs.declared.instruction.Instruction.TheVariants as instructions
 

@@ -5,8 +5,8 @@ ghost use Rattle.go_fragment_core.specs.Constants.{constant_of, converted, folde
 ghost use Rattle.go_fragment_core.specs.Names.{callee_meaning};
 
 use crate::names::{CodeNames, ConstantWord, Frame, Meaning};
+use go_constant_core::token_core::Operator;
 use go_constant_core::{Constant, binary, natural, unary};
-use go_token_core::Operator;
 use go_tree_nodes::{Expr, Item};
 use std::alloc::{AllocError, Global};
 

@@ -9,8 +9,8 @@ ghost use Rattle.go_fragment_core.specs.Names.{frame_of, word_of};
 use crate::constants::called;
 use crate::names::{CodeNames, ConstantWord, Frame, Gives, Meaning};
 use crate::slots::slot_of;
+use go_constant_core::token_core::Operator;
 use go_instruction_core::Word;
-use go_token_core::Operator;
 use go_tree_nodes::{Expr, Item, TypeExpr, TypeName};
 
 fn type_of_meaning(meaning: Meaning) -> Option<Word>

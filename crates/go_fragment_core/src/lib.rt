@@ -21,3 +21,13 @@ pub use names::{CodeNames, ConstantWord, Frame, Gives, Meaning};
 pub use operators::{binary_instruction, step_operator, unary_instruction, update_operator};
 pub use slots::{slot_of, slots_of};
 pub use targets::{Target, declared_target, target_of};
+
+/// What the crates above name of `go_constant_core`.
+pub mod constant_core {
+    pub use go_constant_core::{Constant, natural};
+}
+
+/// What the crates above name of `go_instruction_core`.
+pub mod instruction_core {
+    pub use go_instruction_core::{Distance, Instruction, Letters, Word};
+}

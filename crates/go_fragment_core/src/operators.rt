@@ -2,8 +2,8 @@
 ghost use Rattle.std.specs.Prelude.{◌≡◌};
 ghost use Rattle.go_fragment_core.specs.Operators.{binary_instruction, step_operator, unary_instruction, update_operator};
 
+use go_constant_core::token_core::Operator;
 use go_instruction_core::Instruction;
-use go_token_core::Operator;
 
 /// That of a unary operator: none of `+`, which leaves its operand as it is, and of one that no constant and no variable over `int` or `bool` has.
 pub fn unary_instruction(operator: Operator) -> Option<Instruction>

@@ -9,7 +9,7 @@ ghost use Rattle.go_fragment_core.specs.Names.{slot_of};
 ghost use Rattle.go_fragment_core.specs.Slots.{branch_slots, define_slots, else_slots, entry_slots, head_slots, init_slots, lines_slots, local_slot, local_slots, new_slot, new_slots, param_names_slots, param_slot, param_slots, receiver_slots, signature_slots, simple_slots, slots_of, some_simple_slots, stmt_slots, value_spec_slots, value_specs_slots};
 
 use crate::names::CodeNames;
-use go_text_core::{add, is_blank};
+use go_constant_core::text_core::{add, is_blank};
 use go_tree_nodes::{
     Branch, ForHead, FuncDecl, Ident, Idents, InitPart, Line, Loop, Otherwise, Param, Receiver,
     Signature, Simple, Stmt, ValueDecl, ValueKind, ValueSpec, ValueSpecs,

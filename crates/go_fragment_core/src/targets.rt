@@ -5,7 +5,7 @@ ghost use Rattle.go_fragment_core.specs.Names.{declared_slot, frame_of, is_slot,
 
 use crate::names::{CodeNames, Frame, Meaning};
 use crate::slots::slot_of;
-use go_text_core::is_blank;
+use go_constant_core::text_core::is_blank;
 use go_tree_nodes::{Expr, Ident};
 
 /// What is assigned to.

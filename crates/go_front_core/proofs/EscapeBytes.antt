@@ -2,17 +2,17 @@
 use Rattle.std.proofs.Common.{◌≡◌, ℕ, zero, suc, ◌+◌, ◌*◌, Bool, true, false, ◌==◌, ◌||◌, ◌&&◌, inl, inr, nat_lt, nat_le, List, [], ◌∷◌, length, fold, Option, Some, None, encode_utf8, refl, sym, ap, ◌∙◌, subst, arith}
 use Rattle.std.specs.Char.{digit_value}
 use Rattle.std.specs.List.{AllByRecursion}
-use Rattle.go_text_core.proofs.Each.{true_or_false}
-use Rattle.go_token_core.specs.declared.escapes.Meaning.{Meaning}
-use Rattle.go_token_core.specs.declared.escapes.Meaning.TheVariants.{Byte, Char}
-use Rattle.go_token_core.specs.Escapes.{byte_read, digits_at, digits_next, escape_at, scalar_read}
-use Rattle.go_token_core.specs.Numbers.{next_number, number_in}
-use Rattle.go_token_core.specs.Values.{meaning_bytes}
-use Rattle.go_token_core.proofs.Choices.{chosen}
-use Rattle.go_scan_core.specs.Tokens.{AreDigits, IsEscape, is_escape_letter}
-use Rattle.go_scan_core.proofs.CandidateLemmas.{step}
-use Rattle.go_scan_core.proofs.EscapedLemmas.{escape_read}
-use Rattle.go_scan_core.proofs.FrontLemmas.{same_number}
+use Rattle.go_tree_nodes.specs.text_core.Each.{true_or_false}
+use Rattle.go_tree_nodes.specs.token_core.declared.escapes.Meaning.{Meaning}
+use Rattle.go_tree_nodes.specs.token_core.declared.escapes.Meaning.TheVariants.{Byte, Char}
+use Rattle.go_tree_nodes.specs.token_core.Escapes.{byte_read, digits_at, digits_next, escape_at, scalar_read}
+use Rattle.go_tree_nodes.specs.token_core.Numbers.{next_number, number_in}
+use Rattle.go_tree_nodes.specs.token_core.Values.{meaning_bytes}
+use Rattle.go_tree_nodes.specs.token_core.Choices.{chosen}
+use Rattle.go_block_core.specs.scan_core.Tokens.{AreDigits, IsEscape, is_escape_letter}
+use Rattle.go_block_core.specs.scan_core.CandidateLemmas.{step}
+use Rattle.go_block_core.specs.scan_core.EscapedLemmas.{escape_read}
+use Rattle.go_block_core.specs.scan_core.FrontLemmas.{same_number}
 use Rattle.go_front_core.specs.StringLaws.{IsEscapeValue, IsLetterValue}
 
 -- what is read as one escape, to its end, with these bytes

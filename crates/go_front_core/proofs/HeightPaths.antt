@@ -3,7 +3,7 @@ use Rattle.std.proofs.Common.{◌≡◌, ◌≢◌, ℕ, zero, suc, ◌+◌, ◌
 use Rattle.std.specs.List.{flat_map}
 use Rattle.std.specs.Prelude.{Contains}
 use Rattle.std.proofs.lemmas.Bool.{cases_lt}
-use Rattle.go_text_core.specs.declared.span.Span.{Span}
+use Rattle.go_tree_nodes.specs.text_core.declared.span.Span.{Span}
 use Rattle.go_tree_nodes.specs.declared.files.Receiver.{Receiver}
 use Rattle.go_tree_nodes.specs.Heights.{branch_height, decl_height, else_height, exprs_height, fields_height, file_height, for_height, group_height, height, init_height, items_height, lines_height, methods_height, params_height, receiver_height, result_height, signature_height, simple_height, some_expr_height, some_exprs_height, some_simple_height, some_type_height, specs_height, stmt_height, tops_height, type_height, types_height, value_height, value_spec_height, values_height}
 use Rattle.go_tree_nodes.specs.Trees.{Separated, One, Then, TypeTree, FieldTrees, MethodTrees, SignatureTree, ResultTree, ParamTrees, NamedType, Pointer, ParenType, Struct, Interface, NoFields, NamedFields, EmbeddedField, NoMethods, Method, Signed, NoResult, OneResult, Results, NoParams, Param, ExprTree, ItemTrees, Integer, Text, Named, Paren, Unary, Binary, Select, Call, Literal, StructLiteral, NoItems, Item, ValueSpecTree, Specs, Single, Group, ValueTree, TypeDeclTree, TypeSpecTree, SimpleTree, Alone, Step, Assign, Update, Define, ForTree, Forever, While, Clauses, StmtTree, BranchTree, ElseTree, Lines, Empty, Declare, Simple, Return, Break, Continue, Block, If, For, Branch, NoElse, ElseBlock, ElseIf, NoLines, Line, FuncTree, DeclTree, Value, Types, Func, TopTree, FileTree, of_specs}

@@ -8,11 +8,11 @@ use Rattle.std.proofs.lemmas.List.{drop_at, get_or-append_right, get_or_at, leng
 use Rattle.std.proofs.lemmas.List.Elements.{All-cons, All-nil, All-get_or}
 use Rattle.std.proofs.lemmas.Slice.Eq.{bytes_eq-Decides}
 use Rattle.std.proofs.lemmas.Str.{IsUtf8-from_is_utf8, IsUtf8-nil}
-use Rattle.go_text_core.specs.Text.{is_blank}
-use Rattle.go_text_core.proofs.Each.{true_or_false}
-use Rattle.go_token_core.proofs.Choices.{chosen}
-use Rattle.go_scan_core.proofs.FrontLemmas.{and_true, not_true, same_number}
-use Rattle.go_graph_core.specs.Packages.{blank}
+use Rattle.go_tree_nodes.specs.text_core.Text.{is_blank}
+use Rattle.go_tree_nodes.specs.text_core.Each.{true_or_false}
+use Rattle.go_tree_nodes.specs.token_core.Choices.{chosen}
+use Rattle.go_block_core.specs.scan_core.FrontLemmas.{and_true, not_true, same_number}
+use Rattle.go_block_core.specs.graph_core.Packages.{blank}
 use Rattle.go_block_core.specs.Words.{as_text, identifier, if_name, is_nonblank_identifier, last_element, last_name}
 use Rattle.go_block_core.proofs.WordLemmas.{NoneFrom, element_is, other, text_yes}
 use Rattle.go_front_core.specs.ImportLaws.{IsLastElement, IsRefusedName, IsUsableName}

@@ -8,18 +8,18 @@ use Rattle.std.proofs.lemmas.List.Elements.{All-contains, All-contains_itself, A
 use Rattle.unicode.specs.GeneralCategory.{general_category}
 use Rattle.unicode.specs.Rows.{value_in}
 use Rattle.ucd_category.specs.GeneralCategoryRows.{general_category_rows}
-use Rattle.go_text_core.specs.Text.{digit, exported, is_blank, letter, uppercase}
-use Rattle.go_text_core.proofs.Each.{true_or_false}
-use Rattle.go_token_core.specs.Spelling.{keyword_spelling}
-use Rattle.go_token_core.specs.Values.{meaning_at, quoted_value}
+use Rattle.go_tree_nodes.specs.text_core.Text.{digit, exported, is_blank, letter, uppercase}
+use Rattle.go_tree_nodes.specs.text_core.Each.{true_or_false}
+use Rattle.go_tree_nodes.specs.token_core.Spelling.{keyword_spelling}
+use Rattle.go_tree_nodes.specs.token_core.Values.{meaning_at, quoted_value}
 use Rattle.go_tree_nodes.specs.declared.files.ImportName.{ImportName}
 use Rattle.go_tree_nodes.specs.declared.files.ImportName.TheVariants as written
 use Rattle.go_tree_nodes.specs.Terminals.{value_of}
 use Rattle.go_tree_nodes.specs.Trees.{FileTree, ImportSpecTree}
-use Rattle.go_decl_core.specs.declared.keys.DeclRef.{DeclRef}
-use Rattle.go_graph_core.specs.Packages.{IsPackageName, Trees, blank, trees_of}
-use Rattle.go_graph_core.specs.Workspaces.{PackageModel}
-use Rattle.go_graph_core.proofs.Assemblies.{name_of}
+use Rattle.go_block_core.specs.decl_core.declared.keys.DeclRef.{DeclRef}
+use Rattle.go_block_core.specs.graph_core.Packages.{IsPackageName, Trees, blank, trees_of}
+use Rattle.go_block_core.specs.graph_core.Workspaces.{PackageModel}
+use Rattle.go_block_core.specs.graph_core.Assemblies.{name_of}
 use Rattle.go_block_core.specs.declared.binding.Target.{Target}
 use Rattle.go_block_core.specs.declared.binding.Target.TheVariants as targets
 use Rattle.go_block_core.specs.declared.imports.ImportForm.{ImportForm}

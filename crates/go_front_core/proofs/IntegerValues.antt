@@ -4,11 +4,11 @@ use Rattle.std.specs.Prelude.{codes}
 use Rattle.std.specs.Char.{digit_value, is_ascii_digit}
 use Rattle.std.proofs.Math.Nat.{add-mul, mul_assoc, mul_comm, pow-suc, pow-zero}
 use Rattle.std.proofs.lemmas.Bool.Decides.{nat_tests}
-use Rattle.go_token_core.specs.declared.kind.TokenKind.TheVariants as kinds
-use Rattle.go_token_core.specs.Numbers.{integer_value_of, next_number, number_in, radix_letter, radix_of, zero_radix}
-use Rattle.go_token_core.proofs.Choices.{chosen}
-use Rattle.go_scan_core.specs.Tokens.{IsBased, IsDecimal, IsInteger, IsLexeme, IsRun}
-use Rattle.go_scan_core.proofs.FrontLemmas.{and_true, or_true, same_number}
+use Rattle.go_tree_nodes.specs.token_core.declared.kind.TokenKind.TheVariants as kinds
+use Rattle.go_tree_nodes.specs.token_core.Numbers.{integer_value_of, next_number, number_in, radix_letter, radix_of, zero_radix}
+use Rattle.go_tree_nodes.specs.token_core.Choices.{chosen}
+use Rattle.go_block_core.specs.scan_core.Tokens.{IsBased, IsDecimal, IsInteger, IsLexeme, IsRun}
+use Rattle.go_block_core.specs.scan_core.FrontLemmas.{and_true, or_true, same_number}
 use Rattle.go_front_core.specs.IntegerLaws.{AreDigitsOf, IntegerValuesAreOne, IsBaseLetter, IsDecimalValue, IsDigitOf, IsDigitValue, IsIntegerValue, IsLetteredValue, IsNumberIn, IsOctalValue, WorkedIntegers, positional_sum}
 
 -- ---- tests of numbers

@@ -3,17 +3,17 @@ use Rattle.std.proofs.Common.{◌≡◌, ℕ, suc, Bool, true, false, cond, not,
 use Rattle.std.specs.Prelude.{if◌then◌else◌}
 use Rattle.std.proofs.lemmas.List.{append_assoc, append-nil, map-append}
 use Rattle.std.proofs.lemmas.List.Elements.{filter-append}
-use Rattle.go_text_core.specs.declared.span.Span.{Span}
-use Rattle.go_text_core.specs.Text.{is_blank}
+use Rattle.go_tree_nodes.specs.text_core.declared.span.Span.{Span}
+use Rattle.go_tree_nodes.specs.text_core.Text.{is_blank}
 use Rattle.go_tree_nodes.specs.declared.decls.ValueKind.{ValueKind}
 use Rattle.go_tree_nodes.specs.declared.files.Receiver.{Receiver}
 use Rattle.go_tree_nodes.specs.declared.names.Ident.{Ident}
 use Rattle.go_tree_nodes.specs.Spelling.{spell_branch, spell_else, spell_if, spell_lines, mark}
-use Rattle.go_token_core.specs.declared.kind.Operator.TheVariants as operator
+use Rattle.go_tree_nodes.specs.token_core.declared.kind.Operator.TheVariants as operator
 use Rattle.go_tree_nodes.specs.Terminals.{Terminal}
 use Rattle.go_tree_nodes.specs.Trees as tree
 use Rattle.go_tree_nodes.specs.Trees.{Separated, One, Then, SignatureTree, ResultTree, ParamTrees, Signed, NoResult, OneResult, Results, NoParams, Param, ExprTree, ValueSpecTree, Specs, Single, Group, SimpleTree, Alone, Step, Assign, Update, Define, IfTree, ForTree, Forever, While, Clauses, StmtTree, BranchTree, ElseTree, Lines, Empty, Simple, Return, Break, Continue, Block, If, For, Branch, NoElse, ElseBlock, ElseIf, NoLines, Line, FuncTree}
-use Rattle.go_tree_core.specs.Names.{nothing, one_name, take_each, take_some, take_group, take_specs, take_values, take_value_spec, take_simple, take_init, take_if, take_for, take_stmt, take_branch, take_else, take_lines, take_receiver}
+use Rattle.go_block_core.specs.tree_core.Names.{nothing, one_name, take_each, take_some, take_group, take_specs, take_values, take_value_spec, take_simple, take_init, take_if, take_for, take_stmt, take_branch, take_else, take_lines, take_receiver}
 use Rattle.go_local_core.specs.Binding.{Local}
 use Rattle.go_local_core.specs.Law.{Rules, declared_from, law_out}
 use Rattle.go_local_core.specs.Outline.{end_from, idents, some_idents, param_idents, result_idents, signature_idents, some_ident, receiver_idents, spec_steps, group_steps, specs_steps, simple_steps, some_simple_steps, init_steps, some_condition_steps, if_steps, for_steps, stmt_steps, branch_steps, else_steps, lines_steps, func_steps}

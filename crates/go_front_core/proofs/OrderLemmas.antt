@@ -10,16 +10,16 @@ use Rattle.std.proofs.lemmas.List.{get_or_default}
 use Rattle.std.proofs.lemmas.Option.{get_or_from_slice_get, slice_get-map, slice_get_within}
 use Rattle.go_tree_nodes.specs.Spelling.{IsPlaced}
 use Rattle.go_tree_nodes.specs.Trees.{FileTree}
-use Rattle.go_decl_core.specs.declared.keys.DeclRef.{DeclRef}
-use Rattle.go_decl_core.specs.declared.places.Place.{Place}
-use Rattle.go_decl_core.specs.Laws.{HasPlace, KnownDecl, if_whole, known, place_in, wholes}
-use Rattle.go_decl_core.specs.Order.{is_ref_before, place_cmp}
-use Rattle.go_decl_core.specs.Outer.{Embedded, Manner, Outer, Part, Whole, outer_names, places_of}
-use Rattle.go_decl_core.specs.Table.{IsAt, Rise}
-use Rattle.go_decl_core.specs.TopDecls.{TopDeclTree, top_decls}
-use Rattle.go_decl_core.proofs.Numbers.{numbers_are_places}
-use Rattle.go_decl_core.proofs.Order.{places_rise}
-use Rattle.go_decl_core.proofs.Tables.{offset_at}
+use Rattle.go_block_core.specs.decl_core.declared.keys.DeclRef.{DeclRef}
+use Rattle.go_block_core.specs.decl_core.declared.places.Place.{Place}
+use Rattle.go_block_core.specs.decl_core.Laws.{HasPlace, KnownDecl, if_whole, known, place_in, wholes}
+use Rattle.go_block_core.specs.decl_core.Order.{is_ref_before, place_cmp}
+use Rattle.go_block_core.specs.decl_core.Outer.{Embedded, Manner, Outer, Part, Whole, outer_names, places_of}
+use Rattle.go_block_core.specs.decl_core.Table.{IsAt, Rise}
+use Rattle.go_block_core.specs.decl_core.TopDecls.{TopDeclTree, top_decls}
+use Rattle.go_block_core.specs.decl_core.Numbers.{numbers_are_places}
+use Rattle.go_block_core.specs.decl_core.OrderProofs.{places_rise}
+use Rattle.go_block_core.specs.decl_core.Tables.{offset_at}
 use Rattle.go_front_core.specs.OrderLaws.{DeclarationsHaveOneOrder, IsOneOfThree, IsOnePlace, ref_in}
 
 -- ---- the test

@@ -2,18 +2,18 @@
 use Rattle.std.proofs.Common.{◌≡◌, ◌≢◌, ℕ, ◌+◌, ◌-◌, false, ◌==◌, ◌||◌, inl, inr, List, [], ◌∷◌, ◌++◌, length, take, Option, Some, encode_utf8, refl, sym, ap, ◌∙◌, subst, arith}
 use Rattle.std.proofs.lemmas.Bool.Decides.{nat_tests}
 use Rattle.std.proofs.lemmas.List.{length-append, take-append-le, take_all}
-use Rattle.go_text_core.proofs.Each.{true_or_false}
-use Rattle.go_token_core.specs.declared.escapes.Meaning.{Meaning}
-use Rattle.go_token_core.specs.declared.kind.TokenKind.TheVariants as kinds
-use Rattle.go_token_core.specs.Characters.{is_forbidden}
-use Rattle.go_token_core.specs.Escapes.{escape_at}
-use Rattle.go_token_core.specs.Values.{but_last, escape_or, meaning_at, meaning_bytes, quoted_value, raw_value, string_value_of}
-use Rattle.go_token_core.proofs.EscapeLemmas.{escape_longer}
-use Rattle.go_scan_core.specs.declared.enclosed.Enclosure.{Enclosure}
-use Rattle.go_scan_core.specs.declared.enclosed.Enclosure.TheVariants.{General, Quoted, Raw}
-use Rattle.go_scan_core.specs.Enclosed.{closing}
-use Rattle.go_scan_core.specs.Tokens.{AreItems, IsEnclosed, IsItem, IsLexeme, is_special, joined}
-use Rattle.go_scan_core.proofs.FrontLemmas.{or_false, same_number}
+use Rattle.go_tree_nodes.specs.text_core.Each.{true_or_false}
+use Rattle.go_tree_nodes.specs.token_core.declared.escapes.Meaning.{Meaning}
+use Rattle.go_tree_nodes.specs.token_core.declared.kind.TokenKind.TheVariants as kinds
+use Rattle.go_tree_nodes.specs.token_core.Characters.{is_forbidden}
+use Rattle.go_tree_nodes.specs.token_core.Escapes.{escape_at}
+use Rattle.go_tree_nodes.specs.token_core.Values.{but_last, escape_or, meaning_at, meaning_bytes, quoted_value, raw_value, string_value_of}
+use Rattle.go_tree_nodes.specs.token_core.EscapeLemmas.{escape_longer}
+use Rattle.go_block_core.specs.scan_core.declared.enclosed.Enclosure.{Enclosure}
+use Rattle.go_block_core.specs.scan_core.declared.enclosed.Enclosure.TheVariants.{General, Quoted, Raw}
+use Rattle.go_block_core.specs.scan_core.Enclosed.{closing}
+use Rattle.go_block_core.specs.scan_core.Tokens.{AreItems, IsEnclosed, IsItem, IsLexeme, is_special, joined}
+use Rattle.go_block_core.specs.scan_core.FrontLemmas.{or_false, same_number}
 use Rattle.go_front_core.specs.StringLaws.{AreItemValues, IsEnclosedValue, IsEscapeValue, IsItemValue, IsStringValue, StringValuesAreOne}
 use Rattle.go_front_core.proofs.EscapeBytes.{escape_has, escape_value_read}
 

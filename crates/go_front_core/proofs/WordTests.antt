@@ -4,18 +4,18 @@ use Rattle.std.specs.Prelude.{find}
 use Rattle.std.specs.List.{AllByRecursion, list_all, list_any}
 use Rattle.std.specs.Str.{bytes_eq}
 use Rattle.std.proofs.lemmas.Slice.Eq.{bytes_eq-Decides}
-use Rattle.go_text_core.specs.Text.{letter}
-use Rattle.go_text_core.proofs.Each.{true_or_false}
-use Rattle.go_token_core.specs.declared.kind.Keyword.{Keyword}
-use Rattle.go_token_core.specs.declared.kind.TheConstants.{KEYWORDS}
-use Rattle.go_token_core.specs.declared.kind.TokenKind.TheVariants as kinds
-use Rattle.go_token_core.specs.Characters.{first_passes, letter_or_digit}
-use Rattle.go_token_core.specs.Spelling.{keyword_spelling}
-use Rattle.go_token_core.proofs.Choices.{chosen}
-use Rattle.go_scan_core.specs.mirrors.Reading.{keyword_spelled}
-use Rattle.go_scan_core.specs.Tokens.{IsLexeme}
-use Rattle.go_scan_core.proofs.FrontLemmas.{and_true, keyword_again, not_true, or_true}
-use Rattle.go_scan_core.proofs.LexemeLemmas.{all_from_test}
+use Rattle.go_tree_nodes.specs.text_core.Text.{letter}
+use Rattle.go_tree_nodes.specs.text_core.Each.{true_or_false}
+use Rattle.go_tree_nodes.specs.token_core.declared.kind.Keyword.{Keyword}
+use Rattle.go_tree_nodes.specs.token_core.declared.kind.TheConstants.{KEYWORDS}
+use Rattle.go_tree_nodes.specs.token_core.declared.kind.TokenKind.TheVariants as kinds
+use Rattle.go_tree_nodes.specs.token_core.Characters.{first_passes, letter_or_digit}
+use Rattle.go_tree_nodes.specs.token_core.Spelling.{keyword_spelling}
+use Rattle.go_tree_nodes.specs.token_core.Choices.{chosen}
+use Rattle.go_block_core.specs.scan_core.mirrors.Reading.{keyword_spelled}
+use Rattle.go_block_core.specs.scan_core.Tokens.{IsLexeme}
+use Rattle.go_block_core.specs.scan_core.FrontLemmas.{and_true, keyword_again, not_true, or_true}
+use Rattle.go_block_core.specs.scan_core.LexemeLemmas.{all_from_test}
 use Rattle.go_block_core.specs.Words.{begins_with_letter, identifier, is_keyword}
 use Rattle.go_front_core.specs.WordLaws.{IdentifiersAreWords, IsSpelling}
 

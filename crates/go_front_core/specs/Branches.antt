@@ -2,7 +2,7 @@
 --
 -- The Go specification, "Blocks", "Declarations and scope".
 use Rattle.std.specs.Prelude.{◌≡◌, ℕ, ◌&&◌, nat_le, nat_lt, List, [], ◌∷◌, Option, Some, None, codes}
-use Rattle.go_token_core.specs.declared.kind.Operator.TheVariants as operator
+use Rattle.go_tree_nodes.specs.token_core.declared.kind.Operator.TheVariants as operator
 use Rattle.go_tree_nodes.specs.declared.types.TypeName.TheVariants as type_names
 use Rattle.go_tree_nodes.specs.Samples.{at, called, name_at, int_at}
 use Rattle.go_tree_nodes.specs.Trees.{One, Signed, Results, NoParams, Param, ExprTree, Integer, Binary, Assign, Define, Forever, StmtTree, Simple, If, For, BranchTree, Branch, ElseBlock, Lines, NoLines, Line, FuncTree}

@@ -2,7 +2,7 @@
 --
 -- The Go specification, "Types", "Expressions", "Statements", "Blocks", "Declarations and scope".
 use Rattle.std.specs.Prelude.{◌≡◌, ◌≢◌, ℕ, suc, ◌≤◌, [], ◌∷◌, Contains}
-use Rattle.go_token_core.specs.declared.kind.Operator.TheVariants as operators
+use Rattle.go_tree_nodes.specs.token_core.declared.kind.Operator.TheVariants as operators
 use Rattle.go_tree_nodes.specs.declared.decls.ValueKind.TheVariants as value_kinds
 use Rattle.go_tree_nodes.specs.Heights.{decl_height, file_height, height, simple_height, stmt_height, type_height}
 use Rattle.go_tree_nodes.specs.Samples.{at, int_at}

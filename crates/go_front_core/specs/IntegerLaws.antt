@@ -2,9 +2,9 @@
 --
 -- The Go specification, "Integer literals".
 use Rattle.std.specs.Prelude.{◌≡◌, ◌⊎◌, ℕ, ◌+◌, ◌*◌, ◌^◌, ◌<◌, ◌≤◌, List, [], ◌∷◌, length, codes}
-use Rattle.go_token_core.specs.declared.kind.TokenKind.TheVariants as kinds
-use Rattle.go_token_core.specs.Numbers.{integer_value_of}
-use Rattle.go_scan_core.specs.Tokens.{IsLexeme}
+use Rattle.go_tree_nodes.specs.token_core.declared.kind.TokenKind.TheVariants as kinds
+use Rattle.go_tree_nodes.specs.token_core.Numbers.{integer_value_of}
+use Rattle.go_block_core.specs.scan_core.Tokens.{IsLexeme}
 
 -- a character of a row, from its first to its last, whose values rise by one from the lowest, and its value
 abbrev pub IsInRow : ℕ → ℕ → ℕ → ℕ → ℕ → Type 0

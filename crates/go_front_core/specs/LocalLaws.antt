@@ -2,10 +2,10 @@
 --
 -- The Go specification, "Blocks", "Declarations and scope", "Blank identifier".
 use Rattle.std.specs.Prelude.{◌≡◌, ◌⊎◌, ℕ, ◌≤◌, ◌<◌, Bool, not, List, [], ◌∷◌, ◌++◌, Option, filter, map}
-use Rattle.go_text_core.specs.Text.{is_blank}
+use Rattle.go_tree_nodes.specs.text_core.Text.{is_blank}
 use Rattle.go_tree_nodes.specs.declared.names.Ident.{Ident}
 use Rattle.go_tree_nodes.specs.Trees.{ParamTrees, NoParams, Param, ResultTree, NoResult, OneResult, Results, SignatureTree, Signed, StmtTree, Block, If, For, BranchTree, Branch, ElseTree, NoElse, ElseBlock, ElseIf, Lines, NoLines, Line, FuncTree}
-use Rattle.go_tree_core.specs.Names.{Taking, nothing, one_name, take_each, take_lines, take_receiver, take_some}
+use Rattle.go_block_core.specs.tree_core.Names.{Taking, nothing, one_name, take_each, take_lines, take_receiver, take_some}
 use Rattle.go_local_core.specs.Binding.{Local}
 use Rattle.go_local_core.specs.Denoted.{IsAmong}
 use Rattle.go_local_core.specs.Law.{Rules}

@@ -5,10 +5,10 @@ use Rattle.std.specs.Prelude.{◌≡◌, ◌↔◌, ◌⊎◌, ℕ, ◌<◌, tru
 use Rattle.std.specs.declared.cmp.Ordering.TheVariants as orders
 use Rattle.go_tree_nodes.specs.Spelling.{IsPlaced}
 use Rattle.go_tree_nodes.specs.Trees.{FileTree}
-use Rattle.go_decl_core.specs.declared.keys.DeclRef.{DeclRef}
-use Rattle.go_decl_core.specs.Laws.{HasPlace}
-use Rattle.go_decl_core.specs.Order.{is_ref_before, place_cmp}
-use Rattle.go_decl_core.specs.TopDecls.{TopDeclTree, kind_of_form, top_decls}
+use Rattle.go_block_core.specs.decl_core.declared.keys.DeclRef.{DeclRef}
+use Rattle.go_block_core.specs.decl_core.Laws.{HasPlace}
+use Rattle.go_block_core.specs.decl_core.Order.{is_ref_before, place_cmp}
+use Rattle.go_block_core.specs.decl_core.TopDecls.{TopDeclTree, kind_of_form, top_decls}
 
 -- the two stand at one place of the package: one file, and one number there
 abbrev pub IsOnePlace : DeclRef → DeclRef → Type 0

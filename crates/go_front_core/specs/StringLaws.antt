@@ -2,13 +2,13 @@
 --
 -- The Go specification, "String literals", "Rune literals".
 use Rattle.std.specs.Prelude.{◌≡◌, ◌≢◌, ◌⊎◌, ℕ, ◌≤◌, false, List, [], ◌∷◌, ◌++◌, encode_utf8}
-use Rattle.go_token_core.specs.declared.kind.TokenKind.TheVariants as kinds
-use Rattle.go_token_core.specs.Numbers.{number_in}
-use Rattle.go_token_core.specs.Values.{string_value_of}
-use Rattle.go_scan_core.specs.declared.enclosed.Enclosure.{Enclosure}
-use Rattle.go_scan_core.specs.declared.enclosed.Enclosure.TheVariants.{General, Quoted, Raw}
-use Rattle.go_scan_core.specs.Enclosed.{closing, opening}
-use Rattle.go_scan_core.specs.Tokens.{AreDigits, AreItems, IsLexeme, IsScalar, is_special, joined}
+use Rattle.go_tree_nodes.specs.token_core.declared.kind.TokenKind.TheVariants as kinds
+use Rattle.go_tree_nodes.specs.token_core.Numbers.{number_in}
+use Rattle.go_tree_nodes.specs.token_core.Values.{string_value_of}
+use Rattle.go_block_core.specs.scan_core.declared.enclosed.Enclosure.{Enclosure}
+use Rattle.go_block_core.specs.scan_core.declared.enclosed.Enclosure.TheVariants.{General, Quoted, Raw}
+use Rattle.go_block_core.specs.scan_core.Enclosed.{closing, opening}
+use Rattle.go_block_core.specs.scan_core.Tokens.{AreDigits, AreItems, IsLexeme, IsScalar, is_special, joined}
 
 -- the letter of an escape and the byte that it stands for: a, b, f, n, r, t, v, backslash, quotation mark
 abbrev pub IsLetterValue : ℕ → ℕ → Type 0

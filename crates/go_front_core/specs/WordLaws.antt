@@ -2,10 +2,10 @@
 --
 -- The Go specification, "Identifiers", "Keywords".
 use Rattle.std.specs.Prelude.{◌≡◌, ◌↔◌, ℕ, true, List}
-use Rattle.go_token_core.specs.declared.kind.Keyword.{Keyword}
-use Rattle.go_token_core.specs.declared.kind.TokenKind.TheVariants as kinds
-use Rattle.go_token_core.specs.Spelling.{keyword_spelling}
-use Rattle.go_scan_core.specs.Tokens.{IsLexeme}
+use Rattle.go_tree_nodes.specs.token_core.declared.kind.Keyword.{Keyword}
+use Rattle.go_tree_nodes.specs.token_core.declared.kind.TokenKind.TheVariants as kinds
+use Rattle.go_tree_nodes.specs.token_core.Spelling.{keyword_spelling}
+use Rattle.go_block_core.specs.scan_core.Tokens.{IsLexeme}
 use Rattle.go_block_core.specs.Words.{identifier, is_keyword}
 
 -- the word is the spelling of a keyword

@@ -6,7 +6,7 @@ use Rattle.go_text_core.specs.declared.span.Span.{Span}
 use Rattle.go_tree_nodes.specs.Terminals.{Terminal, TerminalKind, Spelled, Number, Quoted, Word, Mark, Stray}
 use Rattle.go_tree_nodes.specs.Trees.{TypeTree, FuncTree}
 use Rattle.go_body_core.specs.decl_core.declared.keys.DeclKey.{DeclKey}
-use Rattle.go_body_core.specs.term_core.Terms.{Term, Sign, NoType}
+use Rattle.go_term_core.specs.Terms.{Term, Sign, NoType}
 use Rattle.go_body_core.specs.settle_core.declared.kind.Kind.{Kind}
 use Rattle.go_body_core.specs.written_core.Written as types
 use Rattle.go_body_core.specs.written_core.Written.{InFile}

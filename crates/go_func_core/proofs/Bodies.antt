@@ -5,7 +5,7 @@ use Rattle.go_text_core.proofs.Each.{Each}
 use Rattle.go_tree_nodes.specs.declared.names.Ident.{Ident}
 use Rattle.go_tree_nodes.specs.Trees.{TypeTree, FuncTree}
 use Rattle.go_tree_nodes.specs.WrittenTypes.{signature_types}
-use Rattle.go_body_core.specs.term_core.Terms.{Term, Sign}
+use Rattle.go_term_core.specs.Terms.{Term, Sign}
 use Rattle.go_body_core.specs.handle_core.Declarations.{Declaration}
 use Rattle.go_body_core.specs.denote_core.declared.things.Found.{Found}
 use Rattle.go_body_core.specs.local_core.Steps.{Piece, Header, Steps, Done, Check, Declare, Inner}

@@ -6,7 +6,7 @@ use Rattle.std.specs.Option.{option_map}
 use Rattle.std.specs.Str.{bytes_eq}
 use Rattle.std.proofs.lemmas.List.Elements.{Contains-append_left, Contains-append_right, Contains-push}
 use Rattle.go_text_core.proofs.Each.{Each, each-weaker, each-filter}
-use Rattle.go_body_core.specs.open_core.Blocks.{or_else}
+use Rattle.go_open_core.specs.Blocks.{or_else}
 use Rattle.go_body_core.specs.local_core.Binding.{Local, bound, shown, is_second, region_has, innermost_of}
 use Rattle.go_body_core.specs.local_core.Binding as binding
 use Rattle.go_body_core.specs.env_core.declared.meaning.Meaning.{Meaning}

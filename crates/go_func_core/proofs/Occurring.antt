@@ -2,7 +2,7 @@
 use Rattle.std.proofs.Common.{◌≡◌, ℕ, true, List, [], map, sym, ap, ◌∙◌, append-nil}
 use Rattle.go_tree_nodes.specs.Trees.{FuncTree}
 use Rattle.go_body_core.specs.tree_core.declared.occurrence.Role.{Role}
-use Rattle.go_body_core.specs.term_core.Terms.{Term, Sign}
+use Rattle.go_term_core.specs.Terms.{Term, Sign}
 use Rattle.go_body_core.specs.handle_core.Declarations.{Declaration}
 use Rattle.go_body_core.specs.local_core.Steps.{Piece, Header, Spec, Act, Condition, Given}
 use Rattle.go_body_core.specs.local_core.Outline.{func_steps, func_opens, func_closes}

@@ -11,7 +11,7 @@ use Rattle.go_tree_nodes.specs.declared.names.Ident.{Ident}
 use Rattle.go_tree_nodes.specs.Terminals.{Terminal, TerminalKind, InOrder, least_width, Spelled, Number, Quoted, Word, Mark, Stray}
 use Rattle.go_tree_nodes.specs.Trees.{FuncTree}
 use Rattle.go_tree_nodes.proofs.InOrder.{in_order_ends}
-use Rattle.go_body_core.specs.open_core.Blocks.{or_else}
+use Rattle.go_open_core.specs.Blocks.{or_else}
 use Rattle.go_body_core.specs.block_core.Blocks.{BlocksModel}
 use Rattle.go_body_core.specs.scope_core.Scopes as scopes
 use Rattle.go_body_core.specs.scope_core.Scopes.{Denoted}

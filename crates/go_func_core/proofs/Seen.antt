@@ -4,7 +4,7 @@ use Rattle.std.specs.Prelude.{if◌then◌else◌}
 use Rattle.go_tree_nodes.specs.declared.types.TypeName.{TypeName}
 use Rattle.go_tree_nodes.specs.Starts.{type_start}
 use Rattle.go_tree_nodes.specs.Trees.{TypeTree, FuncTree}
-use Rattle.go_body_core.specs.term_core.Terms.{NoType}
+use Rattle.go_term_core.specs.Terms.{NoType}
 use Rattle.go_body_core.specs.written_core.Written as types
 use Rattle.go_body_core.specs.local_core.Binding.{Local, NameLook, bound}
 use Rattle.go_body_core.specs.local_core.Tables.{IsFuncPlaced}

@@ -4,7 +4,7 @@
 -- docs/RULES.md, "Bodies of functions", "Types inside functions". The Go specification, "Blocks", "Declarations and scope", "Types", "Statements".
 use Rattle.std.specs.Prelude.{Bool, List, Option}
 use Rattle.go_tree_nodes.specs.Trees.{FuncTree}
-use Rattle.go_body_core.specs.term_core.Terms.{Term}
+use Rattle.go_term_core.specs.Terms.{Term}
 use Rattle.go_body_core.specs.local_core.Binding.{Local}
 use Rattle.go_body_core.specs.local_core.Law.{Rules, Out}
 use Rattle.go_body_core.specs.local_core.Tables.{walked, out_by_intervals, IsTable}

@@ -5,7 +5,7 @@ use Rattle.std.specs.Prelude.{◌≡◌, ℕ, List, Option, Contains, map, ◌�
 use Rattle.go_tree_nodes.specs.Trees.{TypeTree, FuncTree, FileTree}
 use Rattle.go_tree_nodes.specs.declared.types.TypeName.{TypeName}
 use Rattle.go_body_core.specs.tree_core.Occurrences.{func_occs}
-use Rattle.go_body_core.specs.term_core.Terms.{Term}
+use Rattle.go_term_core.specs.Terms.{Term}
 use Rattle.go_body_core.specs.local_core.Binding.{Local, bound}
 use Rattle.go_body_core.specs.local_core.Tables.{IsFuncPlaced}
 use Rattle.go_body_core.specs.names_core.Scope.{beyond_in}

@@ -15,8 +15,11 @@ pub mod handle_core
 pub mod inline_core
 pub mod local_core
 pub mod names_core
+pub mod piece_core
 pub mod scope_core
+pub mod scope_core_lemmas
+pub mod select_core
 pub mod settle_core
-pub mod term_core
+pub mod top_core
 pub mod tree_core
 pub mod written_core

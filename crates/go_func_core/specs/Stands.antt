@@ -3,7 +3,7 @@
 -- docs/RULES.md, "Types inside functions", "Bodies of functions". The Go specification, "Declarations and scope", "Types".
 use Rattle.std.specs.Prelude.{ℕ, List, Option, Some}
 use Rattle.go_body_core.specs.decl_core.declared.keys.DeclKey.{DeclKey}
-use Rattle.go_body_core.specs.term_core.Terms.{Term}
+use Rattle.go_term_core.specs.Terms.{Term}
 use Rattle.go_body_core.specs.settle_core.declared.kind.Kind.{Kind}
 use Rattle.go_body_core.specs.settle_core.Settled.{kind_of_term}
 use Rattle.go_body_core.specs.table_core.Entries.{find_entry, term_in}

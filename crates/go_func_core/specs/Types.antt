@@ -2,7 +2,7 @@
 --
 -- docs/RULES.md, "Types inside functions". The Go specification, "Types", "Declarations and scope".
 use Rattle.std.specs.Prelude.{Bool, true, false, Option, Some, None, if◌then◌else◌}
-use Rattle.go_body_core.specs.term_core.Terms.{NoType}
+use Rattle.go_term_core.specs.Terms.{NoType}
 use Rattle.go_body_core.specs.written_core.Written as types
 use Rattle.go_body_core.specs.local_core.Binding.{NameLook}
 use Rattle.go_body_core.specs.inline_core.Functions.{looked_up_ident}

@@ -17,10 +17,10 @@ use Rattle.go_body_core.specs.decl_core.declared.places.DeclKind.TheVariants as 
 use Rattle.go_body_core.specs.decl_core.declared.keys.DeclRef.{DeclRef}
 use Rattle.go_body_core.specs.decl_core.declared.keys.DeclKey.{DeclKey}
 use Rattle.go_body_core.specs.block_core.Blocks.{BlocksModel, blocks_model}
-use Rattle.go_body_core.specs.term_core.declared.term.Basic.TheVariants as basics
-use Rattle.go_body_core.specs.term_core.declared.term.MemberPlace.{MemberPlace}
-use Rattle.go_body_core.specs.term_core.declared.term.MemberPlace.TheVariants as places
-use Rattle.go_body_core.specs.term_core.Terms.{NoType, Predeclared, Defined, StructOf, NoField, AField}
+use Rattle.go_term_core.specs.declared.term.Basic.TheVariants as basics
+use Rattle.go_term_core.specs.declared.term.MemberPlace.{MemberPlace}
+use Rattle.go_term_core.specs.declared.term.MemberPlace.TheVariants as places
+use Rattle.go_term_core.specs.Terms.{NoType, Predeclared, Defined, StructOf, NoField, AField}
 use Rattle.go_body_core.specs.entry_core.Meanings.{file_meaning}
 use Rattle.go_body_core.specs.denote_core.declared.things.Outcome.{Outcome}
 use Rattle.go_body_core.specs.denote_core.declared.things.Outcome.TheVariants as outcomes

@@ -4,6 +4,5 @@ pub use Rattle.go_body_core.specs.entry_core.Entries as Entries
 pub use Rattle.go_body_core.specs.entry_core.Laws as Laws
 pub use Rattle.go_body_core.specs.entry_core.Meanings as Meanings
 pub use Rattle.go_body_core.specs.entry_core.Numbered as Numbered
-pub use Rattle.go_body_core.specs.entry_core.Ordered as Ordered
 pub use Rattle.go_body_core.specs.entry_core.Outlines as Outlines
 pub use Rattle.go_body_core.specs.entry_core.Showing as Showing

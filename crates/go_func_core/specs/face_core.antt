@@ -4,4 +4,5 @@ pub use Rattle.go_body_core.specs.face_core.Laws as Laws
 pub use Rattle.go_body_core.specs.face_core.Packages as Packages
 pub use Rattle.go_body_core.specs.face_core.Places as Places
 pub use Rattle.go_body_core.specs.face_core.Written as Written
+pub use Rattle.go_body_core.specs.face_core.codes as codes
 pub use Rattle.go_body_core.specs.face_core.declared as declared

@@ -2,9 +2,9 @@
 use Rattle.std.proofs.Common.{◌≡◌, ℕ, ◌<◌, ◌+◌, List, [], ◌∷◌, ◌++◌, length, get_or, take, map, refl, sym, ◌∙◌, ap, subst}
 use Rattle.std.specs.List.{AllZip, flat_map}
 use Rattle.std.proofs.lemmas.List.{take_more, append_assoc, flat_map_more}
-use Rattle.go_parse_core.specs.tree_nodes.declared.files.ImportLine.{ImportLine}
-use Rattle.go_parse_core.specs.tree_nodes.Terminals.{value_of}
-use Rattle.go_parse_core.specs.tree_nodes.Shapes.{shape_import_line}
+use Rattle.go_tree_nodes.specs.declared.files.ImportLine.{ImportLine}
+use Rattle.go_tree_nodes.specs.Terminals.{value_of}
+use Rattle.go_tree_nodes.specs.Shapes.{shape_import_line}
 use Rattle.go_graph_core.specs.declared.imports.ImportOutcome.{ImportOutcome}
 use Rattle.go_graph_core.specs.mirrors.Targets.{Adds}
 use Rattle.go_graph_core.proofs.Zips.{zip_append}

@@ -12,8 +12,8 @@ use Rattle.std.proofs.lemmas.Slice.Eq.{bytes_eq-Decides}
 use lib.Dec.{ltb}
 use Rattle.go_path_core.specs.text_core.declared.rule.Rule.TheVariants.{K2, K3, K4}
 use Rattle.go_path_core.specs.text_core.Each.{true_or_false}
-use Rattle.go_parse_core.specs.tree_nodes.declared.names.Ident.{Ident}
-use Rattle.go_parse_core.specs.tree_nodes.Trees.{FileTree}
+use Rattle.go_tree_nodes.specs.declared.names.Ident.{Ident}
+use Rattle.go_tree_nodes.specs.Trees.{FileTree}
 use Rattle.go_parse_core.specs.declared.error.SynFault.{SynFault}
 use Rattle.go_graph_core.specs.Sources.{SourceModel, source, clause_of, clause_in}
 use Rattle.go_graph_core.specs.mirrors.Clauses.{has_none, clause_has_name, place_in, lacks_clause, is_named, is_other}

@@ -10,8 +10,8 @@ use lib.Dec.{eqb}
 use denote.Ref.{Bor}
 use denote.Enum.Bare.{sameb, same_true, true_same}
 use Rattle.go_path_core.specs.text_core.contracts.rule.Rule as rule
-use Rattle.go_parse_core.specs.tree_nodes.declared.files.File.{File}
-use Rattle.go_parse_core.specs.tree_nodes.Trees.{FileTree}
+use Rattle.go_tree_nodes.specs.declared.files.File.{File}
+use Rattle.go_tree_nodes.specs.Trees.{FileTree}
 use Rattle.go_parse_core.specs.declared.error.SynFault.{SynFault}
 use Rattle.go_parse_core.proofs.Meanings.{has_one_tree}
 use Rattle.go_parse_core.specs.declared.error.ParseError.{ParseError}

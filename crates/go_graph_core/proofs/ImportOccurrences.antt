@@ -1,8 +1,8 @@
 -- The imports of a file and its import occurrences.
 use Rattle.std.proofs.Common.{◌≡◌, ◌++◌, List, [], ◌∷◌, Option, map, refl, sym, ◌∙◌, ap}
 use Rattle.go_path_core.specs.text_core.declared.span.Span.{Span}
-use Rattle.go_parse_core.specs.tree_nodes.Terminals.{value_of}
-use Rattle.go_parse_core.specs.tree_nodes.Trees.{ImportTree, ImportSpecTree, Specs, Single, Group}
+use Rattle.go_tree_nodes.specs.Terminals.{value_of}
+use Rattle.go_tree_nodes.specs.Trees.{ImportTree, ImportSpecTree, Specs, Single, Group}
 use Rattle.go_parse_core.specs.tree_core.Names.{import_strings, take_group, take_specs}
 use Rattle.go_parse_core.specs.tree_core.Telling.{imports_are_occurrences}
 use Rattle.go_graph_core.specs.Imports.{texts_in, texts_of, content_texts}

@@ -2,17 +2,17 @@
 use Rattle.std.specs.Prelude.{refl, ℕ, ⊤, List, Result, Ok, Err, Option, Some, None}
 use Rattle.std.specs.Coded.{Coded, code_by, coded×, coded_list, coded_ℕ, coded_result}
 use denote.Ref.{Bor}
-use Rattle.go_parse_core.specs.tree_nodes.declared.files.File.{File}
-use Rattle.go_parse_core.specs.tree_nodes.declared.names.Ident.{Ident}
-use Rattle.go_parse_core.specs.tree_nodes.Shapes.{file_of}
-use Rattle.go_parse_core.specs.tree_nodes.Spelling.{IsPlaced}
-use Rattle.go_parse_core.specs.tree_nodes.Trees.{FileTree}
+use Rattle.go_tree_nodes.specs.declared.files.File.{File}
+use Rattle.go_tree_nodes.specs.declared.names.Ident.{Ident}
+use Rattle.go_tree_nodes.specs.Shapes.{file_of}
+use Rattle.go_tree_nodes.specs.Spelling.{IsPlaced}
+use Rattle.go_tree_nodes.specs.Trees.{FileTree}
 use Rattle.go_parse_core.specs.declared.error.SynFault.{SynFault}
 use Rattle.go_parse_core.specs.contracts.error.SynFault as syn_fault
 use Rattle.go_parse_core.specs.Correct.{IsSynFault}
 use Rattle.go_parse_core.specs.Parsing.{IsParse}
 use Rattle.go_parse_core.specs.Refusing.{IsRuleRead}
-use Rattle.go_parse_core.specs.tree_nodes.codes.TreeCodes.{coded_file}
+use Rattle.go_tree_nodes.specs.codes.TreeCodes.{coded_file}
 
 -- the tree is that of the text, or this is why the text has none: it is such a fault, and of P1 and P2 it is the one by which reading stops
 abbrev pub IsContent : List ℕ → Result FileTree SynFault → Type 0

@@ -1,17 +1,17 @@
 //! Packages that are assembled from files.
 ghost use Rattle.std.specs.Prelude.{◌≡◌, ◌<◌, length, option_map, slice_get, Some, IfOk};
-ghost use Rattle.go_parse_core.specs.tree_nodes.Shapes.{file_of};
+ghost use Rattle.go_tree_nodes.specs.Shapes.{file_of};
 ghost use Rattle.go_graph_core.specs.mirrors.Clauses.{clause_has_name};
 ghost use Rattle.go_graph_core.specs.mirrors.Flaws.{has_flaw, IsFirstFault, IsFlaw};
 ghost use Rattle.go_graph_core.specs.Packages.{IsAssembly, IsPackageName, IsAssembled, IsNameOf, IsTreeAt, trees_of, tree_shown, assembly_shown};
 ghost use Rattle.go_graph_core.specs.Workspaces.{IsPackage};
-ghost use Rattle.go_parse_core.specs.tree_nodes.Spelling.{IsPlaced};
+ghost use Rattle.go_tree_nodes.specs.Spelling.{IsPlaced};
 
 use crate::source::SourceFile;
 use crate::workspace::PackageSource;
-use go_parse_core::tree_nodes::{File, Ident};
 use go_path_core::ImportPath;
 use go_path_core::text_core::Rule;
+use go_tree_nodes::{File, Ident};
 use std::alloc::AllocError;
 use std::marker::Model;
 

@@ -1,12 +1,12 @@
 //! Source files.
 ghost use Rattle.std.specs.Prelude.{◌≡◌, ◌↔◌, IfOk, IsTrue, string_bytes, option_map, Ok};
-ghost use Rattle.go_parse_core.specs.tree_nodes.Shapes.{file_of};
+ghost use Rattle.go_tree_nodes.specs.Shapes.{file_of};
 ghost use Rattle.go_graph_core.specs.Sources.{source, IsRead, IsPlacedContent, content_shown, clause_of};
 ghost use Rattle.go_graph_core.specs.mirrors.Sameness.{HaveSameFault};
-ghost use Rattle.go_parse_core.specs.tree_nodes.Spelling.{IsPlaced};
+ghost use Rattle.go_tree_nodes.specs.Spelling.{IsPlaced};
 
-use go_parse_core::tree_nodes::{File, Ident};
 use go_parse_core::{ParseError, SynFault, tree_of};
+use go_tree_nodes::{File, Ident};
 use std::alloc::{AllocError, Global};
 use std::marker::Model;
 use std::sync::Arc;

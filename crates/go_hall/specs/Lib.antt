@@ -16,6 +16,4 @@ pub mod sched_core
 pub mod shown_core
 pub mod snap_core
 pub mod submit_core
-pub mod symbol_core
-pub mod thread_core_lemmas
 pub mod type_doc_core

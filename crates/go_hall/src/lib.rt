@@ -29,11 +29,6 @@ pub mod query_core {
     pub use go_type_doc_core::query_core::{Listing, PackageDoc, PackageEntry};
 }
 
-/// What the crates above name of `go_symbol_core`.
-pub mod symbol_core {
-    pub use go_type_doc_core::symbol_core::Symbol;
-}
-
 /// What the crates above name of `go_type_doc_core`.
 pub mod type_doc_core {
     pub use go_type_doc_core::{Member, MemberKind, TypeDoc};

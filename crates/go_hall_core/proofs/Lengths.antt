@@ -5,15 +5,15 @@ use Rattle.std.proofs.lemmas.List.{length_push}
 use Rattle.go_text_core.specs.declared.rule.Rule.TheVariants.{O1, O3, O4, H1}
 use Rattle.go_board_core.specs.part_core.Parts.{PartModel}
 use Rattle.go_board_core.specs.submit_core.Trees.{TreeModel}
-use Rattle.go_board_core.specs.sched_core.Service.{Service, counted, empty, is_full, is_history_full, is_held, clashes, history_rule, most_events, open_rule, taken_modules}
-use Rattle.go_board_core.specs.sched_core.Steps.{Finishes, Replay, Step, Takes, TakesNew, TakesOf, accepts}
-use Rattle.go_board_core.specs.sched_core.declared.event.Event.{Event}
-use Rattle.go_board_core.specs.sched_core.declared.event.Event.TheVariants.{Open, Close, Submit, Take, Finish, GiveBack}
-use Rattle.go_board_core.specs.sched_core.declared.event.SessionId.{SessionId}
-use Rattle.go_board_core.specs.sched_core.declared.event.Reply.{Reply}
-use Rattle.go_board_core.specs.sched_core.declared.event.Reply.TheVariants.{Opened, Closed, Submitted, Act, Idle, Finished, Published, GaveBack, Refused}
+use Rattle.go_sched_core.specs.Service.{Service, counted, empty, is_full, is_history_full, is_held, clashes, history_rule, most_events, open_rule, taken_modules}
+use Rattle.go_sched_core.specs.Steps.{Finishes, Replay, Step, Takes, TakesNew, TakesOf, accepts}
+use Rattle.go_sched_core.specs.declared.event.Event.{Event}
+use Rattle.go_sched_core.specs.declared.event.Event.TheVariants.{Open, Close, Submit, Take, Finish, GiveBack}
+use Rattle.go_sched_core.specs.declared.event.SessionId.{SessionId}
+use Rattle.go_sched_core.specs.declared.event.Reply.{Reply}
+use Rattle.go_sched_core.specs.declared.event.Reply.TheVariants.{Opened, Closed, Submitted, Act, Idle, Finished, Published, GaveBack, Refused}
 use Rattle.go_board_core.specs.submit_core.declared.submission.Submission.{Submission}
-use Rattle.go_board_core.specs.sched_core.declared.running.Running.{Running}
+use Rattle.go_sched_core.specs.declared.running.Running.{Running}
 use Rattle.go_hall_core.specs.Kept.{IsCountOf}
 
 takes_count : (s : Service) (r : Running) (reply : Reply) (t : Service) → Takes s r reply t → accepts reply ≡ true → t.accepted ≡ counted s.accepted

@@ -1,11 +1,11 @@
 -- One more event in a history.
 use Rattle.std.proofs.Common.{◌≡◌, ℕ, ◌+◌, ◌≤◌, ◌<◌, Bool, true, false, List, [], ◌∷◌, ◌++◌, length, refl, ap, ◌∙◌, arith}
-use Rattle.go_board_core.specs.sched_core.Steps.{accepts}
-use Rattle.go_board_core.specs.sched_core.declared.event.Event.{Event}
-use Rattle.go_board_core.specs.sched_core.declared.event.Event.TheVariants.{Open}
-use Rattle.go_board_core.specs.sched_core.declared.event.Reply.{Reply}
-use Rattle.go_board_core.specs.sched_core.declared.event.Reply.TheVariants.{Opened}
-use Rattle.go_board_core.specs.sched_core.declared.event.SessionId.{SessionId}
+use Rattle.go_sched_core.specs.Steps.{accepts}
+use Rattle.go_sched_core.specs.declared.event.Event.{Event}
+use Rattle.go_sched_core.specs.declared.event.Event.TheVariants.{Open}
+use Rattle.go_sched_core.specs.declared.event.Reply.{Reply}
+use Rattle.go_sched_core.specs.declared.event.Reply.TheVariants.{Opened}
+use Rattle.go_sched_core.specs.declared.event.SessionId.{SessionId}
 use Rattle.go_hall_core.specs.Counts.{opens_in, submits_in, open_count, submit_count}
 use Rattle.go_hall_core.specs.Kept.{Kept, Recorded}
 

@@ -4,12 +4,12 @@ use Rattle.std.specs.Prelude.{if◌then◌else◌}
 use Rattle.go_text_core.specs.declared.rule.Rule.{Rule}
 use Rattle.go_text_core.specs.declared.rule.Rule.TheVariants.{M0}
 use Rattle.go_board_core.specs.submit_core.Trees.{TreeModel}
-use Rattle.go_board_core.specs.sched_core.Service.{Service, open_rule, submit_rule}
-use Rattle.go_board_core.specs.sched_core.Steps.{Step, accepts}
-use Rattle.go_board_core.specs.sched_core.declared.event.Event.TheVariants.{Open, Submit}
-use Rattle.go_board_core.specs.sched_core.declared.event.SessionId.{SessionId}
-use Rattle.go_board_core.specs.sched_core.declared.event.Reply.{Reply}
-use Rattle.go_board_core.specs.sched_core.declared.event.Reply.TheVariants.{Opened, Submitted, Refused}
+use Rattle.go_sched_core.specs.Service.{Service, open_rule, submit_rule}
+use Rattle.go_sched_core.specs.Steps.{Step, accepts}
+use Rattle.go_sched_core.specs.declared.event.Event.TheVariants.{Open, Submit}
+use Rattle.go_sched_core.specs.declared.event.SessionId.{SessionId}
+use Rattle.go_sched_core.specs.declared.event.Reply.{Reply}
+use Rattle.go_sched_core.specs.declared.event.Reply.TheVariants.{Opened, Submitted, Refused}
 use Rattle.go_board_core.specs.submit_core.declared.submission.Ticket.{Ticket}
 use Rattle.go_hall_core.specs.Kept.{IsRefusal, hall_rule, late}
 

@@ -1,9 +1,9 @@
 -- A replay goes on by one accepted step.
 use Rattle.std.proofs.Common.{◌≡◌, true, List, [], ◌∷◌, ◌++◌, refl, subst}
-use Rattle.go_board_core.specs.sched_core.Service.{Service}
-use Rattle.go_board_core.specs.sched_core.Steps.{Replay, Step, accepts}
-use Rattle.go_board_core.specs.sched_core.declared.event.Event.{Event}
-use Rattle.go_board_core.specs.sched_core.declared.event.Reply.{Reply}
+use Rattle.go_sched_core.specs.Service.{Service}
+use Rattle.go_sched_core.specs.Steps.{Replay, Step, accepts}
+use Rattle.go_sched_core.specs.declared.event.Event.{Event}
+use Rattle.go_sched_core.specs.declared.event.Reply.{Reply}
 
 pub replay_more : (s : Service) (es : List Event) (m : Service) (e : Event) (r : Reply) (t : Service) → Replay s es m → accepts r ≡ true → Step m e r t → Replay s (es ++ e ∷ []) t
 replay_more s [] m e r t same ok step = (r, t, ok, subst (λ (x : Service). Step x e r t) same step, refl)

@@ -5,20 +5,20 @@ use Rattle.std.specs.List.{position_or_len}
 use Rattle.std.proofs.lemmas.List.{length_push}
 use Rattle.std.proofs.lemmas.List.Folds.{find_at}
 use Rattle.std.proofs.lemmas.List.Edits.{length-remove}
-use Rattle.go_board_core.specs.sched_core.Prepared.{IsAllowed}
+use Rattle.go_sched_core.specs.Prepared.{IsAllowed}
 use Rattle.go_text_core.specs.declared.rule.Rule.TheVariants.{M0, O5, Z1}
 use Rattle.go_board_core.specs.part_core.Parts.{PartModel}
 use Rattle.go_board_core.specs.submit_core.Trees.{TreeModel}
-use Rattle.go_board_core.specs.sched_core.Service.{Service, module_held}
-use Rattle.go_board_core.specs.sched_core.Steps.{Finishes, Step, Takes, TakesNew, TakesOf, runs, without_at}
-use Rattle.go_board_core.specs.sched_core.declared.event.Event.{Event}
-use Rattle.go_board_core.specs.sched_core.declared.event.Event.TheVariants.{Open, Close, Submit, Take, Finish, GiveBack}
-use Rattle.go_board_core.specs.sched_core.declared.event.Held.{Held}
-use Rattle.go_board_core.specs.sched_core.declared.event.SessionId.{SessionId}
-use Rattle.go_board_core.specs.sched_core.declared.event.Reply.{Reply}
-use Rattle.go_board_core.specs.sched_core.declared.event.Reply.TheVariants.{Opened, Closed, Submitted, Act, Idle, Finished, Published, GaveBack, Refused}
+use Rattle.go_sched_core.specs.Service.{Service, module_held}
+use Rattle.go_sched_core.specs.Steps.{Finishes, Step, Takes, TakesNew, TakesOf, runs, without_at}
+use Rattle.go_sched_core.specs.declared.event.Event.{Event}
+use Rattle.go_sched_core.specs.declared.event.Event.TheVariants.{Open, Close, Submit, Take, Finish, GiveBack}
+use Rattle.go_sched_core.specs.declared.event.Held.{Held}
+use Rattle.go_sched_core.specs.declared.event.SessionId.{SessionId}
+use Rattle.go_sched_core.specs.declared.event.Reply.{Reply}
+use Rattle.go_sched_core.specs.declared.event.Reply.TheVariants.{Opened, Closed, Submitted, Act, Idle, Finished, Published, GaveBack, Refused}
 use Rattle.go_board_core.specs.submit_core.declared.submission.Submission.{Submission}
-use Rattle.go_board_core.specs.sched_core.declared.running.Running.{Running}
+use Rattle.go_sched_core.specs.declared.running.Running.{Running}
 use Rattle.go_hall_core.specs.Kept.{owed, owed_batch}
 
 pub owed_batch_le : (o : Option Running) → owed_batch o ≤ 1

@@ -1,10 +1,10 @@
 -- What the lock keeps, as it is stored.
 use Rattle.std.specs.Prelude.{refl, Bool, List}
 use Rattle.std.specs.Coded.{Coded, code_by, coded_bool, coded_list, coded×}
-use Rattle.go_board_core.specs.sched_core.Coding.{coded_service}
-use Rattle.go_board_core.specs.sched_core.Service.{Service}
-use Rattle.go_board_core.specs.sched_core.declared.event.Event.{Event}
-use Rattle.go_board_core.specs.sched_core.contracts.event.Event as event
+use Rattle.go_sched_core.specs.Coding.{coded_service}
+use Rattle.go_sched_core.specs.Service.{Service}
+use Rattle.go_sched_core.specs.declared.event.Event.{Event}
+use Rattle.go_sched_core.specs.contracts.event.Event as event
 use Rattle.go_hall_core.specs.Kept.{Kept, kept_with}
 
 abbrev pub coded_kept : Coded Kept

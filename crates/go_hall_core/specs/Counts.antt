@@ -1,7 +1,7 @@
 -- How many opens and submits stand in a history.
 use Rattle.std.specs.Prelude.{ℕ, ◌+◌, List, [], ◌∷◌}
-use Rattle.go_board_core.specs.sched_core.declared.event.Event.{Event}
-use Rattle.go_board_core.specs.sched_core.declared.event.Event.TheVariants.{Open, Submit}
+use Rattle.go_sched_core.specs.declared.event.Event.{Event}
+use Rattle.go_sched_core.specs.declared.event.Event.TheVariants.{Open, Submit}
 
 abbrev pub open_count : Event → ℕ
 open_count (Open m) = 1

@@ -2,11 +2,11 @@
 use Rattle.std.specs.Prelude.{◌≡◌, ◌⊎◌, ℕ, ◌+◌, ◌≤◌, Bool, true, false, List, [], ◌∷◌, ◌++◌, length, Option, Some, None}
 use Rattle.go_text_core.specs.declared.rule.Rule.{Rule}
 use Rattle.go_text_core.specs.declared.rule.Rule.TheVariants.{M0, H1, H2}
-use Rattle.go_board_core.specs.sched_core.Service.{Service, empty, most_events}
-use Rattle.go_board_core.specs.sched_core.Steps.{Replay, Step, accepts}
-use Rattle.go_board_core.specs.sched_core.declared.event.Event.{Event}
-use Rattle.go_board_core.specs.sched_core.declared.event.Reply.{Reply}
-use Rattle.go_board_core.specs.sched_core.declared.running.Running.{Running}
+use Rattle.go_sched_core.specs.Service.{Service, empty, most_events}
+use Rattle.go_sched_core.specs.Steps.{Replay, Step, accepts}
+use Rattle.go_sched_core.specs.declared.event.Event.{Event}
+use Rattle.go_sched_core.specs.declared.event.Reply.{Reply}
+use Rattle.go_sched_core.specs.declared.running.Running.{Running}
 
 -- the core, the events that it accepted, and whether the hall is stopped
 pub record Kept : Type 0 where

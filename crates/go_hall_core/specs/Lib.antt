@@ -7,4 +7,3 @@ pub mod board_core_lemmas
 pub mod part_core
 pub mod sched_core
 pub mod submit_core
-pub mod thread_core_lemmas

@@ -1,17 +1,17 @@
 //! The lock's value, with the ledger of the submits.
 ghost use Rattle.std.specs.Prelude.{◌≡◌, ◌⊎◌, ℕ, ◌<◌, ◌+◌, [], false, true, IfErr, IfOk, OnErr, OnOk, length};
 ghost use Rattle.std.specs.List.{sum_by};
-ghost use Rattle.go_board_core.specs.sched_core.Service.{Service, empty, open_rule, submit_rule};
-ghost use Rattle.go_board_core.specs.sched_core.Steps.{Replay};
+ghost use Rattle.go_sched_core.specs.Service.{Service, empty, open_rule, submit_rule};
+ghost use Rattle.go_sched_core.specs.Steps.{Replay};
 ghost use Rattle.go_hall_core.specs.Counts.{opens_in, submits_in};
 ghost use Rattle.go_hall_core.specs.Kept.{IsRefusal, Recorded};
 
 use crate::state::HallState;
 use go_board_core::BoardReader;
-use go_board_core::batch_core::ReadPart;
-use go_board_core::sched_core::{Event, Reply, SessionId, TicketState};
 use go_board_core::submit_core::{ModuleTree, Ticket};
 use go_path_core::Module;
+use go_sched_core::batch_core::ReadPart;
+use go_sched_core::{Event, Reply, SessionId, TicketState};
 use go_text_core::Rule;
 use std::alloc::Global;
 use std::marker::{Brand, Model};

@@ -1,9 +1,9 @@
 //! The writer of the board, and the readers.
 ghost use Rattle.std.specs.Prelude.{◌≡◌, IfErr, IfOk, MatchOption};
 
-use go_board_core::sched_core::Ready;
 use go_board_core::submit_core::Batches;
 use go_board_core::{Board, BoardReader, BoardWriter, publish};
+use go_sched_core::Ready;
 use std::alloc::{AllocError, Global};
 use std::mem::ManuallyDrop;
 use std::sync::Wait;

@@ -13,7 +13,7 @@ pub use state::HallState;
 
 /// What the crates above name of `go_batch_core`.
 pub mod batch_core {
-    pub use go_board_core::batch_core::{ReadPart, rebuild};
+    pub use go_sched_core::batch_core::{ReadPart, rebuild};
 }
 
 /// What the crates above name of `go_board_core`.
@@ -28,7 +28,7 @@ pub mod part_core {
 
 /// What the crates above name of `go_sched_core`.
 pub mod sched_core {
-    pub use go_board_core::sched_core::{Action, Event, Reply, SessionId, TicketState};
+    pub use go_sched_core::{Action, Event, Reply, SessionId, TicketState};
 }
 
 /// What the crates above name of `go_submit_core`.

@@ -1,15 +1,15 @@
 //! The lock's value.
 ghost use Rattle.std.specs.Prelude.{if◌then◌else◌, ◌+◌, ◌≡◌, ◌⊎◌, ◌<◌, ◌≤◌, ◌++◌, ◌∷◌, [], false, true, IfErr, IfOk, OnOk, length, vec_capacity, vec_len};
-ghost use Rattle.go_board_core.specs.sched_core.Service.{Service, empty, open_rule, submit_rule, ticket_of};
-ghost use Rattle.go_board_core.specs.sched_core.Steps.{Replay, Step, accepts};
+ghost use Rattle.go_sched_core.specs.Service.{Service, empty, open_rule, submit_rule, ticket_of};
+ghost use Rattle.go_sched_core.specs.Steps.{Replay, Step, accepts};
 ghost use Rattle.go_hall_core.specs.Kept.{IsRefusal, Recorded, late, owed};
 
 use crate::desk::{Desk, seats, show};
 use go_board_core::BoardReader;
-use go_board_core::batch_core::ReadPart;
-use go_board_core::sched_core::{Core, Event, Ready, Reply, SessionId, TicketState};
 use go_board_core::submit_core::{ModuleTree, Ticket};
 use go_path_core::Module;
+use go_sched_core::batch_core::ReadPart;
+use go_sched_core::{Core, Event, Ready, Reply, SessionId, TicketState};
 use go_text_core::Rule;
 use std::alloc::Global;
 use std::marker::Model;
@@ -28,8 +28,8 @@ pub struct HallState {
 
 impl Model for HallState {
     ghost use Rattle.std.specs.Prelude.{◌≡◌, ◌+◌, ◌≤◌, MatchOption, vec_len, vec_capacity};
-    ghost use Rattle.go_board_core.specs.sched_core.Service.{empty};
-    ghost use Rattle.go_board_core.specs.sched_core.Steps.{Replay};
+    ghost use Rattle.go_sched_core.specs.Service.{empty};
+    ghost use Rattle.go_sched_core.specs.Steps.{Replay};
     ghost use Rattle.go_hall_core.specs.Coding.{coded_kept};
     ghost use Rattle.go_hall_core.specs.Kept.{Kept, owed};
 

@@ -3,7 +3,7 @@ use Rattle.std.proofs.Common.{◌≡◌, ℕ, ◌∷◌, length, Some, refl, ap,
 use Rattle.std.specs.Prelude.{map, slice_get, option_map}
 use Rattle.std.proofs.lemmas.List.{length-map}
 use Rattle.std.proofs.lemmas.Option.{slice_get-map}
-use Rattle.go_decide_core.specs.term_core.Terms.{Term, Terms, NoTerm, ATerm, term_list}
+use Rattle.go_term_core.specs.Terms.{Term, Terms, NoTerm, ATerm, term_list}
 use Rattle.go_decide_core.specs.table_core.Entries.{EntryLook}
 use Rattle.go_decide_core.specs.Rules.{typed, all_typed}
 

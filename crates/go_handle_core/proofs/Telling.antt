@@ -5,9 +5,9 @@ use Rattle.std.specs.Prelude.{nat_eq, codes, if◌then◌else◌}
 use Rattle.go_text_core.specs.Text.{is_blank}
 use Rattle.go_text_core.specs.declared.rule.Rule.{Rule}
 use Rattle.go_text_core.specs.declared.rule.Rule.TheVariants.{M0, S6, S8}
-use Rattle.go_decide_core.specs.term_core.declared.term.Method.{Method}
-use Rattle.go_decide_core.specs.term_core.Terms.{Term, NoType, Predeclared, ErrorType, Defined, PointerTo, StructOf, InterfaceOf, NoMethod, AMethod, Sign}
-use Rattle.go_decide_core.specs.term_core.Shapes.{method_shapes}
+use Rattle.go_term_core.specs.declared.term.Method.{Method}
+use Rattle.go_term_core.specs.Terms.{Term, NoType, Predeclared, ErrorType, Defined, PointerTo, StructOf, InterfaceOf, NoMethod, AMethod, Sign}
+use Rattle.go_term_core.specs.Shapes.{method_shapes}
 use Rattle.go_decide_core.specs.table_core.Entries.{Entry, find_entry, underlying_in}
 use Rattle.go_decide_core.specs.level_core.declared.search.Selected.{Selected}
 use Rattle.go_decide_core.specs.level_core.Selectors.{IsSelectorAnswer, Refused, searched}

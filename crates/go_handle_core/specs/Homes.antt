@@ -1,7 +1,7 @@
 -- What is kept of the package of a place.
 use Rattle.std.specs.Prelude.{◌≡◌, ℕ, List}
-use Rattle.go_decide_core.specs.term_core.declared.term.Basic.TheVariants as basics
-use Rattle.go_decide_core.specs.term_core.Terms.{Term, Predeclared, ErrorType, InterfaceOf, NoMethod, Sign}
+use Rattle.go_term_core.specs.declared.term.Basic.TheVariants as basics
+use Rattle.go_term_core.specs.Terms.{Term, Predeclared, ErrorType, InterfaceOf, NoMethod, Sign}
 use Rattle.go_decide_core.specs.mset_core.Implementing.{error_sign}
 
 -- the predeclared types of a package, and the signature of the method of `error`

@@ -12,5 +12,4 @@ pub mod operand_core
 pub mod select_core
 pub mod settle_core
 pub mod table_core
-pub mod term_core
-pub mod universe_core
+pub mod type_core

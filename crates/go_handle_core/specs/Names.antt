@@ -1,7 +1,7 @@
 -- What a selector chooses, with declarations.
 use Rattle.std.specs.Prelude.{ℕ, List, Result}
 use Rattle.go_text_core.specs.declared.rule.Rule.{Rule}
-use Rattle.go_decide_core.specs.term_core.Terms.{Term, Sign}
+use Rattle.go_term_core.specs.Terms.{Term, Sign}
 use Rattle.go_decide_core.specs.table_core.Entries.{Entry, EntryLook, find_entry}
 use Rattle.go_decide_core.specs.denote_core.declared.things.Selection.{Selection}
 use Rattle.go_decide_core.specs.Selecting.{Choice, selected_of}

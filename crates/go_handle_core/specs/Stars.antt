@@ -1,6 +1,6 @@
 -- Types under stars.
 use Rattle.std.specs.Prelude.{ℕ, zero, suc, Option, Some, None}
-use Rattle.go_decide_core.specs.term_core.Terms.{Term, NoType, Predeclared, ErrorType, Defined, PointerTo, StructOf, InterfaceOf}
+use Rattle.go_term_core.specs.Terms.{Term, NoType, Predeclared, ErrorType, Defined, PointerTo, StructOf, InterfaceOf}
 
 -- a type with so many stars before it: pointers to pointers to it, so many
 abbrev pub starred : ℕ → Term → Term

@@ -9,3 +9,4 @@ pub use Rattle.go_decide_core.specs.table_core.Methods as Methods
 pub use Rattle.go_decide_core.specs.table_core.Shown as Shown
 pub use Rattle.go_decide_core.specs.table_core.Tables as Tables
 pub use Rattle.go_decide_core.specs.table_core.codes as codes
+pub use Rattle.go_decide_core.specs.table_core.declared as declared

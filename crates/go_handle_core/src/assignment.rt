@@ -1,6 +1,6 @@
 //! Which values are assignable to variables of a type.
 ghost use Rattle.std.specs.Prelude.{◌≡◌, ◌&&◌, not, true, false, MatchOption, IfOk};
-ghost use Rattle.go_decide_core.specs.term_core.Shapes.{shape};
+ghost use Rattle.go_term_core.specs.Shapes.{shape};
 ghost use Rattle.go_decide_core.specs.table_core.Entries.{find_entry, underlying_in};
 ghost use Rattle.go_decide_core.specs.table_core.Assign.{AValue, is_named};
 ghost use Rattle.go_decide_core.specs.Identity.{identical_under_of};
@@ -13,7 +13,7 @@ use crate::implementing::is_implementing;
 use crate::types::TypeRef;
 use go_decide_core::settle_core::{Kind, kind_of};
 use go_decide_core::table_core::{TypeTable, is_named_type};
-use go_decide_core::term_core::TypeTerm;
+use go_term_core::TypeTerm;
 use std::alloc::{AllocError, Global};
 
 // Whether a type is a name, declared or predeclared.

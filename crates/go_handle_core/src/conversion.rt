@@ -1,7 +1,7 @@
 //! Which types are convertible to one another.
 ghost use Rattle.std.specs.Prelude.{◌≡◌};
 ghost use Rattle.go_decide_core.specs.table_core.Entries.{find_entry};
-ghost use Rattle.go_decide_core.specs.term_core.Terms.{is_no_type};
+ghost use Rattle.go_term_core.specs.Terms.{is_no_type};
 ghost use Rattle.go_decide_core.specs.Conversion.{is_type_term, are_alike, pointers_alike, convertible_of};
 
 use crate::identity::is_identical_under;

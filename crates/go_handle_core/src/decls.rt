@@ -6,7 +6,7 @@ ghost use Rattle.go_decide_core.specs.embed_core.OwnersShown.{found_shown};
 use crate::inside::member_site;
 use go_decide_core::path_core::ImportPath;
 use go_decide_core::select_core::Member;
-use go_decide_core::term_core::MemberPlace;
+use go_term_core::MemberPlace;
 use go_universe_core::Predeclared;
 use std::marker::Model;
 

@@ -1,14 +1,14 @@
 //! The package of a place.
 ghost use Rattle.std.specs.Prelude.{◌≡◌, IfOk};
-ghost use Rattle.go_decide_core.specs.term_core.Terms.{Predeclared, ErrorType, InterfaceOf, NoMethod};
-ghost use Rattle.go_decide_core.specs.term_core.declared.term.Basic.TheVariants as basics;
+ghost use Rattle.go_term_core.specs.Terms.{Predeclared, ErrorType, InterfaceOf, NoMethod};
+ghost use Rattle.go_term_core.specs.declared.term.Basic.TheVariants as basics;
 ghost use Rattle.go_decide_core.specs.mset_core.Implementing.{error_sign};
 
 use crate::inside::error_signature;
 use crate::signatures::SignatureRef;
 use crate::types::TypeRef;
 use go_decide_core::path_core::ImportPath;
-use go_decide_core::term_core::{Basic, Signature, TypeTerm};
+use go_term_core::{Basic, Signature, TypeTerm};
 use std::alloc::{AllocError, Global};
 use std::marker::Model;
 
@@ -39,7 +39,7 @@ impl Drop for Home {
 
 impl Model for Home {
     ghost use Rattle.std.specs.Prelude.{List, ℕ};
-    ghost use Rattle.go_decide_core.specs.term_core.Shapes.{shape, sign_of};
+    ghost use Rattle.go_term_core.specs.Shapes.{shape, sign_of};
     ghost use Rattle.go_handle_core.specs.Homes.{IsHome};
 
     ghost Value = { List ℕ };

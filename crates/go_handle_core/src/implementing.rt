@@ -1,14 +1,14 @@
 //! Which types implement an interface type.
 ghost use Rattle.std.specs.Prelude.{◌≡◌, IfOk};
-ghost use Rattle.go_decide_core.specs.term_core.Shapes.{shape};
-ghost use Rattle.go_decide_core.specs.term_core.Terms.{PointerTo};
+ghost use Rattle.go_term_core.specs.Shapes.{shape};
+ghost use Rattle.go_term_core.specs.Terms.{PointerTo};
 ghost use Rattle.go_decide_core.specs.Implementing.{implements_of};
 ghost use Rattle.go_handle_core.specs.mirrors.Bare.{asks_nothing};
 
 use crate::types::TypeRef;
 use go_decide_core::mset_core::{implements, implements_by_pointer};
 use go_decide_core::table_core::TypeTable;
-use go_decide_core::term_core::TypeTerm;
+use go_term_core::TypeTerm;
 use std::alloc::{AllocError, Global};
 
 // Whether an underlying type asks for no method.

@@ -1,13 +1,13 @@
 //! The signature of the method of `error`, and where members are declared.
 ghost use Rattle.std.specs.Prelude.{◌≡◌, IfOk};
-ghost use Rattle.go_decide_core.specs.term_core.Shapes.{sign_of};
+ghost use Rattle.go_term_core.specs.Shapes.{sign_of};
 ghost use Rattle.go_decide_core.specs.mset_core.Implementing.{error_sign};
 ghost use Rattle.go_decide_core.specs.embed_core.OwnersShown.{found_shown};
 ghost use Rattle.go_handle_core.specs.Declarations.{site_shown, declaration_found};
 
 use crate::decls::DeclSite;
 use go_decide_core::select_core::Member;
-use go_decide_core::term_core::{Basic, Params, Signature, TypeTerm};
+use go_term_core::{Basic, Params, Signature, TypeTerm};
 use std::alloc::{AllocError, Global};
 
 /// The signature of the method `Error` of the predeclared type `error`: no parameter, and a result of type `string`.

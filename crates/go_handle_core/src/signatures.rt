@@ -1,13 +1,13 @@
 //! Signatures that are lent.
 ghost use Rattle.std.specs.Prelude.{◌≡◌, ◌<◌, length, slice_get, Some};
-ghost use Rattle.go_decide_core.specs.term_core.Shapes.{sign_of, shape_found};
+ghost use Rattle.go_term_core.specs.Shapes.{sign_of, shape_found};
 ghost use Rattle.go_decide_core.specs.table_core.Entries.{find_entry};
 ghost use Rattle.go_decide_core.specs.Rules.{typed, param_types_of, results_of};
 
 use crate::conversion::is_type;
 use crate::types::TypeRef;
 use go_decide_core::table_core::TypeTable;
-use go_decide_core::term_core::{Signature, TypeTerm};
+use go_term_core::{Signature, TypeTerm};
 use std::marker::Model;
 
 /// A signature that is lent. Contracts see the signature.
@@ -22,9 +22,9 @@ impl Drop for SignatureRef<'_> {
 }
 
 impl<'a> Model for SignatureRef<'a> {
-    ghost use Rattle.go_decide_core.specs.term_core.Terms.{Sign};
-    ghost use Rattle.go_decide_core.specs.term_core.codes.TermCodes.{coded_sign};
-    ghost use Rattle.go_decide_core.specs.term_core.Shapes.{sign_of};
+    ghost use Rattle.go_term_core.specs.Terms.{Sign};
+    ghost use Rattle.go_term_core.specs.codes.TermCodes.{coded_sign};
+    ghost use Rattle.go_term_core.specs.Shapes.{sign_of};
 
     ghost Value = { Sign };
 

@@ -1,14 +1,14 @@
 //! Types under stars.
 ghost use Rattle.std.specs.Prelude.{◌≡◌, ◌≤◌, ◌^◌, suc, IfOk, OnErr};
-ghost use Rattle.go_decide_core.specs.term_core.Shapes.{shape};
-ghost use Rattle.go_decide_core.specs.term_core.Terms.{PointerTo};
+ghost use Rattle.go_term_core.specs.Shapes.{shape};
+ghost use Rattle.go_term_core.specs.Terms.{PointerTo};
 ghost use Rattle.go_decide_core.specs.table_core.Entries.{find_entry, underlying_in};
 ghost use Rattle.go_handle_core.specs.Stars.{base_in, star_count, starred};
 ghost use Rattle.go_decide_core.specs.Rules.{form_of, form_under};
 
 use go_decide_core::operand_core::TypeForm;
 use go_decide_core::table_core::TypeTable;
-use go_decide_core::term_core::TypeTerm;
+use go_term_core::TypeTerm;
 use std::alloc::AllocError;
 use std::marker::Model;
 
@@ -25,9 +25,9 @@ impl Drop for TypeRef<'_> {
 }
 
 impl<'a> Model for TypeRef<'a> {
-    ghost use Rattle.go_decide_core.specs.term_core.Terms.{Term};
-    ghost use Rattle.go_decide_core.specs.term_core.codes.TermCodes.{coded_term};
-    ghost use Rattle.go_decide_core.specs.term_core.Shapes.{shape};
+    ghost use Rattle.go_term_core.specs.Terms.{Term};
+    ghost use Rattle.go_term_core.specs.codes.TermCodes.{coded_term};
+    ghost use Rattle.go_term_core.specs.Shapes.{shape};
     ghost use Rattle.go_handle_core.specs.Stars.{starred};
 
     ghost Value = { Term };

@@ -8,13 +8,13 @@ use Rattle.std.proofs.lemmas.Option.{slice_get-map, slice_get_read}
 use Rattle.go_tree_nodes.specs.declared.names.Ident.{Ident}
 use Rattle.go_tree_nodes.specs.Trees.{FileTree}
 use Rattle.go_tree_nodes.specs.Spelling.{IsPlaced}
-use Rattle.go_block_core.specs.graph_core.Workspaces.{PackageModel}
-use Rattle.go_block_core.specs.graph_core.OutcomeLaws.{all_at_place}
-use Rattle.go_term_core.specs.decl_core.declared.places.Place.{Place}
-use Rattle.go_term_core.specs.decl_core.declared.tops.Outline.{Outline}
-use Rattle.go_block_core.specs.Blocks.{BlocksModel}
-use Rattle.go_block_core.specs.Exports.{ExportsModel}
-use Rattle.go_block_core.specs.declared.imports.Imported.{Imported}
+use Rattle.go_complete_core.specs.graph_core.Workspaces.{PackageModel}
+use Rattle.go_complete_core.specs.graph_core.OutcomeLaws.{all_at_place}
+use Rattle.go_decl_core.specs.declared.places.Place.{Place}
+use Rattle.go_decl_core.specs.declared.tops.Outline.{Outline}
+use Rattle.go_around_core.specs.block_core.Blocks.{BlocksModel}
+use Rattle.go_around_core.specs.block_core.Exports.{ExportsModel}
+use Rattle.go_around_core.specs.block_core.declared.imports.Imported.{Imported}
 use Rattle.go_term_core.specs.Terms.{Term}
 use Rattle.go_around_core.specs.table_core.Entries.{Entry}
 use Rattle.go_around_core.specs.entry_core.Meanings.{file_meaning}
@@ -22,33 +22,33 @@ use Rattle.go_around_core.specs.entry_core.Outlines.{FileOutline, outline_of, ou
 use Rattle.go_around_core.specs.entry_core.Showing.{shown_in}
 use Rattle.go_local_core.specs.Binding.{NameLook}
 use Rattle.go_local_core.specs.mirrors.Walk.{Names, look_in}
-use Rattle.go_spot_core.specs.denote_core.declared.things.Dot.TheVariants as dots
-use Rattle.go_spot_core.specs.denote_core.declared.things.Outcome.{Outcome}
-use Rattle.go_spot_core.specs.denote_core.declared.things.Outcome.TheVariants as outcomes
+use Rattle.go_around_core.specs.denote_core.declared.things.Dot.TheVariants as dots
+use Rattle.go_around_core.specs.denote_core.declared.things.Outcome.{Outcome}
+use Rattle.go_around_core.specs.denote_core.declared.things.Outcome.TheVariants as outcomes
 use Rattle.go_around_core.specs.handle_core.Declarations.{Declaration}
-use Rattle.go_place_core.specs.context_core.Laws as context
-use Rattle.go_spot_core.specs.expr_core.Uses.{Context, NameAt, SelectorBehind, KeyAmong, rule}
+use Rattle.go_complete_core.specs.context_core.Laws as context
+use Rattle.go_around_core.specs.expr_core.Uses.{Context, NameAt, SelectorBehind, KeyAmong, rule}
 use Rattle.go_around_core.specs.env_core.declared.meaning.Meaning.{Meaning}
 use Rattle.go_around_core.specs.func_core.Stands.{FileStand, looks_where, outer_meanings}
-use Rattle.go_spot_core.specs.Used.{SpotTree}
-use Rattle.go_spot_core.specs.Contexts.{context_of_spot}
-use Rattle.go_spot_core.specs.Opened.{FileUsed}
+use Rattle.go_around_core.specs.spot_core.Used.{SpotTree}
+use Rattle.go_around_core.specs.spot_core.Contexts.{context_of_spot}
+use Rattle.go_around_core.specs.spot_core.Opened.{FileUsed}
 use Rattle.go_around_core.specs.behind_core.Names as behind
 use Rattle.go_around_core.specs.Arounds.{ListsAround, rests_on_types}
-use Rattle.go_place_core.specs.ready_core.Packages.{PackageIn, outlines_in, stand_in, trees_in}
-use Rattle.go_place_core.specs.package_core.Steps.{outline_there}
+use Rattle.go_complete_core.specs.ready_core.Packages.{PackageIn, outlines_in, stand_in, trees_in}
+use Rattle.go_complete_core.specs.package_core.Steps.{outline_there}
 use Rattle.go_around_core.specs.face_core.Faces.{TheFace}
 use Rattle.go_around_core.specs.face_core.Packages.{PackageFacesModel}
 use Rattle.go_around_core.specs.face_core.Written.{WrittenOf}
-use Rattle.go_place_core.specs.summary_core.Views.{exports_told, faces_told}
-use Rattle.go_place_core.specs.part_core.declared.files.PartFile.{PartFile}
-use Rattle.go_place_core.specs.part_core.Inputs.{InputModel}
-use Rattle.go_place_core.specs.part_core.Parts.{FileOf, IsPart, PartModel, file_shown, package_seen, seen_by}
-use Rattle.go_place_core.specs.Completed.{names_placed}
-use Rattle.go_place_core.specs.Completions.{AreNamesFor, is_of_types, stand_of}
+use Rattle.go_complete_core.specs.summary_core.Views.{exports_told, faces_told}
+use Rattle.go_complete_core.specs.part_core.declared.files.PartFile.{PartFile}
+use Rattle.go_complete_core.specs.part_core.Inputs.{InputModel}
+use Rattle.go_complete_core.specs.part_core.Parts.{FileOf, IsPart, PartModel, file_shown, package_seen, seen_by}
+use Rattle.go_complete_core.specs.place_core.Completed.{names_placed}
+use Rattle.go_complete_core.specs.place_core.Completions.{AreNamesFor, is_of_types, stand_of}
 use Rattle.go_hint_core.specs.Hints.{AreNamesByTypes, AreNamesWith, IsSeen, written_of}
 use Rattle.go_hint_core.specs.Kept.{open_by}
-use Rattle.go_place_core.specs.body_core.Notes.{TheLocal}
+use Rattle.go_complete_core.specs.body_core.Notes.{TheLocal}
 use Rattle.go_hint_core.proofs.Standing.{open_there, locals_kept, file_there}
 
 abbrev package_of : PackageModel → BlocksModel → List (List Imported) → List ExportsModel → List PackageFacesModel → PackageIn

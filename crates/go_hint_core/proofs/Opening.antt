@@ -18,19 +18,19 @@ use Rattle.go_local_core.specs.Pieces.{ident_place, piece_declares}
 use Rattle.go_local_core.specs.mirrors.Walk as walk
 use Rattle.go_local_core.specs.mirrors.Walk.{Names, look_in, with_names, news, names_of, walk_out}
 use Rattle.go_around_core.specs.names_core.Body.{each_means}
-use Rattle.go_place_core.specs.piece_core.Headers.{returned_types, returned_names}
-use Rattle.go_place_core.specs.piece_core.Pieces.{piece_values}
+use Rattle.go_around_core.specs.piece_core.Headers.{returned_types, returned_names}
+use Rattle.go_around_core.specs.piece_core.Pieces.{piece_values}
 use Rattle.go_around_core.specs.env_core.declared.meaning.Meaning.{Meaning}
 use Rattle.go_around_core.specs.env_core.declared.meaning.Meaning.TheVariants as meanings
-use Rattle.go_place_core.specs.body_core.Notes.{NoteOf, TheLocal, TheValue, all_locals}
-use Rattle.go_place_core.specs.body_core.Rules.{declared_among, local_if, value_at}
+use Rattle.go_complete_core.specs.body_core.Notes.{NoteOf, TheLocal, TheValue, all_locals}
+use Rattle.go_complete_core.specs.body_core.Rules.{declared_among, local_if, value_at}
 use Rattle.go_around_core.specs.func_core.Functions.{checked_func, own_rules}
 use Rattle.go_around_core.specs.func_core.Stands.{FileStand, looks_where, outer_looks, outer_meanings}
 use Rattle.go_around_core.specs.func_core.Named.{AreNamed, steps_are_named}
-use Rattle.go_spot_core.specs.Opened as tree
-use Rattle.go_spot_core.specs.Opened.{with_idents}
-use Rattle.go_spot_core.specs.Walks.{PieceAt, pieces_at, func_pieces}
-use Rattle.go_place_core.specs.spelling_core.Places.{place_rules}
+use Rattle.go_around_core.specs.spot_core.Opened as tree
+use Rattle.go_around_core.specs.spot_core.Opened.{with_idents}
+use Rattle.go_around_core.specs.spot_core.Walks.{PieceAt, pieces_at, func_pieces}
+use Rattle.go_complete_core.specs.spelling_core.Places.{place_rules}
 use Rattle.go_around_core.specs.behind_core.Keeping.{in_first}
 
 -- what a name means is that it is a local by the offset of its identifier, with a value that is kept

@@ -6,26 +6,26 @@ use Rattle.std.proofs.lemmas.List.Elements.{Contains-append_left, Contains-appen
 use Rattle.go_tree_nodes.specs.declared.names.Ident.{Ident}
 use Rattle.go_tree_nodes.specs.Trees.{Func, FuncTree, TopTree, FileTree}
 use Rattle.go_tree_nodes.specs.Spelling.{IsPlaced}
-use Rattle.go_block_core.specs.graph_core.Zips.{numbered_at}
+use Rattle.go_complete_core.specs.graph_core.Zips.{numbered_at}
 use Rattle.go_local_core.specs.mirrors.Walk.{Names}
 use Rattle.go_around_core.specs.env_core.declared.meaning.Meaning.{Meaning}
 use Rattle.go_around_core.specs.env_core.declared.meaning.Meaning.TheVariants as meanings
-use Rattle.go_place_core.specs.body_core.Notes.{TheLocal, TheValue}
+use Rattle.go_complete_core.specs.body_core.Notes.{TheLocal, TheValue}
 use Rattle.go_around_core.specs.func_core.Stands.{FileStand, outer_meanings}
 use Rattle.go_around_core.specs.func_core.Functions.{checked_func}
 use Rattle.go_around_core.specs.func_core.Bodies.{functions_have_one_table}
-use Rattle.go_place_core.specs.file_core.Files.{decl_locals, tops_locals, file_locals}
-use Rattle.go_spot_core.specs.Opened.{FileUsed}
-use Rattle.go_spot_core.specs.Walks.{PieceAt, func_pieces}
-use Rattle.go_place_core.specs.spelling_core.Places.{place_rules}
-use Rattle.go_place_core.specs.package_core.Checked.{IsFileChecked}
-use Rattle.go_place_core.specs.package_core.Numbered as numbers
-use Rattle.go_place_core.specs.package_core.Numbered.{zip_pair}
-use Rattle.go_place_core.specs.ready_core.Packages.{trees_in}
-use Rattle.go_place_core.specs.summary_core.Summaries.{SummaryModel}
-use Rattle.go_place_core.specs.part_core.Parts.{FileOf, IsFileMadeIn, IsPart, PartModel, package_seen, seen_by}
-use Rattle.go_place_core.specs.Completions.{stand_of}
-use Rattle.go_place_core.specs.Laws.{IsOpenIn, IsPlacedIn}
+use Rattle.go_complete_core.specs.file_core.Files.{decl_locals, tops_locals, file_locals}
+use Rattle.go_around_core.specs.spot_core.Opened.{FileUsed}
+use Rattle.go_around_core.specs.spot_core.Walks.{PieceAt, func_pieces}
+use Rattle.go_complete_core.specs.spelling_core.Places.{place_rules}
+use Rattle.go_complete_core.specs.package_core.Checked.{IsFileChecked}
+use Rattle.go_complete_core.specs.package_core.Numbered as numbers
+use Rattle.go_complete_core.specs.package_core.Numbered.{zip_pair}
+use Rattle.go_complete_core.specs.ready_core.Packages.{trees_in}
+use Rattle.go_complete_core.specs.summary_core.Summaries.{SummaryModel}
+use Rattle.go_complete_core.specs.part_core.Parts.{FileOf, IsFileMadeIn, IsPart, PartModel, package_seen, seen_by}
+use Rattle.go_complete_core.specs.place_core.Completions.{stand_of}
+use Rattle.go_complete_core.specs.place_core.Laws.{IsOpenIn, IsPlacedIn}
 use Rattle.go_around_core.specs.behind_core.Keeping.{either, nothing_in}
 use Rattle.go_hint_core.specs.Kept.{kept_at, open_by, value_or_none}
 use Rattle.go_hint_core.proofs.Opening.{AreKept, func_kept}

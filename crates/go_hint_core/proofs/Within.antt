@@ -16,18 +16,18 @@ use Rattle.go_local_core.specs.Tables.{IsFuncPlaced}
 use Rattle.go_local_core.proofs.Placed.{Placed, func_placed}
 use Rattle.go_term_core.specs.Terms.{Term}
 use Rattle.go_around_core.specs.names_core.Body.{each_means}
-use Rattle.go_place_core.specs.piece_core.Headers.{returned_names, returned_types}
-use Rattle.go_place_core.specs.piece_core.Pieces.{piece_values}
+use Rattle.go_around_core.specs.piece_core.Headers.{returned_names, returned_types}
+use Rattle.go_around_core.specs.piece_core.Pieces.{piece_values}
 use Rattle.go_around_core.specs.env_core.declared.meaning.Meaning.{Meaning}
 use Rattle.go_around_core.specs.env_core.declared.meaning.Meaning.TheVariants as meanings
-use Rattle.go_place_core.specs.body_core.Body.{BodyOf}
-use Rattle.go_place_core.specs.body_core.Notes.{NoteOf, TheLocal, TheValue, all_locals}
-use Rattle.go_place_core.specs.body_core.Rules.{declared_among, value_at}
+use Rattle.go_complete_core.specs.body_core.Body.{BodyOf}
+use Rattle.go_complete_core.specs.body_core.Notes.{NoteOf, TheLocal, TheValue, all_locals}
+use Rattle.go_complete_core.specs.body_core.Rules.{declared_among, value_at}
 use Rattle.go_around_core.specs.func_core.Functions.{checked_func, own_rules, walked_func}
 use Rattle.go_around_core.specs.func_core.Laws.{FunctionsHaveOneTable}
 use Rattle.go_around_core.specs.func_core.Stands.{FileStand, looks_where, outer_looks, outer_meanings}
 use Rattle.go_around_core.specs.func_core.Named.{AreNamed, steps_are_named}
-use Rattle.go_place_core.specs.file_core.Files.{decl_locals, file_locals, tops_locals}
+use Rattle.go_complete_core.specs.file_core.Files.{decl_locals, file_locals, tops_locals}
 
 -- locals that stand one behind another between two places
 abbrev pub Within : ℕ → List TheLocal → ℕ → Type 0

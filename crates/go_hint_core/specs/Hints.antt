@@ -6,12 +6,12 @@ use Rattle.go_tree_nodes.specs.Trees.{FileTree}
 use Rattle.go_tree_nodes.specs.Spelling.{IsPlaced}
 use Rattle.go_around_core.specs.table_core.Entries.{Entry}
 use Rattle.go_around_core.specs.face_core.Written.{WrittenOf, package_written}
-use Rattle.go_place_core.specs.ready_core.Packages.{PackageIn, outlines_in, trees_in}
-use Rattle.go_place_core.specs.part_core.Parts.{IsPart, PartModel, package_seen, seen_by}
-use Rattle.go_spot_core.specs.Opened.{FileUsed}
-use Rattle.go_place_core.specs.Completed.{names_placed}
-use Rattle.go_place_core.specs.Completions.{AreNamesFor, context_at, is_of_types, stand_of}
-use Rattle.go_place_core.specs.Laws.{IsPlacedIn}
+use Rattle.go_complete_core.specs.ready_core.Packages.{PackageIn, outlines_in, trees_in}
+use Rattle.go_complete_core.specs.part_core.Parts.{IsPart, PartModel, package_seen, seen_by}
+use Rattle.go_around_core.specs.spot_core.Opened.{FileUsed}
+use Rattle.go_complete_core.specs.place_core.Completed.{names_placed}
+use Rattle.go_complete_core.specs.place_core.Completions.{AreNamesFor, context_at, is_of_types, stand_of}
+use Rattle.go_complete_core.specs.place_core.Laws.{IsPlacedIn}
 
 -- wherever it stands in its file, exactly these names have a declaration in its place, if its outcome rests on types there
 abbrev pub AreNamesByTypes : PartModel → ℕ → FileTree → FileUsed → List (List ℕ) → Type 0

@@ -4,7 +4,7 @@ use Rattle.go_tree_nodes.specs.declared.names.Ident.{Ident}
 use Rattle.go_local_core.specs.mirrors.Walk.{Names}
 use Rattle.go_around_core.specs.env_core.declared.meaning.Meaning.{Meaning}
 use Rattle.go_around_core.specs.env_core.declared.meaning.Meaning.TheVariants as meanings
-use Rattle.go_place_core.specs.body_core.Notes.{TheLocal, TheValue}
+use Rattle.go_complete_core.specs.body_core.Notes.{TheLocal, TheValue}
 
 -- what the local at an offset stands for: the first that is there
 abbrev pub kept_at : List TheLocal → ℕ → Option TheValue

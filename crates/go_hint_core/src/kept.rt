@@ -2,13 +2,13 @@
 ghost use Rattle.std.specs.Prelude.{◌≡◌, IfOk, map};
 ghost use Rattle.std.specs.Option.{option_map};
 ghost use Rattle.go_around_core.specs.face_core.Faces.{operand_shown};
-ghost use Rattle.go_place_core.specs.package_core.Checked.{local_shown};
+ghost use Rattle.go_complete_core.specs.package_core.Checked.{local_shown};
 ghost use Rattle.go_around_core.specs.Locals as around;
 ghost use Rattle.go_hint_core.specs.Kept.{kept_at, meant_by, open_by};
 
 use go_around_core::OpenLocal;
+use go_complete_core::answer_core::HeldLocal;
 use go_operand_core::Operand;
-use go_place_core::answer_core::HeldLocal;
 use go_term_core::TypeTerm;
 use go_text_core::add;
 use go_tree_nodes::Ident;

@@ -23,7 +23,7 @@ use Rattle.go_names_core.specs.scope_core.Models.{scopes_model}
 use Rattle.go_names_core.specs.scope_core.Laws.{denotes}
 use Rattle.go_tree_nodes.specs.declared.types.TypeName.{TypeName}
 use Rattle.go_embed_core.specs.decl_core.declared.keys.DeclKey.{DeclKey}
-use Rattle.go_embed_core.specs.term_core.Terms.{NoType}
+use Rattle.go_term_core.specs.Terms.{NoType}
 use Rattle.go_embed_core.specs.settle_core.declared.kind.Kind.{Kind}
 use Rattle.go_entry_core.specs.written_core.Written.{InFile, Meaning}
 use Rattle.go_names_core.specs.Scope.{beyond_in, some_meaning}

@@ -7,7 +7,7 @@ use Rattle.go_tree_nodes.specs.declared.types.TypeName.{TypeName}
 use Rattle.go_tree_nodes.specs.declared.types.TypeName.TheVariants as type_names
 use Rattle.go_tree_nodes.specs.Trees.{TypeTree, FuncTree}
 use Rattle.go_embed_core.specs.decl_core.declared.keys.DeclKey.{DeclKey}
-use Rattle.go_embed_core.specs.term_core.Terms.{NoType}
+use Rattle.go_term_core.specs.Terms.{NoType}
 use Rattle.go_embed_core.specs.settle_core.declared.kind.Kind.{Kind}
 use Rattle.go_embed_core.specs.settle_core.Settled.{kind_of_term}
 use Rattle.go_embed_core.specs.table_core.Entries.{find_entry, term_in}

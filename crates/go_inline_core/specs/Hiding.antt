@@ -6,7 +6,7 @@ use Rattle.std.specs.Str.{bytes_eq}
 use Rattle.go_tree_nodes.specs.Trees.{FuncTree}
 use Rattle.go_embed_core.specs.decl_core.declared.keys.DeclKey.{DeclKey}
 use Rattle.go_names_core.specs.block_core.Blocks.{BlocksModel}
-use Rattle.go_embed_core.specs.term_core.Terms.{NoType}
+use Rattle.go_term_core.specs.Terms.{NoType}
 use Rattle.go_embed_core.specs.settle_core.declared.kind.Kind.{Kind}
 use Rattle.go_entry_core.specs.written_core.Written.{InFile, Meaning}
 use Rattle.go_names_core.specs.local_core.Binding.{Local, shown, innermost_of}

@@ -7,8 +7,8 @@ use Rattle.go_tree_nodes.specs.declared.names.Ident.{Ident}
 use Rattle.go_tree_nodes.specs.Trees.{TypeTree, NamedType, Pointer, ParenType, Struct, Interface, FieldTrees, NoFields, NamedFields, EmbeddedField, MethodTrees, NoMethods, Method, SignatureTree, Signed, ResultTree, NoResult, OneResult, Results, ParamTrees, NoParams, Param}
 use Rattle.go_embed_core.specs.decl_core.declared.keys.DeclKey.{DeclKey}
 use Rattle.go_embed_core.specs.decl_core.declared.places.Place.{Place}
-use Rattle.go_embed_core.specs.term_core.declared.term.MemberPlace.{MemberPlace}
-use Rattle.go_embed_core.specs.term_core.declared.term.MemberPlace.TheVariants as places
+use Rattle.go_term_core.specs.declared.term.MemberPlace.{MemberPlace}
+use Rattle.go_term_core.specs.declared.term.MemberPlace.TheVariants as places
 use Rattle.go_embed_core.specs.settle_core.declared.kind.Kind.{Kind}
 use Rattle.go_embed_core.specs.settle_core.Settled.{settled, repeats_earlier}
 use Rattle.go_embed_core.specs.declared.faults.MemberFault.{MemberFault}

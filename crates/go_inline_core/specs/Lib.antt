@@ -6,14 +6,4 @@ pub mod Trees
 pub mod Types
 pub mod codes
 pub mod mirrors
-pub mod block_core
-pub mod decl_core
-pub mod embed_core
-pub mod entry_core
 pub mod names_core
-pub mod scope_core
-pub mod scope_core_lemmas
-pub mod settle_core
-pub mod table_core
-pub mod type_core
-pub mod written_core

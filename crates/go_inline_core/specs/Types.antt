@@ -4,8 +4,8 @@
 use Rattle.std.specs.Prelude.{ℕ, List, Option, nat_eq, map}
 use Rattle.std.specs.Map.{lookup}
 use Rattle.indexmap.specs.IndexMap.{IndexMap}
-use Rattle.go_embed_core.specs.term_core.Terms.{Term}
-use Rattle.go_embed_core.specs.term_core.Shapes.{shape}
+use Rattle.go_term_core.specs.Terms.{Term}
+use Rattle.go_term_core.specs.Shapes.{shape}
 use Rattle.go_names_core.specs.local_core.declared.Fault.{Fault}
 use Rattle.go_inline_core.specs.declared.types.InlineType.{InlineType}
 

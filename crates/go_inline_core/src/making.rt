@@ -1,7 +1,7 @@
 //! What types are that are written inside functions and in initialisers, and what is broken in them.
 ghost use Rattle.std.specs.Prelude.{◌≡◌, ◌++◌, map, IfOk, OnOk, false};
 ghost use Rattle.go_tree_nodes.specs.TypeShapes.{shape_type};
-ghost use Rattle.go_embed_core.specs.term_core.Shapes.{shape};
+ghost use Rattle.go_term_core.specs.Shapes.{shape};
 ghost use Rattle.go_embed_core.specs.settle_core.Settled.{settled};
 ghost use Rattle.go_embed_core.specs.Faults.{term_faults};
 ghost use Rattle.go_entry_core.specs.written_core.Written.{in_file};
@@ -13,10 +13,10 @@ use crate::repeated::repeated_params;
 use crate::types::{InlineType, Note};
 use go_embed_core::decl_core::Places;
 use go_embed_core::settle_core::{Kinds, settle};
-use go_embed_core::term_core::{MemberPlace, TypeTerm};
 use go_embed_core::{MemberFault, check_struct};
 use go_entry_core::written_core::{TypeNames, WrittenIn, write_type};
 use go_names_core::local_core::Fault;
+use go_term_core::{MemberPlace, TypeTerm};
 use go_text_core::add;
 use go_tree_nodes::{TypeExpr, type_start};
 use std::alloc::{AllocError, Global};

@@ -4,8 +4,8 @@ ghost use Rattle.std.specs.Option.{option_map};
 ghost use Rattle.go_inline_core.specs.Types.{inline_at, inline_shown, inlines_of};
 ghost use Rattle.go_inline_core.specs.mirrors.Gathering.{with_first, kept};
 
-use go_embed_core::term_core::TypeTerm;
 use go_names_core::local_core::Fault;
+use go_term_core::TypeTerm;
 use indexmap::IndexMap;
 use std::alloc::{AllocError, Global};
 use std::marker::Model;

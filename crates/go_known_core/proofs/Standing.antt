@@ -4,7 +4,7 @@ use Rattle.std.specs.Prelude.{Option, Some, Contains, Result, Ok, Err, IfOk, sli
 use Rattle.std.proofs.lemmas.Option.{slice_get-map}
 use Rattle.go_tree_nodes.specs.declared.decls.ValueKind.{ValueKind}
 use Rattle.go_tree_nodes.specs.Trees.{ValueSpecTree}
-use Rattle.go_value_core.specs.term_core.Terms.{Term}
+use Rattle.go_term_core.specs.Terms.{Term}
 use Rattle.go_value_core.specs.operand_core.declared.types.Operand.{Operand}
 use Rattle.go_value_core.specs.scope_core.Models.{ScopesModel, scopes_model}
 use Rattle.go_value_core.specs.names_core.Scope.{look_in_scope}

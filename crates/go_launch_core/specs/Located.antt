@@ -2,8 +2,8 @@
 use Rattle.std.specs.Prelude.{ℕ, List, Option, Some, None}
 use Rattle.go_term_core.specs.declared.term.MemberPlace.{MemberPlace}
 use Rattle.go_term_core.specs.declared.term.MemberPlace.TheVariants as places
-use Rattle.go_handle_core.specs.Declarations.{Declaration, Universe, OfError, Package, InFile}
-use Rattle.go_link_core.specs.Functions.{PlaceModel}
+use Rattle.go_answer_core.specs.handle_core.Declarations.{Declaration, Universe, OfError, Package, InFile}
+use Rattle.go_run_core.specs.link_core.Functions.{PlaceModel}
 
 -- the place of an identifier of the package of a path, if it is declared outside functions
 abbrev pub place_in : List ℕ → MemberPlace → Option PlaceModel

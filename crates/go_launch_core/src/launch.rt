@@ -1,16 +1,16 @@
 //! Runs of the packages of a workspace.
 ghost use Rattle.std.specs.Prelude.{◌≡◌, ◌⊎◌, IfOk, IfErr, map, option_map};
 ghost use Rattle.go_object_core.specs.Objects.{object_shown};
-ghost use Rattle.go_link_core.specs.Functions.{place_shown};
-ghost use Rattle.go_link_core.specs.Linked.{HasNoMain, IsBeyond, program_of};
+ghost use Rattle.go_run_core.specs.link_core.Functions.{place_shown};
+ghost use Rattle.go_run_core.specs.link_core.Linked.{HasNoMain, IsBeyond, program_of};
 ghost use Rattle.go_run_core.specs.Runs.{GetsStuck, Gives, run_shown};
 ghost use Rattle.go_launch_core.specs.Located.{place_declared, place_in};
 
 use go_answer_core::Site;
-use go_handle_core::DeclSite;
-use go_link_core::{Place, Places};
+use go_answer_core::handle_core::DeclSite;
 use go_object_core::Object;
 use go_path_core::ImportPath;
+use go_run_core::link_core::{Place, Places};
 use go_term_core::MemberPlace;
 use go_text_core::Rule;
 use std::alloc::Global;

@@ -7,10 +7,10 @@ use Rattle.go_term_core.specs.Terms.{Term, Sign}
 use Rattle.go_local_core.specs.Binding.{Local}
 use Rattle.go_local_core.specs.Steps.{Piece}
 use Rattle.go_local_core.specs.Tables.{IsFuncPlaced}
-use Rattle.go_denote_core.specs.declared.things.Outcome.TheVariants as outcomes
-use Rattle.go_denote_core.specs.declared.things.Stand.TheVariants as stands
-use Rattle.go_expr_core.specs.Faults.{faults}
-use Rattle.go_expr_core.specs.Uses.{uses}
+use Rattle.go_fold_core.specs.denote_core.declared.things.Outcome.TheVariants as outcomes
+use Rattle.go_fold_core.specs.denote_core.declared.things.Stand.TheVariants as stands
+use Rattle.go_fold_core.specs.expr_core.Faults.{faults}
+use Rattle.go_fold_core.specs.expr_core.Uses.{uses}
 use Rattle.govisd_core.specs.handle_core.Declarations.{Declaration}
 use Rattle.govisd_core.specs.env_core.declared.meaning.Meaning.{Meaning}
 use Rattle.govisd_core.specs.body_core.Notes.{TheLocal, TheUse}
@@ -21,12 +21,12 @@ use Rattle.govisd_core.specs.file_core.Files.{decl_faults, decl_uses, tops_uses}
 use Rattle.govisd_core.specs.file_core.Imports.{imports_uses}
 use Rattle.govisd_core.specs.file_core.Laws.{FunctionsArePlaced}
 use Rattle.govisd_core.specs.file_core.Stands.{file_funcs}
-use Rattle.go_block_core.specs.Naming.{file_specs}
+use Rattle.govisd_core.specs.block_core.Naming.{file_specs}
 use Rattle.go_snap_core.specs.whole_core.LocalLaws.{ImportsBindTheirs}
 use Rattle.govisd_core.specs.used_core.Used.{TheOutcome, is_declared}
 use Rattle.govisd_core.specs.ready_core.Packages.{trees_in}
 use Rattle.go_snap_core.specs.package_core.Checked.{imports_at}
-use Rattle.go_summary_core.specs.Views.{types_told}
+use Rattle.govisd_core.specs.summary_core.Views.{types_told}
 use Rattle.go_snap_core.specs.part_core.Inputs.{InputModel, IsInput}
 use Rattle.go_snap_core.specs.part_core.Parts.{ContentOf, FileOf, IsPart, package_seen, seen_by}
 use Rattle.go_snap_core.specs.emit_core.Emitted.{are_clean, code_scene_over, told_to}

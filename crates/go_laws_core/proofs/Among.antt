@@ -1,7 +1,7 @@
 -- Items of lists, by recursion.
 use Rattle.std.proofs.Common.{◌≡◌, inl, inr, ℕ, suc, List, [], ◌∷◌, map, Some, refl, ap, ◌∙◌}
 use Rattle.std.specs.Prelude.{slice_get}
-use Rattle.go_entry_core.proofs.Among.{Among}
+use Rattle.go_snap_core.specs.entry_core.Among.{Among}
 
 -- an item has a number
 pub among_at : {A : Type 0} (xs : List A) (x : A) → Among xs x → (k : ℕ) × (slice_get xs k ≡ Some x)

@@ -5,9 +5,9 @@ use Rattle.std.proofs.lemmas.Option.{get_or_from_slice_get, slice_get_within}
 use Rattle.go_tree_nodes.specs.Rules.{Wf_file}
 use Rattle.go_tree_nodes.specs.Trees.{FileTree}
 use Rattle.go_tree_core.specs.Occurrences.{file_occs}
-use Rattle.go_expr_core.specs.Laws.{use_place, occurrence_place}
+use Rattle.go_fold_core.specs.expr_core.Laws.{use_place, occurrence_place}
 use Rattle.go_snap_core.specs.part_core.Laws.{PartHasOccurrences}
-use Rattle.go_graph_core.specs.Workspaces.{PackageModel, IsWorkspace}
+use Rattle.govisd_core.specs.graph_core.Workspaces.{PackageModel, IsWorkspace}
 use Rattle.govisd_core.specs.ready_core.Packages.{trees_in}
 use Rattle.go_snap_core.specs.part_core.Parts.{FileOf, PartModel}
 use Rattle.go_snap_core.specs.whole_core.Inputs.{AreParts}

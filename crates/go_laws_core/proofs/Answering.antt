@@ -6,13 +6,13 @@ use Rattle.std.proofs.lemmas.Option.{get_or_from_slice_get, slice_get-map, slice
 use Rattle.go_tree_nodes.specs.Trees.{FileTree}
 use Rattle.go_tree_core.specs.declared.occurrence.Occ.{Occ}
 use Rattle.go_tree_core.specs.Occurrences.{file_occs}
-use Rattle.go_expr_core.specs.Laws.{use_place, occurrence_place}
+use Rattle.go_fold_core.specs.expr_core.Laws.{use_place, occurrence_place}
 use Rattle.go_snap_core.specs.part_core.Laws.{PartHasOccurrences}
-use Rattle.go_graph_core.proofs.Assemblies.{has_tree_at, tree_at}
-use Rattle.go_graph_core.specs.Packages.{IsAssembled, tree_shown, trees_of}
-use Rattle.go_graph_core.specs.Sources.{SourceModel}
-use Rattle.go_graph_core.specs.Workspaces.{PackageModel, IsPackage, IsWorkspace}
-use Rattle.go_graph_core.proofs.Zips.{numbered_at}
+use Rattle.govisd_core.specs.graph_core.Assemblies.{has_tree_at, tree_at}
+use Rattle.govisd_core.specs.graph_core.Packages.{IsAssembled, tree_shown, trees_of}
+use Rattle.govisd_core.specs.graph_core.Sources.{SourceModel}
+use Rattle.govisd_core.specs.graph_core.Workspaces.{PackageModel, IsPackage, IsWorkspace}
+use Rattle.govisd_core.specs.graph_core.Zips.{numbered_at}
 use Rattle.govisd_core.specs.ready_core.Packages.{trees_in}
 use Rattle.govisd_core.specs.used_core.Used.{FileUse}
 use Rattle.go_snap_core.specs.part_core.Parts.{FileOf, IsFileMadeIn, PartModel}

@@ -19,41 +19,41 @@ use Rattle.go_operand_core.specs.Values.{default_type}
 use Rattle.go_operand_core.specs.Operators.{binary_operand}
 use Rattle.go_operand_core.specs.Prefixes.{unary_operand}
 use Rattle.go_operand_core.specs.Conversions.{convert, length_of}
-use Rattle.go_denote_core.specs.declared.things.Stand.{Stand}
-use Rattle.go_denote_core.specs.declared.things.Stand.TheVariants as stands
-use Rattle.go_denote_core.specs.declared.things.Builtin.{Builtin}
-use Rattle.go_denote_core.specs.declared.things.Builtin.TheVariants as builtins
-use Rattle.go_denote_core.specs.declared.things.Found.{Found}
-use Rattle.go_denote_core.specs.declared.things.Found.TheVariants as founds
-use Rattle.go_denote_core.specs.declared.things.Exported.{Exported}
-use Rattle.go_denote_core.specs.declared.things.Exported.TheVariants as exporteds
-use Rattle.go_denote_core.specs.declared.things.Selection.{Selection}
-use Rattle.go_denote_core.specs.declared.things.Selection.TheVariants as selections
-use Rattle.go_denote_core.specs.declared.things.Outcome.{Outcome}
-use Rattle.go_denote_core.specs.declared.things.Denoted.{Denoted}
-use Rattle.go_denote_core.specs.declared.things.Denoted.TheVariants as denotes
-use Rattle.go_denote_core.specs.declared.things.Dot.{Dot}
-use Rattle.go_denote_core.specs.declared.things.Dot.TheVariants as dots
-use Rattle.go_denote_core.specs.declared.things.Argument.{Argument}
-use Rattle.go_denote_core.specs.declared.things.Argument.TheVariants as arguments
-use Rattle.go_denote_core.specs.declared.things.Answer.{Answer}
-use Rattle.go_denote_core.specs.Answers.{of_value, value_of_type, package_answer, type_answer, func_answer, value_answer, found_answer}
-use Rattle.go_denote_core.specs.Selectors.{usage_place, exported_answer, dot_of, field_answer, method_answer, member_answer, value_selector, selector_answer}
-use Rattle.go_denote_core.specs.Arguments.{arguments_of, fits_type, is_free}
-use Rattle.go_denote_core.specs.Calls.{of_results, all_fit, func_call, of_conversion, convert_argument, conversion, of_length, length_argument, is_printable, builtin_call, judged_call, of_builtin, free_call, call_answer}
-use Rattle.go_literal_core.specs.declared.things.KeyAnswer.{KeyAnswer}
-use Rattle.go_literal_core.specs.declared.things.LiteralField.{LiteralField}
-use Rattle.go_literal_core.specs.declared.things.NamedField.{NamedField}
-use Rattle.go_literal_core.specs.declared.things.NamedField.TheVariants as nameds
-use Rattle.go_literal_core.specs.Look.{FieldOf}
-use Rattle.go_literal_core.specs.Fields.{shown_field, named_field}
-use Rattle.go_literal_core.specs.Keys.{found_key, key_answer}
-use Rattle.go_literal_core.specs.Literals.{is_struct, literal_denotes}
-use Rattle.go_expr_core.specs.declared.things.Judged.{Judged}
-use Rattle.go_expr_core.specs.Looks.{Looks, look_of_place, literals_at}
-use Rattle.go_expr_core.specs.Places.{inside, under_place, left_place, whole, is_name, is_literal, is_lone_call}
-use Rattle.go_expr_core.specs.Operators.{of_operand, is_star, unary_of, operand_of, binary_operands}
-use Rattle.go_expr_core.specs.Denoting.{ident_answer, type_name_answer, denoted, denoted_items, named_type, select_answer, written_type}
+use Rattle.go_fold_core.specs.denote_core.declared.things.Stand.{Stand}
+use Rattle.go_fold_core.specs.denote_core.declared.things.Stand.TheVariants as stands
+use Rattle.go_fold_core.specs.denote_core.declared.things.Builtin.{Builtin}
+use Rattle.go_fold_core.specs.denote_core.declared.things.Builtin.TheVariants as builtins
+use Rattle.go_fold_core.specs.denote_core.declared.things.Found.{Found}
+use Rattle.go_fold_core.specs.denote_core.declared.things.Found.TheVariants as founds
+use Rattle.go_fold_core.specs.denote_core.declared.things.Exported.{Exported}
+use Rattle.go_fold_core.specs.denote_core.declared.things.Exported.TheVariants as exporteds
+use Rattle.go_fold_core.specs.denote_core.declared.things.Selection.{Selection}
+use Rattle.go_fold_core.specs.denote_core.declared.things.Selection.TheVariants as selections
+use Rattle.go_fold_core.specs.denote_core.declared.things.Outcome.{Outcome}
+use Rattle.go_fold_core.specs.denote_core.declared.things.Denoted.{Denoted}
+use Rattle.go_fold_core.specs.denote_core.declared.things.Denoted.TheVariants as denotes
+use Rattle.go_fold_core.specs.denote_core.declared.things.Dot.{Dot}
+use Rattle.go_fold_core.specs.denote_core.declared.things.Dot.TheVariants as dots
+use Rattle.go_fold_core.specs.denote_core.declared.things.Argument.{Argument}
+use Rattle.go_fold_core.specs.denote_core.declared.things.Argument.TheVariants as arguments
+use Rattle.go_fold_core.specs.denote_core.declared.things.Answer.{Answer}
+use Rattle.go_fold_core.specs.denote_core.Answers.{of_value, value_of_type, package_answer, type_answer, func_answer, value_answer, found_answer}
+use Rattle.go_fold_core.specs.denote_core.Selectors.{usage_place, exported_answer, dot_of, field_answer, method_answer, member_answer, value_selector, selector_answer}
+use Rattle.go_fold_core.specs.denote_core.Arguments.{arguments_of, fits_type, is_free}
+use Rattle.go_fold_core.specs.denote_core.Calls.{of_results, all_fit, func_call, of_conversion, convert_argument, conversion, of_length, length_argument, is_printable, builtin_call, judged_call, of_builtin, free_call, call_answer}
+use Rattle.go_fold_core.specs.literal_core.declared.things.KeyAnswer.{KeyAnswer}
+use Rattle.go_fold_core.specs.literal_core.declared.things.LiteralField.{LiteralField}
+use Rattle.go_fold_core.specs.literal_core.declared.things.NamedField.{NamedField}
+use Rattle.go_fold_core.specs.literal_core.declared.things.NamedField.TheVariants as nameds
+use Rattle.go_fold_core.specs.literal_core.Look.{FieldOf}
+use Rattle.go_fold_core.specs.literal_core.Fields.{shown_field, named_field}
+use Rattle.go_fold_core.specs.literal_core.Keys.{found_key, key_answer}
+use Rattle.go_fold_core.specs.literal_core.Literals.{is_struct, literal_denotes}
+use Rattle.go_fold_core.specs.expr_core.declared.things.Judged.{Judged}
+use Rattle.go_fold_core.specs.expr_core.Looks.{Looks, look_of_place, literals_at}
+use Rattle.go_fold_core.specs.expr_core.Places.{inside, under_place, left_place, whole, is_name, is_literal, is_lone_call}
+use Rattle.go_fold_core.specs.expr_core.Operators.{of_operand, is_star, unary_of, operand_of, binary_operands}
+use Rattle.go_fold_core.specs.expr_core.Denoting.{ident_answer, type_name_answer, denoted, denoted_items, named_type, select_answer, written_type}
 use Rattle.govisd_core.specs.handle_core.Declarations.{Declaration}
 use Rattle.govisd_core.specs.env_core.Looks.{TheLooks}
 use Rattle.go_snap_core.specs.near_core.Near.{NearRest, IfAny, NearDot}
@@ -61,7 +61,7 @@ use Rattle.go_snap_core.specs.near_core.Looks.{AreClosed, LooksAgree}
 use Rattle.go_snap_core.specs.near_core.Closing.{either, default_near, dot_near}
 use Rattle.go_snap_core.specs.near_core.Expressions.{denoted_near, ident_near}
 use Rattle.go_laws_core.specs.Reached.{HasDeclaredIn, IsDeclaredIn}
-use Rattle.go_piece_core.specs.statement_core.Locality.{Each}
+use Rattle.govisd_core.specs.statement_core.Locality.{Each}
 
 -- look-ups agree with themselves
 pub alike_itself : {T S D P : Type 0} (Near : T → Type 0) (Rest : NearRest S D) (looks : Looks T S D P) → LooksAgree Near Rest looks looks

@@ -4,8 +4,8 @@ use Rattle.std.specs.Prelude.{if◌then◌else◌, slice_get}
 use Rattle.std.specs.List.{AllZip, enumerate_from, list_any}
 use Rattle.std.proofs.lemmas.Option.{none-some}
 use Rattle.go_tree_nodes.specs.Trees.{FileTree}
-use Rattle.go_graph_core.specs.Lists.{AllNumbered}
-use Rattle.go_denote_core.specs.declared.things.Outcome.TheVariants as outcomes
+use Rattle.govisd_core.specs.graph_core.Lists.{AllNumbered}
+use Rattle.go_fold_core.specs.denote_core.declared.things.Outcome.TheVariants as outcomes
 use Rattle.go_local_core.specs.declared.Fault.{Fault}
 use Rattle.govisd_core.specs.handle_core.Declarations.{Declaration}
 use Rattle.govisd_core.specs.report_core.Faults.{IsSaid, IsSettled}
@@ -14,7 +14,7 @@ use Rattle.govisd_core.specs.file_core.Files.{file_faults, file_locals, file_use
 use Rattle.govisd_core.specs.used_core.Used.{TheOutcome, is_declared, is_import, judged_import, refused_use, unused_outcome}
 use Rattle.govisd_core.specs.ready_core.Packages.{trees_in}
 use Rattle.go_snap_core.specs.package_core.Checked.{IsFileChecked, imports_at}
-use Rattle.go_summary_core.specs.Views.{types_told}
+use Rattle.govisd_core.specs.summary_core.Views.{types_told}
 use Rattle.go_snap_core.specs.part_core.Inputs.{InputModel, IsInput}
 use Rattle.go_snap_core.specs.part_core.Parts.{ContentOf, FileOf, IsFileMadeIn, IsPart, package_seen, seen_by}
 use Rattle.go_snap_core.specs.emit_core.Emitted.{are_clean, code_scene_over, told_to, whole_object}

@@ -5,10 +5,10 @@ use Rattle.std.proofs.lemmas.List.Elements.{All-nil, All-cons, All-append}
 use Rattle.go_tree_nodes.specs.Trees.{FileTree, FuncTree}
 use Rattle.go_decl_core.specs.TopDecls.{FormTree, FuncForm, TopDeclTree, TypeForm, ValueForm, top_decls}
 use Rattle.govisd_core.specs.handle_core.Declarations.{Declaration}
-use Rattle.go_entry_core.proofs.Among.{Among}
+use Rattle.go_snap_core.specs.entry_core.Among.{Among}
 use Rattle.govisd_core.specs.body_core.Notes.{TheUse}
 use Rattle.govisd_core.specs.ready_core.Packages.{trees_in}
-use Rattle.go_summary_core.specs.Summaries.{SummaryModel}
+use Rattle.govisd_core.specs.summary_core.Summaries.{SummaryModel}
 use Rattle.go_snap_core.specs.part_core.Inputs.{InputModel}
 use Rattle.go_snap_core.specs.part_core.Parts.{ContentOf, FileOf}
 use Rattle.go_fragment_core.specs.Names.{CodeLooks}

@@ -10,16 +10,16 @@ use Rattle.go_fragment_core.specs.Names as code_names
 use Rattle.go_fragment_core.specs.Names.{callee_meaning}
 use Rattle.go_operand_core.specs.declared.types.Operand.{Operand}
 use Rattle.go_operand_core.specs.TypeRules.{TypeRules}
-use Rattle.go_denote_core.specs.declared.things.Exported.{Exported}
-use Rattle.go_denote_core.specs.declared.things.Exported.TheVariants as exporteds
-use Rattle.go_denote_core.specs.declared.things.Found.{Found}
-use Rattle.go_denote_core.specs.declared.things.Found.TheVariants as founds
-use Rattle.go_denote_core.specs.declared.things.Outcome.{Outcome}
-use Rattle.go_denote_core.specs.declared.things.Outcome.TheVariants as outcomes
-use Rattle.go_denote_core.specs.declared.things.Selection.{Selection}
-use Rattle.go_denote_core.specs.declared.things.Selection.TheVariants as selections
-use Rattle.go_expr_core.specs.declared.things.Use.{Use}
-use Rattle.go_expr_core.specs.Looks.{Looks}
+use Rattle.go_fold_core.specs.denote_core.declared.things.Exported.{Exported}
+use Rattle.go_fold_core.specs.denote_core.declared.things.Exported.TheVariants as exporteds
+use Rattle.go_fold_core.specs.denote_core.declared.things.Found.{Found}
+use Rattle.go_fold_core.specs.denote_core.declared.things.Found.TheVariants as founds
+use Rattle.go_fold_core.specs.denote_core.declared.things.Outcome.{Outcome}
+use Rattle.go_fold_core.specs.denote_core.declared.things.Outcome.TheVariants as outcomes
+use Rattle.go_fold_core.specs.denote_core.declared.things.Selection.{Selection}
+use Rattle.go_fold_core.specs.denote_core.declared.things.Selection.TheVariants as selections
+use Rattle.go_fold_core.specs.expr_core.declared.things.Use.{Use}
+use Rattle.go_fold_core.specs.expr_core.Looks.{Looks}
 use Rattle.go_fold_core.specs.Laws.{AreMeant}
 use Rattle.go_fold_core.specs.Reading.{IsBuiltinMeant, IsExportedMeant, IsFieldMeant, IsFoundMeant, IsFunctionMeant, IsMethodMeant, IsOperandMeant, IsSelectionMeant, IsTypeMeant, IsValueMeant, IsVariableMeant, held_meaning}
 use Rattle.go_laws_core.specs.Calling.{without_method, without_methods}

@@ -4,7 +4,7 @@ use Rattle.std.specs.Map.{lookup}
 use Rattle.go_decl_core.specs.declared.keys.DeclRef.{DeclRef}
 use Rattle.go_term_core.specs.declared.term.MemberPlace.{MemberPlace}
 use Rattle.go_term_core.specs.declared.term.MemberPlace.TheVariants as places
-use Rattle.go_table_core.specs.Entries.{Entry, Member}
+use Rattle.govisd_core.specs.table_core.Entries.{Entry, Member}
 use Rattle.go_fragment_core.specs.declared.names.Meaning.{Meaning}
 use Rattle.go_fragment_core.specs.declared.names.Meaning.TheVariants as meanings
 use Rattle.go_snap_core.specs.meaning_core.Words.{sign_gives}

@@ -12,7 +12,7 @@ use Rattle.go_tree_core.specs.declared.occurrence.Occ.{Occ}
 use Rattle.go_tree_core.specs.Occurrences.{decl_occs, file_occs, imports_occs, lines_occs, receiver_occs, signature_occs, tops_occs}
 use Rattle.go_decl_core.specs.Outer.{Outer, decl_outers, type_spec_outers, value_spec_outers}
 use Rattle.go_decl_core.specs.TopDecls.{FormTree, FuncForm, TopDeclTree, TypeForm, ValueForm, decl_decls, named_decls, numbered, specs_decls, top_decls, tops_decls, type_spec_decls, value_spec_decls}
-use Rattle.go_entry_core.proofs.Among.{Among, among_cases, among_left, among_right}
+use Rattle.go_snap_core.specs.entry_core.Among.{Among, among_cases, among_left, among_right}
 
 -- declarations that are no functions
 

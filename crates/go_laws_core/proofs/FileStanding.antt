@@ -7,17 +7,17 @@ use Rattle.std.proofs.lemmas.List.Elements.{All-nil, All-cons, All-contains}
 use Rattle.go_path_core.specs.Path.{IsElement, IsPath, IsPathByte, elements}
 use Rattle.go_path_core.proofs.Paths.{not_cut}
 use Rattle.go_cycle_core.specs.declared.edge.Edge.{Edge}
-use Rattle.go_graph_core.specs.declared.imports.ImportAt.{ImportAt}
-use Rattle.go_graph_core.specs.declared.imports.ImportOutcome.{ImportOutcome}
-use Rattle.go_graph_core.specs.declared.imports.ImportOutcome.TheVariants as outcomes
-use Rattle.go_graph_core.specs.Imports.{IsEdge, IsOutcome, edge}
-use Rattle.go_graph_core.specs.Sources.{SourceModel, IsPlacedSource, IsRead}
-use Rattle.go_graph_core.specs.Workspaces.{AreAllRead, IsPackage, IsWorkspace}
-use Rattle.go_graph_core.proofs.Contents.{placed_content}
-use Rattle.go_block_core.specs.declared.imports.Imported.{Imported}
-use Rattle.go_block_core.specs.declared.imports.Imported.TheVariants as given
-use Rattle.go_block_core.specs.Naming.{IsGiven}
-use Rattle.go_summary_core.specs.Summaries.{SummaryModel}
+use Rattle.govisd_core.specs.graph_core.declared.imports.ImportAt.{ImportAt}
+use Rattle.govisd_core.specs.graph_core.declared.imports.ImportOutcome.{ImportOutcome}
+use Rattle.govisd_core.specs.graph_core.declared.imports.ImportOutcome.TheVariants as outcomes
+use Rattle.govisd_core.specs.graph_core.Imports.{IsEdge, IsOutcome, edge}
+use Rattle.govisd_core.specs.graph_core.Sources.{SourceModel, IsPlacedSource, IsRead}
+use Rattle.govisd_core.specs.graph_core.Workspaces.{AreAllRead, IsPackage, IsWorkspace}
+use Rattle.govisd_core.specs.graph_core.Contents.{placed_content}
+use Rattle.govisd_core.specs.block_core.declared.imports.Imported.{Imported}
+use Rattle.govisd_core.specs.block_core.declared.imports.Imported.TheVariants as given
+use Rattle.govisd_core.specs.block_core.Naming.{IsGiven}
+use Rattle.govisd_core.specs.summary_core.Summaries.{SummaryModel}
 use Rattle.go_snap_core.specs.part_core.Parts.{PartModel}
 use Rattle.go_snap_core.specs.whole_core.Inputs.{AreToldTo, ComesTo, IsPassingImport, ReachesPackage, Shown, Tells}
 use Rattle.govisd_core.specs.Alone.{ImportIsRefused, package_alone, the_path, workspace_alone}

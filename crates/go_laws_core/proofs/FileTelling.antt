@@ -11,15 +11,15 @@ use Rattle.go_parse_core.specs.declared.error.SynFault.{SynFault}
 use Rattle.go_parse_core.specs.Correct.{HasOneTree, IsSynFault}
 use Rattle.go_parse_core.specs.Refusing.{HasOneRule}
 use Rattle.go_snap_core.specs.answer_core.Outer.{fault}
-use Rattle.go_graph_core.specs.Lists.{AllNumbered}
-use Rattle.go_graph_core.specs.Packages.{blank, trees_of}
-use Rattle.go_graph_core.specs.Sources.{SourceModel, IsContent, source}
-use Rattle.go_graph_core.specs.Workspaces.{PackageModel}
-use Rattle.go_block_core.specs.declared.imports.Imported.{Imported}
-use Rattle.go_block_core.specs.Naming.{AreInFile}
-use Rattle.go_block_core.proofs.Growing.{package_weaker}
+use Rattle.govisd_core.specs.graph_core.Lists.{AllNumbered}
+use Rattle.govisd_core.specs.graph_core.Packages.{blank, trees_of}
+use Rattle.govisd_core.specs.graph_core.Sources.{SourceModel, IsContent, source}
+use Rattle.govisd_core.specs.graph_core.Workspaces.{PackageModel}
+use Rattle.govisd_core.specs.block_core.declared.imports.Imported.{Imported}
+use Rattle.govisd_core.specs.block_core.Naming.{AreInFile}
+use Rattle.govisd_core.specs.block_core.Growing.{package_weaker}
 use Rattle.govisd_core.specs.used_core.Used.{FileUse}
-use Rattle.go_summary_core.specs.Summaries.{SummaryModel}
+use Rattle.govisd_core.specs.summary_core.Summaries.{SummaryModel}
 use Rattle.go_snap_core.specs.part_core.Inputs.{InputModel, input_with}
 use Rattle.go_snap_core.specs.part_core.Parts.{FileOf, IsFileMadeIn, IsPart, PartModel}
 use Rattle.go_snap_core.specs.whole_core.Inputs.{ComesTo, IsInputOf, IsPartOf}

@@ -2,15 +2,15 @@
 use Rattle.std.proofs.Common.{◌≡◌, inl, inr, ℕ, List, All, Contains, Option, Some, sym, ap, subst, ◌∙◌}
 use Rattle.std.specs.Prelude.{slice_get}
 use Rattle.std.specs.List.{flat_map}
-use Rattle.go_graph_core.specs.Packages.{trees_of}
-use Rattle.go_graph_core.specs.Workspaces.{PackageModel, IsWorkspace}
-use Rattle.go_graph_core.proofs.PlanLaws.{has_plan}
-use Rattle.go_block_core.specs.declared.imports.Imported.{Imported}
-use Rattle.go_block_core.specs.declared.imports.Imported.TheVariants as imported
-use Rattle.go_block_core.specs.Exports.{ExportsModel}
-use Rattle.go_block_core.proofs.GivenSteps.{have_one_each}
-use Rattle.go_entry_core.proofs.Among.{among_to}
-use Rattle.go_summary_core.specs.Summaries.{SummaryModel, path_of}
+use Rattle.govisd_core.specs.graph_core.Packages.{trees_of}
+use Rattle.govisd_core.specs.graph_core.Workspaces.{PackageModel, IsWorkspace}
+use Rattle.govisd_core.specs.graph_core.PlanLaws.{has_plan}
+use Rattle.govisd_core.specs.block_core.declared.imports.Imported.{Imported}
+use Rattle.govisd_core.specs.block_core.declared.imports.Imported.TheVariants as imported
+use Rattle.govisd_core.specs.block_core.Exports.{ExportsModel}
+use Rattle.govisd_core.specs.block_core.GivenSteps.{have_one_each}
+use Rattle.go_snap_core.specs.entry_core.Among.{among_to}
+use Rattle.govisd_core.specs.summary_core.Summaries.{SummaryModel, path_of}
 use Rattle.go_snap_core.specs.whole_core.Known.{IsImportedPath}
 use Rattle.go_snap_core.specs.part_core.Inputs.{IsInput, path_in}
 use Rattle.go_snap_core.specs.part_core.Parts.{PartModel}

@@ -7,38 +7,38 @@ use Rattle.go_tree_nodes.specs.declared.types.TypeName.{TypeName}
 use Rattle.go_tree_nodes.specs.Trees.{TypeTree, FuncTree, DeclTree, Value, Types, Func, TopTree, FileTree, ImportSpecTree, ValueSpecTree, TypeSpecTree}
 use Rattle.go_decl_core.specs.declared.keys.DeclKey.{DeclKey}
 use Rattle.go_term_core.specs.Terms.{Term, NoType, Predeclared, ErrorType, Defined, PointerTo, StructOf, InterfaceOf, Fields, NoField, AField, Sign}
-use Rattle.go_block_core.specs.declared.imports.Imported.{Imported}
-use Rattle.go_block_core.specs.declared.imports.Imported.TheVariants as given
-use Rattle.go_block_core.specs.Naming.{file_specs}
-use Rattle.go_table_core.specs.Entries.{Entry, find_entry, has_method, underlying_in}
+use Rattle.govisd_core.specs.block_core.declared.imports.Imported.{Imported}
+use Rattle.govisd_core.specs.block_core.declared.imports.Imported.TheVariants as given
+use Rattle.govisd_core.specs.block_core.Naming.{file_specs}
+use Rattle.govisd_core.specs.table_core.Entries.{Entry, find_entry, has_method, underlying_in}
 use Rattle.go_settle_core.specs.Settled.{settled}
-use Rattle.go_level_core.specs.embed_core.Owners.{OwnerModel, owner_in, Found, AFieldOf, AMethodOf, AnInterfaces, TheErrorMethod}
-use Rattle.go_decide_core.specs.Rules.{form_under, member_selection, term_rules}
-use Rattle.go_decide_core.specs.Selecting.{Choice, selected_of}
+use Rattle.govisd_core.specs.embed_core.Owners.{OwnerModel, owner_in, Found, AFieldOf, AMethodOf, AnInterfaces, TheErrorMethod}
+use Rattle.govisd_core.specs.decide_core.Rules.{form_under, member_selection, term_rules}
+use Rattle.govisd_core.specs.decide_core.Selecting.{Choice, selected_of}
 use Rattle.go_operand_core.specs.declared.types.Operand.{Operand}
-use Rattle.go_denote_core.specs.declared.things.Selection.{Selection}
+use Rattle.go_fold_core.specs.denote_core.declared.things.Selection.{Selection}
 use Rattle.govisd_core.specs.handle_core.Declarations.{Declaration, Universe, OfError, Package, InFile, declaration_found}
 use Rattle.govisd_core.specs.handle_core.Names.{selection_in, shown_choice}
 use Rattle.go_written_core.specs.Written.{term_of}
 use Rattle.go_local_core.specs.Binding.{NameLook}
 use Rattle.go_local_core.specs.Steps.{Piece}
 use Rattle.go_local_core.specs.Outline.{func_steps, func_opens, func_closes}
-use Rattle.go_names_core.specs.declared.meaning.Outside.{Outside}
-use Rattle.go_names_core.specs.Scope.{some_meaning}
-use Rattle.go_scope_core.specs.Scopes as scopes
-use Rattle.go_scope_core.specs.Scopes.{Denoted}
-use Rattle.go_scope_core.specs.Models.{scopes_model}
-use Rattle.go_scope_core.specs.Laws.{denotes}
+use Rattle.govisd_core.specs.names_core.declared.meaning.Outside.{Outside}
+use Rattle.govisd_core.specs.names_core.Scope.{some_meaning}
+use Rattle.govisd_core.specs.scope_core.Scopes as scopes
+use Rattle.govisd_core.specs.scope_core.Scopes.{Denoted}
+use Rattle.govisd_core.specs.scope_core.Models.{scopes_model}
+use Rattle.govisd_core.specs.scope_core.Laws.{denotes}
 use Rattle.govisd_core.specs.inline_core.Functions.{looked_up_ident}
 use Rattle.govisd_core.specs.env_core.declared.meaning.Meaning.{Meaning}
 use Rattle.govisd_core.specs.env_core.declared.meaning.Meaning.TheVariants as meanings
 use Rattle.govisd_core.specs.env_core.Found.{found_exported, found_of, found_outside}
 use Rattle.govisd_core.specs.env_core.Fields.{fields_seen, owner_seen, term_seen}
-use Rattle.go_piece_core.specs.Headers.{returned_names, returned_types}
-use Rattle.go_piece_core.specs.Pieces.{piece_values}
+use Rattle.govisd_core.specs.piece_core.Headers.{returned_names, returned_types}
+use Rattle.govisd_core.specs.piece_core.Pieces.{piece_values}
 use Rattle.go_local_core.specs.Pieces.{piece_declares}
-use Rattle.go_piece_core.specs.Specifications.{spec_uses}
-use Rattle.go_expr_core.specs.TypeUses.{type_uses}
+use Rattle.govisd_core.specs.piece_core.Specifications.{spec_uses}
+use Rattle.go_fold_core.specs.expr_core.TypeUses.{type_uses}
 use Rattle.govisd_core.specs.body_core.Notes.{NoteOf, TheLocal, all_locals, all_uses}
 use Rattle.govisd_core.specs.body_core.Rules.{declared_among, local_at, local_if, value_at}
 use Rattle.govisd_core.specs.func_core.Types.{is_local_meaning, named_where}
@@ -46,7 +46,7 @@ use Rattle.govisd_core.specs.func_core.Stands.{FileStand, kinds_in_scene, looks_
 use Rattle.govisd_core.specs.func_core.Functions.{func_rules, own_rules, walked_func}
 use Rattle.govisd_core.specs.file_core.Files.{decl_locals, decl_uses, file_locals, file_uses, tops_uses}
 use Rattle.govisd_core.specs.file_core.Imports.{imports_uses}
-use Rattle.go_names_core.specs.Body.{each_means}
+use Rattle.govisd_core.specs.names_core.Body.{each_means}
 use Rattle.go_snap_core.specs.near_core.Near.{IfAny, NearExported, NearField, NearForm, NearFound, NearOperand, NearRest, NearSelection}
 use Rattle.go_snap_core.specs.near_core.Looks.{AreClosed, AreRulesClosed}
 use Rattle.go_snap_core.specs.near_core.Closing.{either}
@@ -58,7 +58,7 @@ use Rattle.go_laws_core.proofs.Selecting.{IsChoiceIn, IsFoundIn, params_in, resu
 use Rattle.go_laws_core.proofs.Answers.{AreKept, IsExportedKept, IsFieldKept, IsFoundKept, IsSelectionKept, alike_itself}
 use Rattle.go_laws_core.proofs.Uses.{IsUseIn, flat_each, piece_in, spec_in, specs_each, written_uses_in}
 use Rattle.go_laws_core.proofs.Walking.{SayIn, walk_in}
-use Rattle.go_piece_core.specs.statement_core.Locality.{Each}
+use Rattle.govisd_core.specs.statement_core.Locality.{Each}
 
 module _ (Inside : List ℕ → Type 0) where
   -- the name of a package stands for one of these; nothing else has names behind a dot that packages show

@@ -1,11 +1,11 @@
 -- What the parts of a workspace are made from is an input each.
 use Rattle.std.proofs.Common.{◌≡◌, ℕ, List, All, Option, Some, sym, subst, ◌∙◌}
 use Rattle.std.specs.Prelude.{slice_get}
-use Rattle.go_graph_core.specs.Packages.{trees_of}
-use Rattle.go_graph_core.proofs.PlanLaws.{has_plan}
-use Rattle.go_graph_core.specs.Workspaces.{PackageModel, IsWorkspace}
-use Rattle.go_block_core.proofs.GivenSteps.{have_one_each}
-use Rattle.go_summary_core.specs.Summaries.{path_of}
+use Rattle.govisd_core.specs.graph_core.Packages.{trees_of}
+use Rattle.govisd_core.specs.graph_core.PlanLaws.{has_plan}
+use Rattle.govisd_core.specs.graph_core.Workspaces.{PackageModel, IsWorkspace}
+use Rattle.govisd_core.specs.block_core.GivenSteps.{have_one_each}
+use Rattle.govisd_core.specs.summary_core.Summaries.{path_of}
 use Rattle.go_snap_core.specs.part_core.Inputs.{IsInput, path_in}
 use Rattle.go_snap_core.specs.part_core.Parts.{PartModel}
 use Rattle.go_snap_core.specs.whole_core.Inputs.{ComesTo, ReachesPackage}

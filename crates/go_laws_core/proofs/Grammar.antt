@@ -6,8 +6,8 @@ use Rattle.std.proofs.lemmas.List.Elements.{All-from_recursion, recursion_from_A
 use Rattle.go_tree_nodes.specs.Trees.{FileTree}
 use Rattle.go_tree_nodes.specs.Rules.{Wf_file}
 use Rattle.go_parse_core.specs.declared.error.SynFault.{SynFault}
-use Rattle.go_graph_core.specs.Packages.{tree_shown, trees_of}
-use Rattle.go_graph_core.specs.Sources.{SourceModel, source, IsContent, IsRead}
+use Rattle.govisd_core.specs.graph_core.Packages.{tree_shown, trees_of}
+use Rattle.govisd_core.specs.graph_core.Sources.{SourceModel, source, IsContent, IsRead}
 
 each_keeps_rules : (ss : List SourceModel) → AllByRecursion IsRead ss → AllByRecursion Wf_file (map tree_shown (trees_of ss))
 each_keeps_rules [] h = tt

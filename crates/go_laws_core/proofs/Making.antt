@@ -8,9 +8,9 @@ use Rattle.go_scan_core.proofs.Answered.{not_both}
 use Rattle.go_tree_nodes.specs.Trees.{FileTree}
 use Rattle.go_parse_core.specs.declared.error.SynFault.{SynFault}
 use Rattle.go_snap_core.specs.answer_core.Outer.{fault}
-use Rattle.go_graph_core.specs.Packages.{blank, trees_of}
-use Rattle.go_graph_core.specs.Sources.{SourceModel, IsContent, source}
-use Rattle.go_block_core.proofs.Growing.{package_weaker}
+use Rattle.govisd_core.specs.graph_core.Packages.{blank, trees_of}
+use Rattle.govisd_core.specs.graph_core.Sources.{SourceModel, IsContent, source}
+use Rattle.govisd_core.specs.block_core.Growing.{package_weaker}
 use Rattle.go_local_core.specs.declared.Fault.{Fault}
 use Rattle.go_snap_core.specs.part_core.Inputs.{input_with}
 use Rattle.go_snap_core.specs.part_core.Parts.{FileOf, PartModel, part_with}

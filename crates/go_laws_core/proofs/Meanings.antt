@@ -11,19 +11,19 @@ use Rattle.go_decl_core.specs.declared.places.DeclKind.TheVariants as kinds
 use Rattle.go_decl_core.specs.declared.keys.DeclKey.{DeclKey}
 use Rattle.go_decl_core.specs.declared.keys.DeclRef.{DeclRef}
 use Rattle.go_term_core.specs.declared.term.MemberPlace.TheVariants as places
-use Rattle.go_block_core.specs.declared.binding.Binding.{Binding}
-use Rattle.go_block_core.specs.declared.binding.Target.{Target}
-use Rattle.go_block_core.specs.declared.binding.Target.TheVariants as targets
-use Rattle.go_block_core.specs.Blocks.{BlocksModel, file_binding}
-use Rattle.go_block_core.specs.Tables.{in_block}
-use Rattle.go_entry_core.specs.Meanings.{Shows, file_meaning, outside_meaning, plain_meaning, qualified_meaning, shown_type, type_in_binding, type_in_target, type_of_kind, type_of_predeclared, type_of_target, type_of_universe}
+use Rattle.govisd_core.specs.block_core.declared.binding.Binding.{Binding}
+use Rattle.govisd_core.specs.block_core.declared.binding.Target.{Target}
+use Rattle.govisd_core.specs.block_core.declared.binding.Target.TheVariants as targets
+use Rattle.govisd_core.specs.block_core.Blocks.{BlocksModel, file_binding}
+use Rattle.govisd_core.specs.block_core.Tables.{in_block}
+use Rattle.go_snap_core.specs.entry_core.Meanings.{Shows, file_meaning, outside_meaning, plain_meaning, qualified_meaning, shown_type, type_in_binding, type_in_target, type_of_kind, type_of_predeclared, type_of_target, type_of_universe}
 use Rattle.govisd_core.specs.handle_core.Declarations.{Declaration, Universe, OfError, Package, InFile}
-use Rattle.go_summary_core.specs.face_core.declared.face.Face.TheVariants as faces
-use Rattle.go_summary_core.specs.face_core.Faces.{TheFace}
-use Rattle.go_summary_core.specs.face_core.Packages.{PackageFacesModel, face_by, face_in, face_in_some, package_in, shown_in_some, shown_name}
-use Rattle.go_summary_core.specs.face_core.Written.{position_of}
-use Rattle.go_names_core.specs.declared.meaning.Outside.{Outside}
-use Rattle.go_names_core.specs.declared.meaning.Outside.TheVariants as outsides
+use Rattle.go_snap_core.specs.face_core.declared.face.Face.TheVariants as faces
+use Rattle.go_snap_core.specs.face_core.Faces.{TheFace}
+use Rattle.go_snap_core.specs.face_core.Packages.{PackageFacesModel, face_by, face_in, face_in_some, package_in, shown_in_some, shown_name}
+use Rattle.go_snap_core.specs.face_core.Written.{position_of}
+use Rattle.govisd_core.specs.names_core.declared.meaning.Outside.{Outside}
+use Rattle.govisd_core.specs.names_core.declared.meaning.Outside.TheVariants as outsides
 use Rattle.govisd_core.specs.env_core.Scenes.{SceneModel}
 use Rattle.govisd_core.specs.env_core.Found.{TheExported, TheFound, exported_face, exported_shown, face_at, found_binding, found_exported, found_face, found_outside, found_target, found_universe}
 use Rattle.go_snap_core.specs.near_core.Near.{IfAny, NearExported, NearFound, NearOperand}
@@ -31,7 +31,7 @@ use Rattle.go_snap_core.specs.whole_core.Known.{IsTargetIn}
 use Rattle.go_laws_core.proofs.Terms.{IsSignIn, IsTermIn}
 use Rattle.go_laws_core.proofs.Answers.{IsDeclIn, IsExportedKept, IsFoundKept}
 use Rattle.go_laws_core.proofs.Functions.{IsPackageIn, Near, Rest}
-use Rattle.go_block_core.specs.Bindings.{key_of}
+use Rattle.govisd_core.specs.block_core.Bindings.{key_of}
 
 module _ (Inside : List ℕ → Type 0) where
   -- what a declaration is mentions these packages alone

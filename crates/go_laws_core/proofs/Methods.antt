@@ -6,12 +6,12 @@ use Rattle.std.specs.Str.{bytes_eq}
 use Rattle.go_decl_core.specs.declared.keys.DeclRef.{DeclRef}
 use Rattle.go_term_core.specs.declared.term.MemberPlace.{MemberPlace}
 use Rattle.go_term_core.specs.declared.term.MemberPlace.TheVariants as places
-use Rattle.go_entry_core.proofs.Among.{Among}
-use Rattle.go_table_core.specs.Entries.{Entry, Member}
-use Rattle.go_table_core.specs.Tables.{AreOf}
-use Rattle.go_summary_core.specs.Summaries.{SummaryModel, IsOfOne, path_of}
-use Rattle.go_summary_core.proofs.Viewed.{text_apart}
-use Rattle.go_summary_core.specs.Views.{PathsAreApart, types_told}
+use Rattle.go_snap_core.specs.entry_core.Among.{Among}
+use Rattle.govisd_core.specs.table_core.Entries.{Entry, Member}
+use Rattle.govisd_core.specs.table_core.Tables.{AreOf}
+use Rattle.govisd_core.specs.summary_core.Summaries.{SummaryModel, IsOfOne, path_of}
+use Rattle.govisd_core.specs.summary_core.Viewed.{text_apart}
+use Rattle.govisd_core.specs.summary_core.Views.{PathsAreApart, types_told}
 use Rattle.go_snap_core.specs.whole_core.Lists.{among_all, pairs_head, pairs_tail}
 use Rattle.go_fragment_core.specs.declared.names.Meaning.{Meaning}
 use Rattle.go_fragment_core.specs.declared.names.Meaning.TheVariants as meanings

@@ -12,23 +12,23 @@ use Rattle.go_term_core.specs.declared.term.MemberPlace.TheVariants as places
 use Rattle.go_term_core.specs.Terms.{Term, Sign}
 use Rattle.go_local_core.specs.Binding.{Local, bound}
 use Rattle.go_local_core.specs.Tables.{IsFuncPlaced}
-use Rattle.go_table_core.specs.Entries.{Entry}
-use Rattle.go_table_core.proofs.Finding.{bytes_same}
-use Rattle.go_block_core.specs.declared.binding.Binding.{Binding}
-use Rattle.go_block_core.specs.declared.binding.Target.{Target}
-use Rattle.go_block_core.specs.declared.binding.Target.TheVariants as targets
-use Rattle.go_block_core.specs.declared.imports.Imported.TheVariants as imported
-use Rattle.go_block_core.specs.Blocks.{file_binding}
-use Rattle.go_block_core.specs.Tables.{in_block}
-use Rattle.go_names_core.specs.declared.meaning.Outside.{Outside}
-use Rattle.go_names_core.specs.declared.meaning.Outside.TheVariants as outsides
-use Rattle.go_graph_core.specs.Packages.{trees_of}
-use Rattle.go_denote_core.specs.declared.things.Outcome.{Outcome}
-use Rattle.go_denote_core.specs.declared.things.Outcome.TheVariants as outcomes
-use Rattle.go_denote_core.specs.declared.things.Selection.{Selection}
-use Rattle.go_denote_core.specs.declared.things.Selection.TheVariants as selections
+use Rattle.govisd_core.specs.table_core.Entries.{Entry}
+use Rattle.govisd_core.specs.table_core.Finding.{bytes_same}
+use Rattle.govisd_core.specs.block_core.declared.binding.Binding.{Binding}
+use Rattle.govisd_core.specs.block_core.declared.binding.Target.{Target}
+use Rattle.govisd_core.specs.block_core.declared.binding.Target.TheVariants as targets
+use Rattle.govisd_core.specs.block_core.declared.imports.Imported.TheVariants as imported
+use Rattle.govisd_core.specs.block_core.Blocks.{file_binding}
+use Rattle.govisd_core.specs.block_core.Tables.{in_block}
+use Rattle.govisd_core.specs.names_core.declared.meaning.Outside.{Outside}
+use Rattle.govisd_core.specs.names_core.declared.meaning.Outside.TheVariants as outsides
+use Rattle.govisd_core.specs.graph_core.Packages.{trees_of}
+use Rattle.go_fold_core.specs.denote_core.declared.things.Outcome.{Outcome}
+use Rattle.go_fold_core.specs.denote_core.declared.things.Outcome.TheVariants as outcomes
+use Rattle.go_fold_core.specs.denote_core.declared.things.Selection.{Selection}
+use Rattle.go_fold_core.specs.denote_core.declared.things.Selection.TheVariants as selections
 use Rattle.govisd_core.specs.handle_core.Declarations.{Declaration, Universe, OfError, Package, InFile}
-use Rattle.go_summary_core.specs.face_core.Packages.{PackageFacesModel, face_by, face_in, face_in_some, package_in, shown_in_some, shown_name}
+use Rattle.go_snap_core.specs.face_core.Packages.{PackageFacesModel, face_by, face_in, face_in_some, package_in, shown_in_some, shown_name}
 use Rattle.govisd_core.specs.env_core.declared.meaning.Meaning.{Meaning as NameMeaning}
 use Rattle.govisd_core.specs.env_core.declared.meaning.Meaning.TheVariants as means
 use Rattle.govisd_core.specs.env_core.Found.{exported_shown, found_binding, found_exported, found_of, found_outside, found_target, found_universe, own_face}
@@ -41,7 +41,7 @@ use Rattle.govisd_core.specs.file_core.Files.{decl_locals}
 use Rattle.govisd_core.specs.file_core.Stands.{file_funcs}
 use Rattle.go_snap_core.specs.whole_core.Known.{IsImportedPath, IsTargetIn}
 use Rattle.go_snap_core.specs.whole_core.LocalLaws.{ImportsBindTheirs}
-use Rattle.go_summary_core.specs.Views.{faces_told, types_told}
+use Rattle.govisd_core.specs.summary_core.Views.{faces_told, types_told}
 use Rattle.go_snap_core.specs.part_core.Inputs.{InputModel, IsInput, path_in}
 use Rattle.go_snap_core.specs.part_core.Parts.{ContentOf, FileOf, IsPart}
 use Rattle.go_fragment_core.specs.declared.names.Meaning.{Meaning}

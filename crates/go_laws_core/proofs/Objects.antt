@@ -4,17 +4,17 @@ use Rattle.std.specs.Prelude.{Option, Some, None, AllPairs, Contains, slice_get}
 use Rattle.std.specs.List.{flat_map}
 use Rattle.std.proofs.lemmas.List.Kept.{AllPairs-cons}
 use Rattle.go_decl_core.specs.declared.keys.DeclRef.{DeclRef}
-use Rattle.go_graph_core.specs.Plans.{PlanModel, IsPlan}
-use Rattle.go_graph_core.proofs.PlanLaws.{has_plan}
-use Rattle.go_graph_core.specs.Workspaces.{PackageModel, IsWorkspace}
-use Rattle.go_entry_core.proofs.Among.{Among, among_cases, among_from, among_left, among_map, among_right, among_to}
+use Rattle.govisd_core.specs.graph_core.Plans.{PlanModel, IsPlan}
+use Rattle.govisd_core.specs.graph_core.PlanLaws.{has_plan}
+use Rattle.govisd_core.specs.graph_core.Workspaces.{PackageModel, IsWorkspace}
+use Rattle.go_snap_core.specs.entry_core.Among.{Among, among_cases, among_from, among_left, among_map, among_right, among_to}
 use Rattle.go_snap_core.specs.whole_core.Known.{KnownAlike}
 use Rattle.go_snap_core.specs.whole_core.LocalLaws.{CheckIsLocal, ImportsBindTheirs}
 use Rattle.govisd_core.specs.handle_core.Declarations.{Declaration}
 use Rattle.govisd_core.specs.body_core.Notes.{TheUse}
 use Rattle.govisd_core.specs.ready_core.Packages.{trees_in}
-use Rattle.go_summary_core.specs.Summaries.{SummaryModel, IsOfOne, path_of}
-use Rattle.go_summary_core.specs.Views.{PathsAreApart, faces_told, types_told}
+use Rattle.govisd_core.specs.summary_core.Summaries.{SummaryModel, IsOfOne, path_of}
+use Rattle.govisd_core.specs.summary_core.Views.{PathsAreApart, faces_told, types_told}
 use Rattle.go_snap_core.specs.part_core.Inputs.{InputModel, path_in}
 use Rattle.go_snap_core.specs.part_core.Parts.{ContentOf, FileOf, IsPart, PartModel}
 use Rattle.go_snap_core.specs.whole_core.Inputs.{AreParts, Tells}
@@ -39,7 +39,7 @@ use Rattle.go_laws_core.proofs.Parts.{IsFileIn, IsPartIn, IsToldOf, all_in, face
 use Rattle.go_laws_core.specs.Reached.{HasDeclaredIn, reached_paths}
 use Rattle.go_laws_core.specs.ObjectLaws.{AreOfPartsAlone}
 use Rattle.go_tree_nodes.specs.Spelling.{IsPlaced}
-use Rattle.go_piece_core.specs.statement_core.Locality.{Each}
+use Rattle.govisd_core.specs.statement_core.Locality.{Each}
 use Rattle.go_snap_core.specs.part_core.Slots.{if_there, somes}
 
 -- one more behind others that are apart from it

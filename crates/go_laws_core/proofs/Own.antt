@@ -8,15 +8,15 @@ use Rattle.std.proofs.lemmas.List.{map-append}
 use Rattle.go_tree_nodes.specs.Trees.{FileTree}
 use Rattle.go_decl_core.specs.declared.keys.DeclRef.{DeclRef}
 use Rattle.go_decl_core.specs.TopDecls.{TopDeclTree, top_decls}
-use Rattle.go_table_core.specs.Entries.{Entry}
-use Rattle.go_table_core.proofs.Finding.{bytes_same}
-use Rattle.go_summary_core.proofs.Viewed.{text_apart}
+use Rattle.govisd_core.specs.table_core.Entries.{Entry}
+use Rattle.govisd_core.specs.table_core.Finding.{bytes_same}
+use Rattle.govisd_core.specs.summary_core.Viewed.{text_apart}
 use Rattle.go_written_core.specs.Written.{InFile, Meaning as TypeMeaning}
-use Rattle.go_entry_core.specs.Entries.{Meanings, file_at}
-use Rattle.go_entry_core.specs.Outlines.{outline_of}
-use Rattle.go_summary_core.specs.face_core.Faces.{TheFace}
-use Rattle.go_summary_core.specs.face_core.Packages.{DeclaredOf, face_among}
-use Rattle.go_summary_core.specs.face_core.Written.{WrittenOf, decls_of, file_written, position_of, same_decl_place, written_with}
+use Rattle.go_snap_core.specs.entry_core.Entries.{Meanings, file_at}
+use Rattle.go_snap_core.specs.entry_core.Outlines.{outline_of}
+use Rattle.go_snap_core.specs.face_core.Faces.{TheFace}
+use Rattle.go_snap_core.specs.face_core.Packages.{DeclaredOf, face_among}
+use Rattle.go_snap_core.specs.face_core.Written.{WrittenOf, decls_of, file_written, position_of, same_decl_place, written_with}
 use Rattle.go_snap_core.specs.answer_core.Shown.{is_decl_listed, shown_among, shown_if}
 use Rattle.govisd_core.specs.env_core.Found.{face_at}
 use Rattle.go_fragment_core.specs.declared.names.Meaning.{Meaning}

@@ -12,22 +12,22 @@ use Rattle.go_decl_core.specs.declared.keys.DeclRef.{DeclRef}
 use Rattle.go_decl_core.specs.TopDecls.{TopDeclTree, FormTree, ValueForm, TypeForm, FuncForm}
 use Rattle.go_term_core.specs.Terms.{Term, Defined}
 use Rattle.go_settle_core.specs.Settled.{settled}
-use Rattle.go_table_core.specs.Entries.{Entry, find_entry}
-use Rattle.go_decide_core.specs.Conversion.{is_type_term}
-use Rattle.go_decide_core.specs.Rules.{typed}
+use Rattle.govisd_core.specs.table_core.Entries.{Entry, find_entry}
+use Rattle.govisd_core.specs.decide_core.Conversion.{is_type_term}
+use Rattle.govisd_core.specs.decide_core.Rules.{typed}
 use Rattle.go_operand_core.specs.declared.types.Operand.{Operand}
 use Rattle.go_written_core.specs.Written.{InFile, Meaning, signature_of, term_of}
-use Rattle.go_entry_core.specs.Entries.{Meanings, file_at, package_meanings, type_key}
-use Rattle.go_entry_core.specs.Outlines.{FileOutline, outline_of}
-use Rattle.go_entry_core.proofs.Among.{Among, among_flat, among_from, among_map, among_to}
-use Rattle.go_summary_core.specs.face_core.Faces.{TheFace, variable_face}
-use Rattle.go_summary_core.specs.face_core.Laws.{FileDecl}
-use Rattle.go_summary_core.specs.face_core.Packages.{PackageFacesModel, face_among, face_by, face_in}
-use Rattle.go_summary_core.specs.face_core.Written as writing
-use Rattle.go_summary_core.specs.face_core.Written.{WrittenOf, decls_of, face_found, file_written, same_decl_place, type_written, written_at, written_of, written_with}
+use Rattle.go_snap_core.specs.entry_core.Entries.{Meanings, file_at, package_meanings, type_key}
+use Rattle.go_snap_core.specs.entry_core.Outlines.{FileOutline, outline_of}
+use Rattle.go_snap_core.specs.entry_core.Among.{Among, among_flat, among_from, among_map, among_to}
+use Rattle.go_snap_core.specs.face_core.Faces.{TheFace, variable_face}
+use Rattle.go_snap_core.specs.face_core.Laws.{FileDecl}
+use Rattle.go_snap_core.specs.face_core.Packages.{PackageFacesModel, face_among, face_by, face_in}
+use Rattle.go_snap_core.specs.face_core.Written as writing
+use Rattle.go_snap_core.specs.face_core.Written.{WrittenOf, decls_of, face_found, file_written, same_decl_place, type_written, written_at, written_of, written_with}
 use Rattle.govisd_core.specs.env_core.Looks.{TheLooks}
 use Rattle.govisd_core.specs.func_core.Stands.{outer_looks}
-use Rattle.go_piece_core.specs.Specifications.{outer_values}
+use Rattle.govisd_core.specs.piece_core.Specifications.{outer_values}
 use Rattle.go_needs_core.specs.Needs.{EndsWithin, known_in, needed}
 use Rattle.govisd_core.specs.value_core.Initial.{initial}
 use Rattle.govisd_core.specs.value_core.Package as values
@@ -36,7 +36,7 @@ use Rattle.govisd_core.specs.value_core.Owning.{outer_alike}
 use Rattle.govisd_core.specs.value_core.Deciding.{needs_decide}
 use Rattle.go_snap_core.specs.answer_core.Shown.{exported_decls, is_decl_listed, shown_among, shown_if}
 use Rattle.govisd_core.specs.ready_core.Laws.{package_placed}
-use Rattle.go_summary_core.specs.face_core.Places.{among_at}
+use Rattle.go_snap_core.specs.face_core.Places.{among_at}
 use Rattle.govisd_core.specs.ready_core.Packages.{PackageIn, entries_in, outlines_in, scene_in, stand_in}
 use Rattle.govisd_core.specs.ready_core.Values.{declared_in, decls_in, needs_in, some_decl_face}
 use Rattle.govisd_core.specs.ready_core.ValuesProofs.{faces_same, needs_same}
@@ -53,8 +53,8 @@ use Rattle.go_laws_core.proofs.Uses.{IsUseIn}
 use Rattle.go_laws_core.proofs.Functions.{IsImportIn, IsLocalIn, IsStandIn, Near, Rest, file_locals_in, file_uses_in, outer_closed}
 use Rattle.go_laws_core.proofs.Meanings.{IsAnyIn, IsFaceIn, behind_dot_in, meaning_in, outside_in}
 use Rattle.go_tree_nodes.specs.Spelling.{IsPlaced}
-use Rattle.go_table_core.specs.Entries.{kinds_in}
-use Rattle.go_piece_core.specs.statement_core.Locality.{Each}
+use Rattle.govisd_core.specs.table_core.Entries.{kinds_in}
+use Rattle.govisd_core.specs.statement_core.Locality.{Each}
 
 -- what a table has for the numbers of a list, and nothing for others
 abbrev kept : (ℕ → Option TheFace) → (ns : List ℕ) (m : ℕ) → Among ns m ⊎ (Among ns m → ⊥) → Option TheFace

@@ -5,29 +5,29 @@ use Rattle.std.specs.List.{list_any}
 use Rattle.go_tree_nodes.specs.Trees.{FileTree}
 use Rattle.go_decl_core.specs.declared.keys.DeclKey.{DeclKey}
 use Rattle.go_decl_core.specs.declared.keys.DeclRef.{DeclRef}
-use Rattle.go_graph_core.specs.Lists.{AllNumbered}
-use Rattle.go_graph_core.specs.Plans.{PlanModel, IsPlan}
-use Rattle.go_graph_core.specs.Workspaces.{PackageModel, IsWorkspace}
-use Rattle.go_graph_core.specs.Packages.{trees_of}
-use Rattle.go_block_core.specs.declared.imports.Imported.{Imported}
-use Rattle.go_block_core.specs.declared.imports.Imported.TheVariants as given
-use Rattle.go_block_core.specs.Blocks.{BlocksModel}
-use Rattle.go_block_core.specs.Exports.{ExportsModel}
-use Rattle.go_table_core.specs.Entries.{Entry, find_entry}
-use Rattle.go_entry_core.proofs.Among.{Among, among_from, among_map, among_to}
+use Rattle.govisd_core.specs.graph_core.Lists.{AllNumbered}
+use Rattle.govisd_core.specs.graph_core.Plans.{PlanModel, IsPlan}
+use Rattle.govisd_core.specs.graph_core.Workspaces.{PackageModel, IsWorkspace}
+use Rattle.govisd_core.specs.graph_core.Packages.{trees_of}
+use Rattle.govisd_core.specs.block_core.declared.imports.Imported.{Imported}
+use Rattle.govisd_core.specs.block_core.declared.imports.Imported.TheVariants as given
+use Rattle.govisd_core.specs.block_core.Blocks.{BlocksModel}
+use Rattle.govisd_core.specs.block_core.Exports.{ExportsModel}
+use Rattle.govisd_core.specs.table_core.Entries.{Entry, find_entry}
+use Rattle.go_snap_core.specs.entry_core.Among.{Among, among_from, among_map, among_to}
 use Rattle.go_snap_core.specs.whole_core.LocalLaws.{CheckIsLocal, ImportsBindTheirs}
-use Rattle.go_summary_core.specs.face_core.Faces.{TheFace}
-use Rattle.go_summary_core.specs.face_core.Packages.{face_in}
+use Rattle.go_snap_core.specs.face_core.Faces.{TheFace}
+use Rattle.go_snap_core.specs.face_core.Packages.{face_in}
 use Rattle.govisd_core.specs.handle_core.Declarations.{Declaration}
-use Rattle.go_denote_core.specs.declared.things.Outcome.{Outcome}
-use Rattle.go_denote_core.specs.declared.things.Outcome.TheVariants as outcomes
+use Rattle.go_fold_core.specs.denote_core.declared.things.Outcome.{Outcome}
+use Rattle.go_fold_core.specs.denote_core.declared.things.Outcome.TheVariants as outcomes
 use Rattle.govisd_core.specs.body_core.Notes.{TheUse}
 use Rattle.go_snap_core.specs.near_core.Closing.{either}
 use Rattle.govisd_core.specs.ready_core.Packages.{trees_in}
 use Rattle.go_snap_core.specs.package_core.Checked.{AnswersOf}
-use Rattle.go_summary_core.specs.Summaries.{SummaryModel, path_of}
-use Rattle.go_summary_core.proofs.Telling.{nothing_else, views_tell}
-use Rattle.go_summary_core.specs.Views.{faces_told, types_told}
+use Rattle.govisd_core.specs.summary_core.Summaries.{SummaryModel, path_of}
+use Rattle.govisd_core.specs.summary_core.Telling.{nothing_else, views_tell}
+use Rattle.govisd_core.specs.summary_core.Views.{faces_told, types_told}
 use Rattle.govisd_core.specs.used_core.Used.{is_import, judged_import, refused_use, unused_outcome}
 use Rattle.go_snap_core.specs.part_core.Inputs.{InputModel, path_in}
 use Rattle.go_snap_core.specs.part_core.Parts.{FileOf, IsFileMadeIn, PartModel, package_seen, seen_by}
@@ -44,7 +44,7 @@ use Rattle.go_laws_core.proofs.Functions.{IsImportIn, IsLocalIn}
 use Rattle.go_laws_core.proofs.Meanings.{IsFaceIn}
 use Rattle.go_laws_core.proofs.Packages.{AreAnswersIn, AreKnownIn, files_in, known_inside, shown_inside, types_in}
 use Rattle.go_laws_core.proofs.Wider.{IsToldIn, told_wider}
-use Rattle.go_piece_core.specs.statement_core.Locality.{Each}
+use Rattle.govisd_core.specs.statement_core.Locality.{Each}
 
 all_each : {X : Type 0} (Is : X → Type 0) (xs : List X) → ((x : X) → Among xs x → Is x) → Each Is xs
 all_each Is [] h = tt

@@ -11,15 +11,15 @@ use Rattle.go_local_core.specs.Steps.{Piece, Header, Spec, Act, Condition, Given
 use Rattle.go_local_core.specs.Tables.{out_by_intervals, IsFuncPlaced}
 use Rattle.go_walk_core.specs.Ends.{is_blank_target}
 use Rattle.go_term_core.specs.Terms.{Term}
-use Rattle.go_denote_core.specs.declared.things.Stand.TheVariants as stands
+use Rattle.go_fold_core.specs.denote_core.declared.things.Stand.TheVariants as stands
 use Rattle.go_local_core.specs.declared.Fault.{Fault}
-use Rattle.go_expr_core.specs.Faults.{faults}
-use Rattle.go_expr_core.specs.Lists.{exprs_faults, exprs_uses, is_list}
-use Rattle.go_expr_core.specs.Uses.{uses}
-use Rattle.go_piece_core.specs.Headers.{returned_names, returned_types}
-use Rattle.go_piece_core.specs.Pieces.{piece_faults, piece_uses}
-use Rattle.go_piece_core.specs.Specifications.{values_faults, values_uses}
-use Rattle.go_piece_core.specs.Targets.{target_faults, target_uses, targets_faults, targets_uses}
+use Rattle.go_fold_core.specs.expr_core.Faults.{faults}
+use Rattle.go_fold_core.specs.expr_core.Lists.{exprs_faults, exprs_uses, is_list}
+use Rattle.go_fold_core.specs.expr_core.Uses.{uses}
+use Rattle.govisd_core.specs.piece_core.Headers.{returned_names, returned_types}
+use Rattle.govisd_core.specs.piece_core.Pieces.{piece_faults, piece_uses}
+use Rattle.govisd_core.specs.piece_core.Specifications.{values_faults, values_uses}
+use Rattle.govisd_core.specs.piece_core.Targets.{target_faults, target_uses, targets_faults, targets_uses}
 use Rattle.govisd_core.specs.env_core.declared.meaning.Meaning.{Meaning}
 use Rattle.govisd_core.specs.env_core.Looks.{TheLooks}
 use Rattle.govisd_core.specs.body_core.Body.{BodyOf}

@@ -11,7 +11,7 @@ use Rattle.go_tree_nodes.proofs.InOrder.{in_order_ends, in_order_split}
 use Rattle.go_tree_core.specs.declared.occurrence.Occ.{Occ}
 use Rattle.go_tree_core.specs.Laws.{AreWritten, IsWritten, NoneLeft, OccurrencesAreWritten, Passed, Written}
 use Rattle.go_tree_core.specs.Occurrences.{call_at, lines_occs}
-use Rattle.go_entry_core.proofs.Among.{Among, among_left}
+use Rattle.go_snap_core.specs.entry_core.Among.{Among, among_left}
 
 -- what holds of each
 

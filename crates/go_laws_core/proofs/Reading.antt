@@ -12,13 +12,13 @@ use Rattle.go_operand_core.specs.declared.types.Operand.{Operand}
 use Rattle.go_operand_core.specs.declared.types.TypeForm.{TypeForm}
 use Rattle.go_operand_core.specs.declared.types.TypeForm.TheVariants as forms
 use Rattle.go_operand_core.specs.Values.{form_basic}
-use Rattle.go_table_core.specs.Entries.{Entry, find_entry}
-use Rattle.go_denote_core.specs.declared.things.Outcome.{Outcome}
-use Rattle.go_denote_core.specs.declared.things.Outcome.TheVariants as outcomes
-use Rattle.go_decide_core.specs.Rules.{form_of, results_of, term_rules}
+use Rattle.govisd_core.specs.table_core.Entries.{Entry, find_entry}
+use Rattle.go_fold_core.specs.denote_core.declared.things.Outcome.{Outcome}
+use Rattle.go_fold_core.specs.denote_core.declared.things.Outcome.TheVariants as outcomes
+use Rattle.govisd_core.specs.decide_core.Rules.{form_of, results_of, term_rules}
 use Rattle.govisd_core.specs.handle_core.Declarations.{Declaration}
-use Rattle.go_summary_core.specs.face_core.declared.face.Face.TheVariants as faces
-use Rattle.go_summary_core.specs.face_core.Faces.{TheFace}
+use Rattle.go_snap_core.specs.face_core.declared.face.Face.TheVariants as faces
+use Rattle.go_snap_core.specs.face_core.Faces.{TheFace}
 use Rattle.govisd_core.specs.env_core.Found.{exported_face, found_face}
 use Rattle.govisd_core.specs.env_core.Looks.{TheLooks}
 use Rattle.go_fragment_core.specs.Fragment.{over}

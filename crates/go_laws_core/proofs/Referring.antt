@@ -14,15 +14,15 @@ use Rattle.go_tree_core.specs.declared.occurrence.Role.{Role}
 use Rattle.go_tree_core.specs.Laws.{OccurrencesAreWritten}
 use Rattle.go_tree_core.specs.Occurrences.{call_at, file_occs, lines_occs}
 use Rattle.go_decl_core.specs.TopDecls.{TopDeclTree}
-use Rattle.go_denote_core.specs.declared.things.Outcome.{Outcome}
-use Rattle.go_denote_core.specs.declared.things.Outcome.TheVariants as outcomes
+use Rattle.go_fold_core.specs.denote_core.declared.things.Outcome.{Outcome}
+use Rattle.go_fold_core.specs.denote_core.declared.things.Outcome.TheVariants as outcomes
 use Rattle.govisd_core.specs.handle_core.Declarations.{Declaration}
-use Rattle.go_entry_core.proofs.Among.{Among, among_from, among_to, filter_among}
-use Rattle.go_expr_core.specs.Laws.{use_place, occurrence_place}
+use Rattle.go_snap_core.specs.entry_core.Among.{Among, among_from, among_to, filter_among}
+use Rattle.go_fold_core.specs.expr_core.Laws.{use_place, occurrence_place}
 use Rattle.govisd_core.specs.body_core.Notes.{TheUse}
 use Rattle.govisd_core.specs.used_core.Used.{is_declared}
 use Rattle.govisd_core.specs.ready_core.Packages.{trees_in}
-use Rattle.go_summary_core.specs.Summaries.{SummaryModel}
+use Rattle.govisd_core.specs.summary_core.Summaries.{SummaryModel}
 use Rattle.go_snap_core.specs.part_core.Inputs.{InputModel, IsInput}
 use Rattle.go_snap_core.specs.part_core.Laws.{PartHasOccurrences}
 use Rattle.go_snap_core.specs.part_core.Parts.{ContentOf, FileOf, IsPart}

@@ -7,10 +7,10 @@ use Rattle.go_tree_nodes.specs.declared.names.Ident.{Ident}
 use Rattle.go_tree_nodes.specs.Trees.{FileTree}
 use Rattle.go_parse_core.specs.declared.error.SynFault.{SynFault}
 use Rattle.go_snap_core.specs.answer_core.Outer.{fault}
-use Rattle.go_graph_core.specs.declared.assembly.KFault.{KFault}
-use Rattle.go_graph_core.specs.Packages.{Differs, HasNoClause, IsAssembled, IsAssembly, IsBlank, blank}
-use Rattle.go_graph_core.specs.Sources.{SourceModel, IsContent, source}
-use Rattle.go_graph_core.specs.Workspaces.{PackageModel}
+use Rattle.govisd_core.specs.graph_core.declared.assembly.KFault.{KFault}
+use Rattle.govisd_core.specs.graph_core.Packages.{Differs, HasNoClause, IsAssembled, IsAssembly, IsBlank, blank}
+use Rattle.govisd_core.specs.graph_core.Sources.{SourceModel, IsContent, source}
+use Rattle.govisd_core.specs.graph_core.Workspaces.{PackageModel}
 use Rattle.go_snap_core.specs.part_core.Parts.{FileOf, PartModel}
 use Rattle.go_snap_core.specs.whole_core.Inputs.{AreParts, IsPartOf}
 use Rattle.go_snap_core.specs.declared.fault.PlacedFault.{PlacedFault}

@@ -10,18 +10,18 @@ use Rattle.go_decl_core.specs.TopDecls.{TopDeclTree, top_decls}
 use Rattle.go_term_core.specs.declared.term.MemberPlace.{MemberPlace}
 use Rattle.go_term_core.specs.declared.term.MemberPlace.TheVariants as places
 use Rattle.go_term_core.specs.Terms.{Term, NoType, Predeclared, ErrorType, Defined, PointerTo, StructOf, InterfaceOf, Sign, SignOf, Terms, NoTerm, ATerm, is_no_type}
-use Rattle.go_table_core.specs.Entries.{Entry, Member, find_entry, term_in, underlying_in}
-use Rattle.go_decide_core.specs.Conversion.{is_type_term}
-use Rattle.go_decide_core.specs.Rules.{all_typed, form_under}
+use Rattle.govisd_core.specs.table_core.Entries.{Entry, Member, find_entry, term_in, underlying_in}
+use Rattle.govisd_core.specs.decide_core.Conversion.{is_type_term}
+use Rattle.govisd_core.specs.decide_core.Rules.{all_typed, form_under}
 use Rattle.go_operand_core.specs.declared.types.Operand.{Operand}
 use Rattle.go_operand_core.specs.declared.types.ValueType.{ValueType}
 use Rattle.go_operand_core.specs.declared.types.ValueType.TheVariants as value_types
-use Rattle.go_denote_core.specs.declared.things.Outcome.{Outcome}
-use Rattle.go_denote_core.specs.declared.things.Outcome.TheVariants as outcomes
+use Rattle.go_fold_core.specs.denote_core.declared.things.Outcome.{Outcome}
+use Rattle.go_fold_core.specs.denote_core.declared.things.Outcome.TheVariants as outcomes
 use Rattle.govisd_core.specs.handle_core.Declarations.{Declaration, Universe, OfError, Package, InFile}
-use Rattle.go_summary_core.specs.face_core.declared.face.Face.TheVariants as faces
-use Rattle.go_summary_core.specs.face_core.Faces.{TheFace}
-use Rattle.go_summary_core.specs.face_core.Packages.{PackageFacesModel, face_in}
+use Rattle.go_snap_core.specs.face_core.declared.face.Face.TheVariants as faces
+use Rattle.go_snap_core.specs.face_core.Faces.{TheFace}
+use Rattle.go_snap_core.specs.face_core.Packages.{PackageFacesModel, face_in}
 use Rattle.govisd_core.specs.body_core.Notes.{TheLocal, TheUse}
 use Rattle.go_snap_core.specs.near_core.Near.{IfAny, NearOperand, NearValue}
 use Rattle.go_snap_core.specs.near_core.Closing.{either}
@@ -41,7 +41,7 @@ use Rattle.go_laws_core.proofs.Answers.{IsDeclIn, IsOutcomeIn}
 use Rattle.go_laws_core.proofs.Uses.{IsUseIn}
 use Rattle.go_laws_core.proofs.Functions.{IsLocalIn}
 use Rattle.go_laws_core.proofs.Meanings.{IsAnyIn, IsFaceIn}
-use Rattle.go_piece_core.specs.statement_core.Locality.{Each}
+use Rattle.govisd_core.specs.statement_core.Locality.{Each}
 
 module _ (Inside : List ℕ → Type 0) (es fs : List Entry) (same : (k : DeclKey) → Inside k.path → find_entry es k ≡ find_entry fs k) where
   -- types

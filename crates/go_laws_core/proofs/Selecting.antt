@@ -6,20 +6,20 @@ use Rattle.go_text_core.specs.Text.{is_blank}
 use Rattle.go_text_core.specs.declared.rule.Rule.{Rule}
 use Rattle.go_decl_core.specs.declared.keys.DeclKey.{DeclKey}
 use Rattle.go_term_core.specs.Terms.{Term, NoType, Predeclared, ErrorType, Defined, PointerTo, StructOf, InterfaceOf, Fields, NoField, AField, Methods, NoMethod, AMethod, Sign, SignOf, Terms, NoTerm, ATerm}
-use Rattle.go_table_core.specs.Entries.{Entry, Member, find_entry, term_in, methods_in, underlying_in, has_method, same_id}
-use Rattle.go_level_core.specs.embed_core.Owners.{OwnerModel, EmbeddedEdge, off, owner_in, embedded_edges, term_embedded, embedded_in, Found, AFieldOf, AMethodOf, AnInterfaces, TheErrorMethod, Named, fields_found, methods_found, declared_found, term_found, members_of}
-use Rattle.go_level_core.specs.Selectors.{Searched, Refused, In, FieldsIn, term_kind_in, searched, searched_under, unless_refused}
+use Rattle.govisd_core.specs.table_core.Entries.{Entry, Member, find_entry, term_in, methods_in, underlying_in, has_method, same_id}
+use Rattle.govisd_core.specs.embed_core.Owners.{OwnerModel, EmbeddedEdge, off, owner_in, embedded_edges, term_embedded, embedded_in, Found, AFieldOf, AMethodOf, AnInterfaces, TheErrorMethod, Named, fields_found, methods_found, declared_found, term_found, members_of}
+use Rattle.govisd_core.specs.level_core.Selectors.{Searched, Refused, In, FieldsIn, term_kind_in, searched, searched_under, unless_refused}
 use Rattle.go_settle_core.specs.declared.kind.Kind.{Kind}
 use Rattle.go_settle_core.specs.declared.kind.Kind.TheVariants as kinds
-use Rattle.go_decide_core.specs.Conversion.{is_type_term}
-use Rattle.go_decide_core.specs.Rules.{all_typed, param_types_of, results_of, typed}
-use Rattle.go_decide_core.specs.Selecting.{Choice, Match, Trail, behind_edge, behind_edges, field_alone, fields_alone, first_matches, last_depth, match_in, match_where, matches_among, matches_behind, matches_of, only_match, passing, selected_of, some_spelled, spelled_from, trails_of, unless_some}
+use Rattle.govisd_core.specs.decide_core.Conversion.{is_type_term}
+use Rattle.govisd_core.specs.decide_core.Rules.{all_typed, param_types_of, results_of, typed}
+use Rattle.govisd_core.specs.decide_core.Selecting.{Choice, Match, Trail, behind_edge, behind_edges, field_alone, fields_alone, first_matches, last_depth, match_in, match_where, matches_among, matches_behind, matches_of, only_match, passing, selected_of, some_spelled, spelled_from, trails_of, unless_some}
 use Rattle.go_snap_core.specs.near_core.Near.{IfAny}
 use Rattle.go_snap_core.specs.near_core.Closing.{either}
 use Rattle.go_snap_core.specs.near_core.PiecesProofs.{each_both}
 use Rattle.go_laws_core.proofs.Terms.{AreFieldsIn, AreMethodsIn, AreTermsIn, IsSignIn, IsTermIn}
 use Rattle.go_laws_core.proofs.Tables.{AreMembersIn, IsEntryIn}
-use Rattle.go_piece_core.specs.statement_core.Locality.{Each}
+use Rattle.govisd_core.specs.statement_core.Locality.{Each}
 
 module _ (Inside : List ℕ → Type 0) where
   abbrev pub IsFoundIn : Found → Type 0

@@ -2,10 +2,10 @@
 use Rattle.std.proofs.Common.{◌≡◌, ℕ, suc, List, [], ◌∷◌, All, Option, Some, None, inl, inr, refl, ap}
 use Rattle.std.specs.Prelude.{slice_get}
 use Rattle.std.proofs.lemmas.List.Elements.{All-nil, All-cons, All-append}
-use Rattle.go_graph_core.specs.Workspaces.{PackageModel, IsWorkspace}
+use Rattle.govisd_core.specs.graph_core.Workspaces.{PackageModel, IsWorkspace}
 use Rattle.govisd_core.specs.handle_core.Declarations.{Declaration}
-use Rattle.go_entry_core.proofs.Among.{Among, among_to}
-use Rattle.go_summary_core.specs.Summaries.{SummaryModel}
+use Rattle.go_snap_core.specs.entry_core.Among.{Among, among_to}
+use Rattle.govisd_core.specs.summary_core.Summaries.{SummaryModel}
 use Rattle.go_snap_core.specs.part_core.Inputs.{IsInput}
 use Rattle.go_snap_core.specs.part_core.Parts.{PartModel}
 use Rattle.go_object_core.specs.Objects.{ObjectOf}

@@ -12,15 +12,15 @@ use Rattle.go_term_core.specs.Terms.{Term, Defined}
 use Rattle.go_settle_core.specs.declared.kind.Kind.{Kind}
 use Rattle.go_settle_core.specs.declared.kind.Kind.TheVariants as kinds
 use Rattle.go_settle_core.specs.Settled.{is_among_names, kind_of_term}
-use Rattle.go_table_core.specs.Entries.{Entry, EntryLook, Member, find_entry, same_key}
-use Rattle.go_table_core.specs.Methods.{has_field_before}
-use Rattle.go_table_core.proofs.ByRule.{adding}
-use Rattle.go_type_core.specs.declared.build.TypeFault.{TypeFault}
-use Rattle.go_type_core.specs.Built.{AreEntries, IsBuilt, IsEntry, IsUnderBy, IsUnderlying, unrepeated_methods, kept_over}
+use Rattle.govisd_core.specs.table_core.Entries.{Entry, EntryLook, Member, find_entry, same_key}
+use Rattle.govisd_core.specs.table_core.Methods.{has_field_before}
+use Rattle.govisd_core.specs.table_core.ByRule.{adding}
+use Rattle.govisd_core.specs.type_core.declared.build.TypeFault.{TypeFault}
+use Rattle.govisd_core.specs.type_core.Built.{AreEntries, IsBuilt, IsEntry, IsUnderBy, IsUnderlying, unrepeated_methods, kept_over}
 use Rattle.go_written_core.specs.Written.{InFile, Meaning}
-use Rattle.go_entry_core.specs.Entries.{Meanings, Received, decl_methods, entries_with, entry_of, file_at, file_entries, file_methods, func_methods, is_type_of, methods_received, package_methods, spec_entry, type_key}
-use Rattle.go_entry_core.specs.Outlines.{FileOutline}
-use Rattle.go_entry_core.proofs.Among.{Among, among_filter, among_flat, among_map}
+use Rattle.go_snap_core.specs.entry_core.Entries.{Meanings, Received, decl_methods, entries_with, entry_of, file_at, file_entries, file_methods, func_methods, is_type_of, methods_received, package_methods, spec_entry, type_key}
+use Rattle.go_snap_core.specs.entry_core.Outlines.{FileOutline}
+use Rattle.go_snap_core.specs.entry_core.Among.{Among, among_filter, among_flat, among_map}
 use Rattle.go_snap_core.specs.near_core.Closing.{either}
 use Rattle.go_laws_core.proofs.Terms.{IsSignIn, IsTermIn, settled_in, settled_sign_in, signature_in, term_in}
 

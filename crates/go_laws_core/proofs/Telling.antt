@@ -3,15 +3,15 @@ use Rattle.std.proofs.Common.{◌≡◌, ◌++◌, ℕ, List, [], ◌∷◌, Opt
 use Rattle.std.specs.Prelude.{slice_get}
 use Rattle.std.specs.List.{AllZip}
 use Rattle.govisd_core.specs.ready_core.Packages.{trees_in}
-use Rattle.go_graph_core.specs.Workspaces.{PackageModel}
-use Rattle.go_graph_core.proofs.Zips.{zip_at}
+use Rattle.govisd_core.specs.graph_core.Workspaces.{PackageModel}
+use Rattle.govisd_core.specs.graph_core.Zips.{zip_at}
 use Rattle.go_snap_core.specs.part_core.Parts.{PartModel}
 use Rattle.go_snap_core.specs.whole_core.Entries.{IsPartAmong, IsPartEntry}
 use Rattle.go_snap_core.specs.whole_core.Whole.{WholeOf}
 use Rattle.go_snap_core.specs.emit_core.Emitted.{object_in, object_over, told_by}
 use Rattle.go_snap_core.specs.meaning_core.Scenes.{package_decl_refs, scene_by}
-use Rattle.go_summary_core.specs.Summaries.{SummaryModel}
-use Rattle.go_summary_core.specs.Views.{faces_told, types_told}
+use Rattle.govisd_core.specs.summary_core.Summaries.{SummaryModel}
+use Rattle.govisd_core.specs.summary_core.Views.{faces_told, types_told}
 use Rattle.go_laws_core.specs.Trees.{all_faces, all_types, scene_of_trees}
 use Rattle.go_laws_core.specs.TreeLaws.{AreToldByTrees}
 use Rattle.go_snap_core.specs.part_core.Slots.{somes}

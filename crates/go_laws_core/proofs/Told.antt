@@ -4,17 +4,17 @@ use Rattle.std.specs.Prelude.{if◌then◌else◌}
 use Rattle.std.specs.Str.{bytes_eq}
 use Rattle.std.proofs.lemmas.Grind.{flat_map-append}
 use Rattle.go_decl_core.specs.declared.keys.DeclRef.{DeclRef}
-use Rattle.go_table_core.specs.Entries.{Entry}
-use Rattle.go_table_core.proofs.Finding.{bytes_same}
-use Rattle.go_entry_core.specs.Entries.{package_meanings}
-use Rattle.go_summary_core.specs.face_core.Packages.{PackageFacesModel, face_among, face_in_some, package_in}
-use Rattle.go_summary_core.specs.face_core.Written.{decls_of, position_of}
+use Rattle.govisd_core.specs.table_core.Entries.{Entry}
+use Rattle.govisd_core.specs.table_core.Finding.{bytes_same}
+use Rattle.go_snap_core.specs.entry_core.Entries.{package_meanings}
+use Rattle.go_snap_core.specs.face_core.Packages.{PackageFacesModel, face_among, face_in_some, package_in}
+use Rattle.go_snap_core.specs.face_core.Written.{decls_of, position_of}
 use Rattle.go_snap_core.specs.answer_core.Shown.{exported_decls, package_shown, shown_among}
 use Rattle.govisd_core.specs.ready_core.Packages.{PackageIn, scene_in, trees_in}
 use Rattle.govisd_core.specs.env_core.Found.{face_at}
-use Rattle.go_summary_core.specs.Summaries.{SummaryModel, IsOfOne, path_of}
-use Rattle.go_summary_core.specs.Views.{faces_told, types_told}
-use Rattle.go_summary_core.proofs.Viewed.{text_apart}
+use Rattle.govisd_core.specs.summary_core.Summaries.{SummaryModel, IsOfOne, path_of}
+use Rattle.govisd_core.specs.summary_core.Views.{faces_told, types_told}
+use Rattle.govisd_core.specs.summary_core.Viewed.{text_apart}
 use Rattle.go_snap_core.specs.part_core.Inputs.{InputModel, IsInput, path_in}
 use Rattle.go_snap_core.specs.part_core.Parts.{ContentOf, IsPart, package_seen, seen_by}
 use Rattle.go_snap_core.specs.emit_core.Emitted.{code_scene_over, told_to}

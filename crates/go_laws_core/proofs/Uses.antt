@@ -11,25 +11,25 @@ use Rattle.go_tree_nodes.specs.Trees.{Separated, One, Then, Specs, Single, Group
 use Rattle.go_term_core.specs.Terms.{Term, Sign}
 use Rattle.go_local_core.specs.Steps.{Piece, Header, Spec, Act, Condition, Given}
 use Rattle.go_walk_core.specs.Ends.{is_blank_target}
-use Rattle.go_denote_core.specs.declared.things.Stand.{Stand}
-use Rattle.go_denote_core.specs.declared.things.Stand.TheVariants as stands
-use Rattle.go_denote_core.specs.Arguments.{arguments_of, is_free}
-use Rattle.go_denote_core.specs.Calls.{call_answer}
-use Rattle.go_denote_core.specs.Selectors.{dot_of}
-use Rattle.go_literal_core.specs.Repeats.{has_name}
-use Rattle.go_expr_core.specs.Looks.{look_of_place}
-use Rattle.go_expr_core.specs.Lists.{exprs_uses}
-use Rattle.go_expr_core.specs.Places.{inside, under_place, left_place, whole, is_name, is_lone_call}
-use Rattle.go_expr_core.specs.Denoting.{denoted, denoted_items, named_type, written_type}
-use Rattle.go_expr_core.specs.Elements.{all_keys, is_mixed, key_names, keys_of}
-use Rattle.go_expr_core.specs.Uses.{Spot, Identifier, CallAt, SelectorBehind, args_spots, fields_spots, items_spots, key_spots, methods_spots, params_spots, result_spots, signature_spots, spots, type_name_spots, type_spots, use_of, uses}
-use Rattle.go_expr_core.specs.TypeUses.{type_uses, signature_uses}
-use Rattle.go_piece_core.specs.Headers.{receiver_uses}
-use Rattle.go_piece_core.specs.Pieces.{piece_uses}
-use Rattle.go_piece_core.specs.Specifications.{spec_uses, values_uses}
-use Rattle.go_piece_core.specs.Statements.{returned_uses, simple_uses}
-use Rattle.go_piece_core.specs.Targets.{target_uses, targets_uses}
-use Rattle.go_piece_core.specs.Types.{some_type_uses}
+use Rattle.go_fold_core.specs.denote_core.declared.things.Stand.{Stand}
+use Rattle.go_fold_core.specs.denote_core.declared.things.Stand.TheVariants as stands
+use Rattle.go_fold_core.specs.denote_core.Arguments.{arguments_of, is_free}
+use Rattle.go_fold_core.specs.denote_core.Calls.{call_answer}
+use Rattle.go_fold_core.specs.denote_core.Selectors.{dot_of}
+use Rattle.go_fold_core.specs.literal_core.Repeats.{has_name}
+use Rattle.go_fold_core.specs.expr_core.Looks.{look_of_place}
+use Rattle.go_fold_core.specs.expr_core.Lists.{exprs_uses}
+use Rattle.go_fold_core.specs.expr_core.Places.{inside, under_place, left_place, whole, is_name, is_lone_call}
+use Rattle.go_fold_core.specs.expr_core.Denoting.{denoted, denoted_items, named_type, written_type}
+use Rattle.go_fold_core.specs.expr_core.Elements.{all_keys, is_mixed, key_names, keys_of}
+use Rattle.go_fold_core.specs.expr_core.Uses.{Spot, Identifier, CallAt, SelectorBehind, args_spots, fields_spots, items_spots, key_spots, methods_spots, params_spots, result_spots, signature_spots, spots, type_name_spots, type_spots, use_of, uses}
+use Rattle.go_fold_core.specs.expr_core.TypeUses.{type_uses, signature_uses}
+use Rattle.govisd_core.specs.piece_core.Headers.{receiver_uses}
+use Rattle.govisd_core.specs.piece_core.Pieces.{piece_uses}
+use Rattle.govisd_core.specs.piece_core.Specifications.{spec_uses, values_uses}
+use Rattle.govisd_core.specs.piece_core.Statements.{returned_uses, simple_uses}
+use Rattle.govisd_core.specs.piece_core.Targets.{target_uses, targets_uses}
+use Rattle.govisd_core.specs.piece_core.Types.{some_type_uses}
 use Rattle.govisd_core.specs.handle_core.Declarations.{Declaration}
 use Rattle.govisd_core.specs.env_core.Looks.{TheLooks}
 use Rattle.govisd_core.specs.body_core.Notes.{TheUse}
@@ -39,7 +39,7 @@ use Rattle.go_snap_core.specs.near_core.Closing.{either}
 use Rattle.go_snap_core.specs.near_core.Expressions.{named_near, written_near}
 use Rattle.go_snap_core.specs.near_core.PiecesProofs.{each_both}
 use Rattle.go_laws_core.proofs.Answers.{AreKept, IsOutcomeIn, alike_itself, call_in, denoted_in, ident_in, key_in, select_in, type_name_in}
-use Rattle.go_piece_core.specs.statement_core.Locality.{Each}
+use Rattle.govisd_core.specs.statement_core.Locality.{Each}
 
 pub mapped_each : {A B : Type 0} (Is : B → Type 0) (f : A → B) (xs ys : List A) → Each Is (map f xs) → Each Is (map f ys) → Each Is (map f (xs ++ ys))
 mapped_each Is f [] ys h k = k

@@ -12,7 +12,7 @@ use Rattle.go_snap_core.specs.near_core.Near.{IfAny}
 use Rattle.go_snap_core.specs.near_core.Closing.{either}
 use Rattle.go_snap_core.specs.near_core.PiecesProofs.{each_both}
 use Rattle.go_snap_core.specs.near_core.Walking.{MeansNear}
-use Rattle.go_piece_core.specs.statement_core.Locality.{Each}
+use Rattle.govisd_core.specs.statement_core.Locality.{Each}
 
 or_in : {X : Type 0} (Is : X → Type 0) (a b : Option X) → IfAny Is a → IfAny Is b → IfAny Is (or_else a b)
 or_in Is None b h k = k

@@ -3,15 +3,15 @@ use Rattle.std.proofs.Common.{◌≡◌, ℕ, List, [], ◌∷◌}
 use Rattle.std.specs.Prelude.{Option, Some, None}
 use Rattle.go_decl_core.specs.declared.keys.DeclRef.{DeclRef}
 use Rattle.go_term_core.specs.Terms.{Term, NoType, Predeclared, ErrorType, Defined, PointerTo, StructOf, InterfaceOf, Fields, NoField, AField, Methods, NoMethod, AMethod, Sign, SignOf, Terms, NoTerm, ATerm}
-use Rattle.go_table_core.specs.Entries.{Entry, Member}
+use Rattle.govisd_core.specs.table_core.Entries.{Entry, Member}
 use Rattle.go_operand_core.specs.declared.types.Operand.{Operand}
 use Rattle.go_operand_core.specs.declared.types.ValueType.{ValueType}
 use Rattle.go_operand_core.specs.declared.types.ValueType.TheVariants as value_types
-use Rattle.go_summary_core.specs.face_core.declared.face.Face.TheVariants as faces
-use Rattle.go_summary_core.specs.face_core.Faces.{TheFace}
-use Rattle.go_summary_core.specs.face_core.Packages.{face_by}
+use Rattle.go_snap_core.specs.face_core.declared.face.Face.TheVariants as faces
+use Rattle.go_snap_core.specs.face_core.Faces.{TheFace}
+use Rattle.go_snap_core.specs.face_core.Packages.{face_by}
 use Rattle.go_snap_core.specs.near_core.Near.{IfAny, NearOperand, NearValue}
-use Rattle.go_summary_core.specs.Summaries.{SummaryModel}
+use Rattle.govisd_core.specs.summary_core.Summaries.{SummaryModel}
 use Rattle.go_laws_core.proofs.Terms.{AreFieldsIn, AreMethodsIn, AreTermsIn, IsSignIn, IsTermIn}
 use Rattle.go_laws_core.proofs.Tables.{AreEntriesIn, AreMembersIn}
 use Rattle.go_laws_core.proofs.Meanings.{IsFaceIn}

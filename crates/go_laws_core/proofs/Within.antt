@@ -15,9 +15,9 @@ use Rattle.go_local_core.specs.Pieces.{ident_place, piece_declares}
 use Rattle.go_local_core.specs.Tables.{IsFuncPlaced}
 use Rattle.go_local_core.proofs.Placed.{Placed, func_placed}
 use Rattle.go_term_core.specs.Terms.{Term}
-use Rattle.go_names_core.specs.Body.{each_means}
-use Rattle.go_piece_core.specs.Headers.{returned_names, returned_types}
-use Rattle.go_piece_core.specs.Pieces.{piece_values}
+use Rattle.govisd_core.specs.names_core.Body.{each_means}
+use Rattle.govisd_core.specs.piece_core.Headers.{returned_names, returned_types}
+use Rattle.govisd_core.specs.piece_core.Pieces.{piece_values}
 use Rattle.govisd_core.specs.env_core.declared.meaning.Meaning.{Meaning}
 use Rattle.govisd_core.specs.env_core.declared.meaning.Meaning.TheVariants as meanings
 use Rattle.govisd_core.specs.body_core.Body.{BodyOf}

@@ -5,11 +5,11 @@ use Rattle.std.specs.Prelude.{◌≡◌, ℕ, List, Option, Some, Ok, map, slice
 use Rattle.go_tree_nodes.specs.Trees.{FileTree}
 use Rattle.go_tree_core.specs.declared.occurrence.Occ.{Occ}
 use Rattle.go_tree_core.specs.Occurrences.{file_occs}
-use Rattle.go_expr_core.specs.Laws.{use_place, occurrence_place}
-use Rattle.go_graph_core.specs.Imports.{IsNumbered}
-use Rattle.go_graph_core.specs.Packages.{IsAssembled}
-use Rattle.go_graph_core.specs.Sources.{SourceModel}
-use Rattle.go_graph_core.specs.Workspaces.{PackageModel, IsWorkspace}
+use Rattle.go_fold_core.specs.expr_core.Laws.{use_place, occurrence_place}
+use Rattle.govisd_core.specs.graph_core.Imports.{IsNumbered}
+use Rattle.govisd_core.specs.graph_core.Packages.{IsAssembled}
+use Rattle.govisd_core.specs.graph_core.Sources.{SourceModel}
+use Rattle.govisd_core.specs.graph_core.Workspaces.{PackageModel, IsWorkspace}
 use Rattle.govisd_core.specs.ready_core.Packages.{trees_in}
 use Rattle.govisd_core.specs.used_core.Used.{FileUse}
 use Rattle.go_snap_core.specs.part_core.Parts.{FileOf, PartModel}

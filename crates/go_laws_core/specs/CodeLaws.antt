@@ -7,11 +7,11 @@ use Rattle.go_tree_nodes.specs.Trees.{FileTree, Func, FuncTree, TopTree}
 use Rattle.go_tree_core.specs.declared.occurrence.Occ.{Occ}
 use Rattle.go_tree_core.specs.declared.occurrence.Role.TheVariants as roles
 use Rattle.go_tree_core.specs.Occurrences.{call_at, lines_occs}
-use Rattle.go_graph_core.specs.Workspaces.{PackageModel, IsWorkspace}
+use Rattle.govisd_core.specs.graph_core.Workspaces.{PackageModel, IsWorkspace}
 use Rattle.govisd_core.specs.handle_core.Declarations.{Declaration}
 use Rattle.govisd_core.specs.body_core.Notes.{TheUse}
 use Rattle.govisd_core.specs.ready_core.Packages.{trees_in}
-use Rattle.go_summary_core.specs.Summaries.{SummaryModel}
+use Rattle.govisd_core.specs.summary_core.Summaries.{SummaryModel}
 use Rattle.go_snap_core.specs.part_core.Inputs.{InputModel, IsInput}
 use Rattle.go_snap_core.specs.part_core.Parts.{ContentOf, FileOf, IsPart, PartModel}
 use Rattle.go_instruction_core.specs.declared.instruction.Distance.TheVariants as distances

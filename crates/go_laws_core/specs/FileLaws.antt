@@ -5,7 +5,7 @@ use Rattle.std.specs.Prelude.{◌≡◌, ◌↔◌, ◌≤◌, ℕ, true, List, 
 use Rattle.go_text_core.specs.declared.rule.Rule.{Rule}
 use Rattle.go_text_core.specs.declared.rule.Rule.TheVariants.{K3, K4, P1, P2}
 use Rattle.go_snap_core.specs.answer_core.Outer.{fault}
-use Rattle.go_graph_core.specs.Sources.{SourceModel, IsRead}
+use Rattle.govisd_core.specs.graph_core.Sources.{SourceModel, IsRead}
 use Rattle.go_local_core.specs.declared.Fault.{Fault}
 use Rattle.govisd_core.specs.used_core.Used.{FileUse}
 use Rattle.go_snap_core.specs.part_core.Parts.{FileOf, PartModel}

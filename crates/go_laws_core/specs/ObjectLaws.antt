@@ -3,7 +3,7 @@
 -- docs/RULES.md, "Stack code", "Whole workspaces". The Go specification, "Packages", "Import declarations".
 use Rattle.std.specs.Prelude.{◌≡◌, List, Option, Contains}
 use Rattle.std.specs.List.{flat_map}
-use Rattle.go_graph_core.specs.Workspaces.{PackageModel, IsWorkspace}
+use Rattle.govisd_core.specs.graph_core.Workspaces.{PackageModel, IsWorkspace}
 use Rattle.go_snap_core.specs.part_core.Parts.{FileOf, PartModel}
 use Rattle.govisd_core.specs.body_core.Notes.{TheUse}
 use Rattle.go_snap_core.specs.declared.fault.PlacedFault.{PlacedFault}

@@ -2,10 +2,10 @@
 --
 -- The Go specification, "Packages", "Import declarations", "Selectors".
 use Rattle.std.specs.Prelude.{ℕ, List, ◌∷◌, map, ⊤}
-use Rattle.go_denote_core.specs.declared.things.Outcome.{Outcome}
-use Rattle.go_denote_core.specs.declared.things.Outcome.TheVariants as outcomes
+use Rattle.go_fold_core.specs.denote_core.declared.things.Outcome.{Outcome}
+use Rattle.go_fold_core.specs.denote_core.declared.things.Outcome.TheVariants as outcomes
 use Rattle.govisd_core.specs.handle_core.Declarations.{Declaration, Universe, OfError, Package, InFile}
-use Rattle.go_summary_core.specs.Summaries.{path_of}
+use Rattle.govisd_core.specs.summary_core.Summaries.{path_of}
 use Rattle.go_snap_core.specs.part_core.Inputs.{InputModel, path_in}
 
 -- the paths of a package and of those that it reaches

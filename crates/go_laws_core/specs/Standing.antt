@@ -13,7 +13,7 @@ use Rattle.govisd_core.specs.env_core.declared.meaning.Meaning.{Meaning}
 use Rattle.govisd_core.specs.env_core.Looks.{TheLooks}
 use Rattle.govisd_core.specs.func_core.Stands.{FileStand, looks_where, outer_meanings}
 use Rattle.govisd_core.specs.value_core.Initial.{exprs}
-use Rattle.go_summary_core.specs.Views.{types_told}
+use Rattle.govisd_core.specs.summary_core.Views.{types_told}
 use Rattle.go_snap_core.specs.package_core.Checked.{stand_at}
 use Rattle.go_snap_core.specs.part_core.Inputs.{InputModel}
 use Rattle.go_snap_core.specs.part_core.Parts.{ContentOf, package_seen, seen_by}

@@ -2,11 +2,11 @@
 --
 -- docs/RULES.md, "Stack code", "Whole workspaces". The Go specification, "Packages", "Declarations and scope".
 use Rattle.std.specs.Prelude.{◌≡◌, ℕ, List, Option, Some, slice_get}
-use Rattle.go_graph_core.specs.Workspaces.{PackageModel, IsWorkspace}
+use Rattle.govisd_core.specs.graph_core.Workspaces.{PackageModel, IsWorkspace}
 use Rattle.go_snap_core.specs.part_core.Parts.{PartModel}
 use Rattle.go_snap_core.specs.whole_core.Whole.{AreWhole, WholeOf}
 use Rattle.go_snap_core.specs.emit_core.Emitted.{object_in, object_over, told_by}
-use Rattle.go_summary_core.specs.Views.{faces_told, types_told}
+use Rattle.govisd_core.specs.summary_core.Views.{faces_told, types_told}
 use Rattle.go_snap_core.specs.declared.fault.PlacedFault.{PlacedFault}
 use Rattle.go_snap_core.specs.Snapshots.{IsSnapshot}
 use Rattle.go_laws_core.specs.Trees.{all_faces, all_types, scene_of_trees}

@@ -4,9 +4,9 @@
 use Rattle.std.specs.Prelude.{List, [], ◌∷◌, Option}
 use Rattle.std.specs.List.{flat_map}
 use Rattle.govisd_core.specs.ready_core.Packages.{trees_in}
-use Rattle.go_summary_core.specs.face_core.Packages.{PackageFacesModel}
+use Rattle.go_snap_core.specs.face_core.Packages.{PackageFacesModel}
 use Rattle.go_snap_core.specs.whole_core.Whole.{WholeOf, if_some}
-use Rattle.go_table_core.specs.Entries.{Entry}
+use Rattle.govisd_core.specs.table_core.Entries.{Entry}
 use Rattle.go_snap_core.specs.meaning_core.Scenes.{CodeScene, package_decl_refs, scene_by}
 
 -- the types that all packages declare, and what all of them show, by the check of each among all others

@@ -2,7 +2,7 @@
 use Rattle.std.proofs.Common.{◌≡◌, ℕ, false, List, Result, Ok, Err, refl, subst, inl, inr}
 use Rattle.go_text_core.specs.Text.{is_blank}
 use Rattle.go_text_core.specs.declared.rule.Rule.{Rule}
-use Rattle.go_embed_core.specs.term_core.Terms.{Term}
+use Rattle.go_term_core.specs.Terms.{Term}
 use Rattle.go_embed_core.specs.table_core.Entries.{EntryLook}
 use Rattle.go_embed_core.specs.OwnersShown.{found_shown}
 use Rattle.go_level_core.specs.declared.search.Selected.{Selected}

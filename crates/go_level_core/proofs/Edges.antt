@@ -1,13 +1,13 @@
 -- Embedded fields by their places.
 use Rattle.std.proofs.Common.{◌≡◌, ℕ, suc, ◌+◌, ◌<◌, ◌≤◌, Bool, true, false, not, ◌&&◌, List, [], ◌∷◌, Some, refl, sym, ap, ◌∙◌, subst, arith, inl, inr, if◌then◌else◌, eq-eqb}
 use Rattle.std.proofs.lemmas.Bool.Decides.{eqb_tells}
-use Rattle.go_embed_core.specs.term_core.Terms.{Term, NoType, Predeclared, ErrorType, Defined, PointerTo, StructOf, InterfaceOf, Fields, NoField, AField}
+use Rattle.go_term_core.specs.Terms.{Term, NoType, Predeclared, ErrorType, Defined, PointerTo, StructOf, InterfaceOf, Fields, NoField, AField}
 use Rattle.go_embed_core.specs.table_core.Entries.{EntryLook, has_method}
 use Rattle.go_embed_core.specs.Owners.{OwnerModel, EmbeddedEdge, embedded_edge, owner_in, embedded_edges, term_embedded, embedded_in, edge_at, embeds_at, term_field_count, owner_field_count}
 use Rattle.go_level_core.specs.Paths.{Step}
 use Rattle.go_level_core.proofs.ListLemmas.{not_same}
-use Rattle.go_embed_core.specs.term_core.Forms.{field_count}
-use Rattle.go_embed_core.specs.term_core.Members.{In, contained_in, in_contained}
+use Rattle.go_term_core.specs.Forms.{field_count}
+use Rattle.go_term_core.proofs.Members.{In, contained_in, in_contained}
 
 at_here : (x : EmbeddedEdge) (es : List EmbeddedEdge) (i : ℕ) → x.position ≡ i → edge_at (x ∷ es) i ≡ Some x
 at_here x es i h = ap (λ b. if b then Some x else edge_at es i) (eq-eqb x.position i h)

@@ -2,7 +2,7 @@
 use Rattle.std.proofs.Common.{◌≡◌, ℕ, zero, suc, ◌+◌, ◌<◌, ◌≤◌, Bool, true, ◌||◌, List, [], ◌∷◌, ◌++◌, length, set, get_or, Some, None, refl, sym, ap, ◌∙◌, subst, arith, ◌⊎◌, inl, inr, length-append, length-set}
 use Rattle.std.specs.Prelude.{slice_get, nat_eq}
 use Rattle.std.specs.Map.{lookup}
-use Rattle.go_embed_core.specs.term_core.Terms.{Term, Defined}
+use Rattle.go_term_core.specs.Terms.{Term, Defined}
 use Rattle.go_embed_core.specs.table_core.Entries.{Entry, find_entry}
 use Rattle.go_embed_core.specs.Owners.{OwnerModel, EmbeddedEdge, owner_in, embeds_at, owner_field_count}
 use Rattle.go_level_core.specs.Paths.{Step, FieldsLead}

@@ -1,7 +1,7 @@
 -- What a level alone says, as far as the loop has come.
 use Rattle.std.proofs.Common.{◌≡◌, ℕ, ◌+◌, ◌<◌, ◌≤◌, Bool, true, false, ◌||◌, List, length, Option, Some, None, refl, sym, ap, ◌∙◌, subst, arith, inl, inr}
 use Rattle.std.specs.Prelude.{is_some}
-use Rattle.go_embed_core.specs.term_core.Shapes.{shape}
+use Rattle.go_term_core.specs.Shapes.{shape}
 use Rattle.go_embed_core.specs.table_core.Entries.{EntryLook}
 use Rattle.go_embed_core.specs.Owners.{OwnerModel, Found, owner_in, has_spelled}
 use Rattle.go_embed_core.specs.declared.member.Hits.TheVariants as hits

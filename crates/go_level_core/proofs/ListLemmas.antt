@@ -3,7 +3,7 @@ use Rattle.std.proofs.Common.{◌≡◌, ℕ, zero, suc, ◌+◌, ◌<◌, ◌�
 use Rattle.std.specs.Prelude.{slice_get, nat_eq}
 use Rattle.std.proofs.lemmas.Option.{slice_get_within, slice_get_read}
 use Rattle.std.proofs.lemmas.Bool.Decides.{eqb_tells}
-use Rattle.go_embed_core.specs.term_core.Members.{In}
+use Rattle.go_term_core.proofs.Members.{In}
 use Rattle.go_level_core.specs.mirrors.Ways.{At}
 
 pub at_old : {A : Type 0} (xs : List A) (y : A) (n : ℕ) (x : A) → At xs n x → At (xs ++ y ∷ []) n x

@@ -1,6 +1,6 @@
 -- Paths put together and cut, and what a level says of hits.
 use Rattle.std.proofs.Common.{◌≡◌, ℕ, zero, suc, ◌+◌, ◌<◌, ◌≤◌, Bool, false, ◌||◌, List, [], ◌∷◌, ◌++◌, length, refl, sym, ap, ◌∙◌, subst, arith, ◌⊎◌, inl, inr, length-append}
-use Rattle.go_embed_core.specs.term_core.Terms.{Term}
+use Rattle.go_term_core.specs.Terms.{Term}
 use Rattle.go_embed_core.specs.table_core.Entries.{EntryLook}
 use Rattle.go_embed_core.specs.Owners.{Found, owner_in}
 use Rattle.go_embed_core.specs.OwnersShown.{IsNamedAt}

@@ -3,8 +3,8 @@ use Rattle.std.proofs.Common.{◌≡◌, ℕ, zero, suc, ◌+◌, ◌<◌, ◌�
 use Rattle.std.specs.Prelude.{nat_eq}
 use Rattle.std.specs.Map.{lookup}
 use Rattle.std.proofs.lemmas.List.{append-nil, reverse-append}
-use Rattle.go_embed_core.specs.term_core.Shapes.{shape}
-use Rattle.go_embed_core.specs.term_core.Terms.{Term}
+use Rattle.go_term_core.specs.Shapes.{shape}
+use Rattle.go_term_core.specs.Terms.{Term}
 use Rattle.go_embed_core.specs.table_core.Entries.{Entry}
 use Rattle.go_embed_core.specs.Owners.{EmbeddedEdge}
 use Rattle.go_level_core.specs.declared.level.Reached.{Reached}

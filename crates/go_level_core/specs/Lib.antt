@@ -5,4 +5,4 @@ pub mod decl_core
 pub mod embed_core
 pub mod settle_core
 pub mod table_core
-pub mod term_core
+pub mod type_core

@@ -1,6 +1,6 @@
 -- Paths of embedded fields of every length, and what they lead to: the Go specification, "Selectors".
 use Rattle.std.specs.Prelude.{◌≡◌, ◌<◌, ◌⊎◌, ℕ, Bool, false, ◌||◌, List, [], ◌∷◌, length, Contains, IsTrue}
-use Rattle.go_embed_core.specs.term_core.Terms.{Term}
+use Rattle.go_term_core.specs.Terms.{Term}
 use Rattle.go_embed_core.specs.table_core.Entries.{EntryLook}
 use Rattle.go_embed_core.specs.Owners.{EmbeddedEdge, owner_in, embedded_in, Found, has_spelled}
 use Rattle.go_embed_core.specs.OwnersShown.{IsNamedAt}

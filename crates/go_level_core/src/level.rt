@@ -1,7 +1,7 @@
 //! The types that paths of embedded fields reach, level by level.
 ghost use Rattle.std.specs.Prelude.{◌≡◌, ◌<◌, ◌≤◌, ◌∷◌, [], length, OnOk, IfOk};
 ghost use Rattle.go_embed_core.specs.table_core.Entries.{find_entry};
-ghost use Rattle.go_embed_core.specs.term_core.Shapes.{shape};
+ghost use Rattle.go_term_core.specs.Shapes.{shape};
 ghost use Rattle.go_embed_core.specs.OwnersShown.{embedded_shown};
 ghost use Rattle.go_level_core.specs.mirrors.Ways.{ways, root, IsNumber, IsRight, Begins, Entered, Marked, Pushed};
 ghost use Rattle.go_level_core.specs.mirrors.Levels.{IsNext, IsJudged};

@@ -19,7 +19,10 @@ pub use trails::Trails;
 
 /// What the crates above name of `go_embed_core`.
 pub mod embed_core {
-    pub use go_embed_core::{Hits, Member, Owner};
+    pub use go_embed_core::{
+        Hits, Member, MemberFault, Owner, check_base, check_hidden_fields, check_methods,
+        check_struct, has_method,
+    };
 }
 
 /// What the crates above name of `go_path_core`.
@@ -29,25 +32,21 @@ pub mod path_core {
 
 /// What the crates above name of `go_settle_core`.
 pub mod settle_core {
-    pub use go_embed_core::settle_core::{Kind, kind_of, settle, settle_signature};
+    pub use go_embed_core::settle_core::{Kind, Kinds, kind_of, settle, settle_signature};
 }
 
 /// What the crates above name of `go_table_core`.
 pub mod table_core {
     pub use go_embed_core::table_core::{
-        DeclaredMethod, DefinedType, PackageTypes, TypeTable, identical_under,
-        identical_under_but_for_tags, is_named_type,
+        DeclaredMethod, DefinedType, PackageTypes, StructField, TypeEntry, TypeTable,
+        identical_under, identical_under_but_for_tags, is_named_type,
     };
-}
-
-/// What the crates above name of `go_term_core`.
-pub mod term_core {
-    pub use go_embed_core::term_core::Field;
 }
 
 /// What the crates above name of `go_type_core`.
 pub mod type_core {
     pub use go_embed_core::type_core::{
-        Basic, Method, Signature, TypeTable, TypeTerm, has_same_signature,
+        Basic, Method, PackageTypes, Signature, TypeFault, TypeTable, TypeTerm, build_types,
+        has_same_signature,
     };
 }

@@ -1,7 +1,7 @@
 //! Where a selector is searched.
 ghost use Rattle.std.specs.Prelude.{◌≡◌};
 ghost use Rattle.go_embed_core.specs.table_core.Entries.{find_entry};
-ghost use Rattle.go_embed_core.specs.term_core.Shapes.{shape};
+ghost use Rattle.go_term_core.specs.Shapes.{shape};
 ghost use Rattle.go_level_core.specs.Selectors.{searched, searched_under, unless_refused, term_kind_in};
 ghost use Rattle.go_level_core.specs.mirrors.Operands.{operand_shown, searched_shown};
 

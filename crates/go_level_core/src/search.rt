@@ -1,11 +1,11 @@
 //! A selector, searched by one level after another.
 ghost use Rattle.std.specs.Prelude.{◌≡◌, ◌↔◌, IsTrue, IfOk};
 ghost use Rattle.go_embed_core.specs.table_core.Entries.{find_entry};
-ghost use Rattle.go_embed_core.specs.term_core.Shapes.{shape};
+ghost use Rattle.go_term_core.specs.Shapes.{shape};
 ghost use Rattle.go_embed_core.specs.Owners.{owner_in, has_spelled};
 ghost use Rattle.go_embed_core.specs.OwnersShown.{found_shown};
 ghost use Rattle.go_level_core.specs.Selectors.{In, FieldsIn, IsSelectorAnswer, IsFieldFound};
-ghost use Rattle.go_embed_core.specs.term_core.Terms.{PointerTo};
+ghost use Rattle.go_term_core.specs.Terms.{PointerTo};
 ghost use Rattle.go_level_core.specs.mirrors.Levels.{HasOne};
 ghost use Rattle.go_level_core.specs.mirrors.Searches.{IsSearched, IsSearchedOrNot, IsFoundOrNot};
 

@@ -4,3 +4,7 @@ pub mod Reaching
 pub mod Order
 pub mod Linked
 pub mod mirrors
+pub mod cycle_core
+pub mod instruction_core
+pub mod machine_core
+pub mod object_core

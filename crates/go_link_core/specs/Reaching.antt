@@ -3,8 +3,8 @@
 -- docs/RULES.md, "Stack code".
 use Rattle.std.specs.Prelude.{◌≡◌, ◌≤◌, ℕ, ◌+◌, ◌↔◌, Bool, true, false, List, [], ◌∷◌, ◌++◌, length, map, Option, Some, None, Contains, slice_get, slice_index_or}
 use Rattle.std.specs.List.{flat_map}
-use Rattle.go_instruction_core.specs.declared.instruction.Instruction.{Instruction}
-use Rattle.go_instruction_core.specs.declared.instruction.Instruction.TheVariants as instructions
+use Rattle.go_machine_core.specs.instruction_core.declared.instruction.Instruction.{Instruction}
+use Rattle.go_machine_core.specs.instruction_core.declared.instruction.Instruction.TheVariants as instructions
 use Rattle.go_cycle_core.specs.declared.edge.Edge.{Edge}
 use Rattle.go_cycle_core.specs.Cycle.{Reaches}
 use Rattle.go_machine_core.specs.Programs.{LinkedOf}

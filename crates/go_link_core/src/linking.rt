@@ -17,9 +17,9 @@ use crate::places::{Place, Places};
 use crate::reached::{marked_lacks, outside_of, reached_packages};
 use go_index_core::Spellings;
 use go_machine_core::Linked;
+use go_object_core::path_core::ImportPath;
+use go_object_core::text_core::Rule;
 use go_object_core::{FunctionCode, Object};
-use go_path_core::ImportPath;
-use go_text_core::Rule;
 use indexmap::IndexMap;
 use std::alloc::{AllocError, Global};
 

@@ -9,7 +9,7 @@ ghost use Rattle.go_link_core.specs.mirrors.Numbering.{numbered_path};
 use crate::functions::numbers_called;
 use go_index_core::Spellings;
 use go_object_core::Object;
-use go_path_core::ImportPath;
+use go_object_core::path_core::ImportPath;
 use std::alloc::{AllocError, Global};
 
 /// A package of a program, by the numbers of packages and functions.

@@ -9,8 +9,8 @@ ghost use Rattle.go_link_core.specs.mirrors.Numbering.{AreBelow, AreRowsBelow, a
 use crate::edges::{add_starts, call_edges, import_edges, reversed_edges};
 use crate::packages::Package;
 use go_cycle_core::{Edge, leading_to};
-use go_instruction_core::Instruction;
 use go_machine_core::Linked;
+use go_machine_core::instruction_core::Instruction;
 use std::alloc::{AllocError, Global};
 
 // Marks on the nodes that a node reaches.

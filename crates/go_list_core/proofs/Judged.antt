@@ -2,9 +2,9 @@
 use Rattle.std.proofs.Common.{◌≡◌, ℕ, ◌<◌, inl, inr, Bool, List, length, get_or, Some, slice_get, refl, sym, ◌∙◌, ap, subst}
 use Rattle.std.specs.Prelude.{◌↔◌, IsTrue}
 use Rattle.std.proofs.lemmas.Option.{get_or_from_slice_get, same_Some, slice_get-get_or, slice_get_within}
-use Rattle.go_text_core.specs.declared.rule.Rule.{Rule}
-use Rattle.go_text_core.specs.declared.rule.Rule.TheVariants.{I1, I2, I3}
-use Rattle.go_path_core.specs.Path.{IsPath, MayImport, elements}
+use Rattle.go_tree_nodes.specs.text_core.declared.rule.Rule.{Rule}
+use Rattle.go_tree_nodes.specs.text_core.declared.rule.Rule.TheVariants.{I1, I2, I3}
+use Rattle.go_graph_core.specs.path_core.Path.{IsPath, MayImport, elements}
 use Rattle.go_graph_core.specs.declared.imports.ImportOutcome.{ImportOutcome}
 use Rattle.go_graph_core.specs.declared.imports.ImportOutcome.TheVariants.{Package, Refused}
 use Rattle.go_graph_core.specs.Imports.{AreFaulty, AreLibrary, AreMain, HasNoPackage, IsJudged, IsNumbered, IsTarget, LiesOnCycle, edge}

@@ -2,9 +2,9 @@
 use Rattle.std.proofs.Common.{◌≡◌, ℕ, inr, Bool, true, false, List, length, get_or, subst}
 use Rattle.std.specs.Prelude.{◌↔◌, All, Contains, slice_index_or}
 use Rattle.std.proofs.lemmas.List.Elements.{Contains-get_or}
-use Rattle.go_cycle_core.specs.declared.edge.Edge.{Edge}
-use Rattle.go_cycle_core.specs.Cycle.{InRange, LeadTo}
-use Rattle.go_cycle_core.proofs.Walks.{by_more, leads_back}
+use Rattle.go_graph_core.specs.cycle_core.declared.edge.Edge.{Edge}
+use Rattle.go_graph_core.specs.cycle_core.Cycle.{InRange, LeadTo}
+use Rattle.go_graph_core.specs.cycle_core.Walks.{by_more, leads_back}
 use Rattle.go_graph_core.specs.Imports.{IsEdge, LiesOnCycle, edge}
 use Rattle.go_graph_core.specs.Plans.{IsPlan, PlanModel}
 use Rattle.go_graph_core.specs.Workspaces.{PackageModel}

@@ -11,7 +11,7 @@ use Rattle.std.proofs.lemmas.Bool.{ltb-false, ltb-true}
 use Rattle.std.proofs.lemmas.List.{length-map}
 use Rattle.std.proofs.lemmas.Map.Keys.{Less-from_sorted}
 use Rattle.std.proofs.lemmas.Option.{get_or_from_slice_get, slice_get-get_or, slice_get_within}
-use Rattle.go_text_core.proofs.Each.{true_or_false}
+use Rattle.go_tree_nodes.specs.text_core.Each.{true_or_false}
 use Rattle.go_graph_core.specs.Imports.{HasNoPackage, IsNumbered}
 use Rattle.go_graph_core.specs.Sources.{SourceModel}
 use Rattle.go_graph_core.specs.Workspaces.{PackageModel, by_bytes}

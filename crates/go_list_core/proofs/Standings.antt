@@ -3,8 +3,8 @@ use Rattle.std.proofs.Common.{◌≡◌, ℕ, ◌<◌, inl, inr, Bool, false, Li
 use Rattle.std.specs.Prelude.{◌↔◌, IsTrue}
 use Rattle.std.proofs.lemmas.Bool.{true≢false}
 use Rattle.std.proofs.lemmas.Option.{slice_get-get_or}
-use Rattle.go_text_core.specs.declared.rule.Rule.TheVariants.{I5, I6}
-use Rattle.go_path_core.specs.Path.{MayImport, elements}
+use Rattle.go_tree_nodes.specs.text_core.declared.rule.Rule.TheVariants.{I5, I6}
+use Rattle.go_graph_core.specs.path_core.Path.{MayImport, elements}
 use Rattle.go_graph_core.specs.declared.imports.ImportOutcome.TheVariants.{Package, Refused}
 use Rattle.go_graph_core.specs.Imports.{AreFaulty, AreLibrary, AreMain, main}
 use Rattle.go_graph_core.specs.Packages.{IsAssembled, IsNameOf, IsPackageName, Trees, trees_of}

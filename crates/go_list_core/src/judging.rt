@@ -10,10 +10,10 @@ ghost use Rattle.go_list_core.specs.mirrors.Marks.{IsWithin, MarkCycles, Settles
 ghost use Rattle.go_list_core.specs.mirrors.Standings.{ComesTo};
 
 use crate::standing::standing_of;
-use go_cycle_core::leading_to;
+use go_graph_core::cycle_core::leading_to;
+use go_graph_core::path_core::{ImportPath, PathText, may_import_text};
 use go_graph_core::{ImportOutcome, PackageSource, Workspace, plan_imports};
-use go_path_core::{ImportPath, PathText, may_import_text};
-use go_text_core::Rule;
+use go_tree_nodes::text_core::Rule;
 use std::alloc::{AllocError, Global};
 
 /// The number of the package of a path among packages in byte order of path; `None` where there is none of that path. The time is logarithmic in

@@ -11,3 +11,8 @@ mod standing;
 pub use judging::{judge_import, number_of};
 pub use laws::added_imports_are_judged;
 pub use listing::importable;
+
+/// What the crates above name of `go_graph_core`.
+pub mod graph_core {
+    pub use go_graph_core::{ImportOutcome, Package, SourceFile};
+}

@@ -9,9 +9,9 @@ ghost use Rattle.go_list_core.specs.mirrors.Standings.{MayUse};
 
 use crate::judging::cycle_marks;
 use crate::standing::standing_of;
+use go_graph_core::path_core::{ImportPath, may_import};
 use go_graph_core::{PackageSource, Workspace};
-use go_path_core::{ImportPath, may_import};
-use go_text_core::add;
+use go_tree_nodes::text_core::add;
 use std::alloc::{AllocError, Global};
 
 // Whether an import of a package comes to it, cycles left aside.

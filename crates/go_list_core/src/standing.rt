@@ -4,7 +4,7 @@ ghost use Rattle.go_graph_core.specs.Imports.{main};
 ghost use Rattle.go_list_core.specs.mirrors.Standings.{IsStanding, is_library, outcome_by};
 
 use go_graph_core::{ImportOutcome, Package, PackageSource, assemble};
-use go_text_core::Rule;
+use go_tree_nodes::text_core::Rule;
 use std::alloc::AllocError;
 
 /// What a package is to those that import it.

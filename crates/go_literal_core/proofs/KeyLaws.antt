@@ -1,8 +1,8 @@
 -- What a key has is decided by its own name in its context.
 use Rattle.std.proofs.Common.{◌≡◌, ℕ, Bool, List, if◌then◌else◌, refl, sym, ap, ◌∙◌}
 use Rattle.std.specs.Prelude.{Option, Some, None}
-use Rattle.go_text_core.specs.Text.{is_blank}
-use Rattle.go_text_core.specs.declared.rule.Rule.TheVariants.{F1, F2, F3, F4, F5, F8}
+use Rattle.go_denote_core.specs.text_core.Text.{is_blank}
+use Rattle.go_denote_core.specs.text_core.declared.rule.Rule.TheVariants.{F1, F2, F3, F4, F5, F8}
 use Rattle.go_denote_core.specs.declared.things.Selection.{Selection}
 use Rattle.go_denote_core.specs.declared.things.Selection.TheVariants as selections
 use Rattle.go_literal_core.specs.declared.things.KeyAnswer.{KeyAnswer}

@@ -6,8 +6,8 @@ use Rattle.std.proofs.lemmas.Option.{none-some, same_Some}
 use Rattle.std.proofs.lemmas.Bool.{true≢false}
 use Rattle.std.proofs.lemmas.Bool.Decides.{eqb_tells}
 use Rattle.std.proofs.lemmas.List.Sums.{sum_by-cons}
-use Rattle.go_text_core.specs.declared.rule.Rule.{Rule}
-use Rattle.go_text_core.specs.declared.rule.Rule.TheVariants.{F5, F6, F7, F8}
+use Rattle.go_denote_core.specs.text_core.declared.rule.Rule.{Rule}
+use Rattle.go_denote_core.specs.text_core.declared.rule.Rule.TheVariants.{F5, F6, F7, F8}
 use Rattle.go_denote_core.specs.operand_core.declared.types.TypeForm.{TypeForm}
 use Rattle.go_denote_core.specs.operand_core.declared.types.TypeForm.TheVariants as forms
 use Rattle.go_denote_core.specs.Rules.{breaks, first_of}

@@ -7,8 +7,8 @@ use Rattle.std.proofs.lemmas.Bool.{false≢true}
 use Rattle.std.proofs.lemmas.List.{drop_more, drop_all, map-append}
 use Rattle.indexmap.specs.IndexMap.{IndexMap, insert_entry}
 use Rattle.indexmap.proofs.CallerLemmas.{insert_entry-new}
-use Rattle.go_text_core.specs.Text.{is_blank}
-use Rattle.go_text_core.specs.declared.rule.Rule.TheVariants.{F1, F5, F8}
+use Rattle.go_denote_core.specs.text_core.Text.{is_blank}
+use Rattle.go_denote_core.specs.text_core.declared.rule.Rule.TheVariants.{F1, F5, F8}
 use Rattle.go_literal_core.specs.Look.{FieldOf}
 use Rattle.go_literal_core.specs.Fields.{named_field, shown_field}
 use Rattle.go_literal_core.specs.Keys.{refused_key, found_key}

@@ -1,8 +1,8 @@
 -- What holds of composite literals.
 use Rattle.std.specs.Prelude.{◌≡◌, ◌≢◌, ◌↔◌, ◌⊎◌, ⊤, ℕ, ◌+◌, ◌<◌, Bool, true, false, List, ◌∷◌, ◌++◌, take, drop, length, slice_get, Option, Some, None, MatchOption}
 use Rattle.std.specs.List.{list_all, list_any, count_by}
-use Rattle.go_text_core.specs.Text.{is_blank}
-use Rattle.go_text_core.specs.declared.rule.Rule.TheVariants.{F5, F6, F7, F8}
+use Rattle.go_denote_core.specs.text_core.Text.{is_blank}
+use Rattle.go_denote_core.specs.text_core.declared.rule.Rule.TheVariants.{F5, F6, F7, F8}
 use Rattle.go_denote_core.specs.operand_core.declared.types.Operand.{Operand}
 use Rattle.go_denote_core.specs.operand_core.declared.types.TypeForm.TheVariants as forms
 use Rattle.go_denote_core.specs.operand_core.declared.types.ValueType.TheVariants as value_types

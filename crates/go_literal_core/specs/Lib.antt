@@ -11,5 +11,4 @@ pub mod mirrors
 pub mod constant_core
 pub mod denote_core
 pub mod operand_core
-pub mod term_core
 pub mod tree_core

@@ -4,8 +4,8 @@
 -- docs/RULES.md, "Composite literals". The Go specification, "Composite literals".
 use Rattle.std.specs.Prelude.{ℕ, Bool, true, false, not, ◌==◌, List, length, slice_get, Option, Some, None, if◌then◌else◌}
 use Rattle.std.specs.List.{list_all}
-use Rattle.go_text_core.specs.declared.rule.Rule.{Rule}
-use Rattle.go_text_core.specs.declared.rule.Rule.TheVariants.{F5, F6, F7, F8}
+use Rattle.go_denote_core.specs.text_core.declared.rule.Rule.{Rule}
+use Rattle.go_denote_core.specs.text_core.declared.rule.Rule.TheVariants.{F5, F6, F7, F8}
 use Rattle.go_denote_core.specs.operand_core.declared.types.TypeForm.{TypeForm}
 use Rattle.go_denote_core.specs.operand_core.declared.types.TypeForm.TheVariants as forms
 use Rattle.go_denote_core.specs.operand_core.declared.types.ValueType.TheVariants as value_types

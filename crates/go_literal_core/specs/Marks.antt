@@ -3,8 +3,8 @@
 -- docs/RULES.md, "Composite literals". The Go specification, "Composite literals".
 use Rattle.std.specs.Prelude.{ℕ, ◌+◌, Bool, List, [], ◌∷◌, map, slice_get, Option, Some, None, if◌then◌else◌}
 use Rattle.std.specs.Str.{bytes_eq}
-use Rattle.go_text_core.specs.Text.{is_blank}
-use Rattle.go_text_core.specs.declared.rule.Rule.TheVariants.{F1, F5, F8}
+use Rattle.go_denote_core.specs.text_core.Text.{is_blank}
+use Rattle.go_denote_core.specs.text_core.declared.rule.Rule.TheVariants.{F1, F5, F8}
 use Rattle.go_literal_core.specs.declared.things.KeyAnswer.{KeyAnswer}
 use Rattle.go_literal_core.specs.declared.things.KeyMark.{KeyMark}
 use Rattle.go_literal_core.specs.declared.things.NamedField.{NamedField}

@@ -3,8 +3,8 @@
 --
 -- docs/RULES.md, "Composite literals".
 use Rattle.std.specs.Prelude.{◌≡◌, Bool, true, false, List, [], ◌∷◌, Option, Some, None, codes}
-use Rattle.go_text_core.specs.declared.rule.Rule.{Rule}
-use Rattle.go_text_core.specs.declared.rule.Rule.TheVariants.{F1, F2, F3, F4, F5, F6, F7}
+use Rattle.go_denote_core.specs.text_core.declared.rule.Rule.{Rule}
+use Rattle.go_denote_core.specs.text_core.declared.rule.Rule.TheVariants.{F1, F2, F3, F4, F5, F6, F7}
 use Rattle.go_denote_core.specs.operand_core.declared.types.TypeForm.TheVariants as forms
 use Rattle.go_denote_core.specs.operand_core.TypeRules.{TypeRules}
 use Rattle.go_denote_core.specs.declared.things.Outcome.TheVariants as outcomes

@@ -8,8 +8,8 @@ ghost use Rattle.go_literal_core.specs.Marks as marks;
 use crate::literals::is_struct;
 use crate::looks::Literals;
 use crate::things::{KeyAnswer, KeyMark, LiteralField, NamedField};
+use go_denote_core::text_core::Rule;
 use go_denote_core::{Outcome, Selection};
-use go_text_core::Rule;
 use std::alloc::{AllocError, Global};
 
 // A rule that a key breaks.

@@ -35,22 +35,17 @@ pub mod constant_core {
 /// What the crates above name of `go_denote_core`.
 pub mod denote_core {
     pub use go_denote_core::{
-        Answer, Builtin, Denoted, Dot, Exported, Found, Names, Outcome, Selection, Stand,
-        arguments_of, call_answer, dot_of, is_free, name_answer, selector_answer, single_rule,
+        Answer, Argument, Builtin, Denoted, Dot, Exported, Found, Names, Outcome, Selection, Stand,
+        argument_of, arguments_of, call_answer, dot_of, fits_type, is_free, is_refused,
+        name_answer, selector_answer, single_rule,
     };
 }
 
 /// What the crates above name of `go_operand_core`.
 pub mod operand_core {
     pub use go_denote_core::operand_core::{
-        Operand, TypeForm, TypeLooks, ValueType, binary, refused_binary, refused_unary, unary,
-    };
-}
-
-/// What the crates above name of `go_term_core`.
-pub mod term_core {
-    pub use go_denote_core::term_core::{
-        Field, FieldLine, LocalPlace, MemberPlace, Signature, TypeTerm,
+        Operand, TypeForm, TypeLooks, ValueType, assignable_to, basic_under, binary, default_type,
+        form_basic, increment, is_condition, refused_binary, refused_unary, unary, update,
     };
 }
 

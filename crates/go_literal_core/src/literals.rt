@@ -8,7 +8,7 @@ use crate::looks::Literals;
 use crate::things::{Keys, Mode};
 use go_denote_core::Denoted;
 use go_denote_core::operand_core::{Operand, TypeForm, ValueType, assignable_to};
-use go_text_core::Rule;
+use go_denote_core::text_core::Rule;
 use std::alloc::{AllocError, Global};
 
 /// The type of a literal, by what the name of its type denotes: none where this denotes no type.

@@ -17,5 +17,5 @@ pub struct Fault {
 
 /// What the crates above name of `go_open_core`.
 pub mod open_core {
-    pub use go_open_core::NameList;
+    pub use go_open_core::{DeclId, NameList, ShortName};
 }

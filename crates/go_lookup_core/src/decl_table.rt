@@ -5,8 +5,8 @@ ghost use Rattle.go_lookup_core.specs.Places.{spotted_meaning, decl_spot};
 ghost use Rattle.go_lookup_core.specs.mirrors.Spotting.{IsNumbered, item_shown, same_key, spot_shown};
 
 use go_decl_core::DeclRef;
+use go_decl_core::path_core::ImportPath;
 use go_fragment_core::Meaning;
-use go_path_core::ImportPath;
 use indexmap::IndexMap;
 use std::alloc::{AllocError, Global};
 use std::marker::Model;

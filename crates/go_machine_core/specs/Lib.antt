@@ -4,3 +4,4 @@ pub mod Machine
 pub mod Ends
 pub mod Laws
 pub mod mirrors
+pub mod instruction_core

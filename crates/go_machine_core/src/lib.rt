@@ -20,3 +20,8 @@ pub use frame::Frame;
 pub use laws::{budgets_agree, spent_means_all_steps, truths_are_bits};
 pub use linked::Linked;
 pub use state::End;
+
+/// What the crates above name of `go_instruction_core`.
+pub mod instruction_core {
+    pub use go_instruction_core::Instruction;
+}

@@ -6,9 +6,9 @@ use Rattle.std.specs.List.Sorted.{IsStrictlySortedBy, IsBinarySearchResult, IsSe
 use Rattle.std.specs.Map.{keys_of}
 use Rattle.std.specs.Result.{result_ok}
 use Rattle.std.proofs.lemmas.Option.{same_Some}
-use Rattle.go_graph_core.specs.Imports.{HasNoPackage, IsNumbered}
-use Rattle.go_graph_core.specs.Sources.{SourceModel}
-use Rattle.go_graph_core.specs.Workspaces.{PackageModel, IsWorkspace, by_bytes}
+use Rattle.go_whole_core.specs.graph_core.Imports.{HasNoPackage, IsNumbered}
+use Rattle.go_whole_core.specs.graph_core.Sources.{SourceModel}
+use Rattle.go_whole_core.specs.graph_core.Workspaces.{PackageModel, IsWorkspace, by_bytes}
 use Rattle.go_whole_core.specs.part_core.Parts.{PartModel}
 use Rattle.go_whole_core.proofs.Lists.{one_at}
 use Rattle.go_make_core.specs.Finding.{IsPartAt}

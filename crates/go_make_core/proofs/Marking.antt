@@ -7,8 +7,8 @@ use Rattle.std.proofs.lemmas.Bool.{cases_eq}
 use Rattle.std.proofs.lemmas.List.{length-set, length-replicate, get_or-set_same, get_or-set_other, take_more}
 use Rattle.std.proofs.lemmas.List.Elements.{All-cons, All-head, All-nil, All-push, All-tail}
 use Rattle.std.proofs.lemmas.Option.{slice_get_within, slice_get-get_or, get_or_from_slice_get}
-use Rattle.go_graph_core.proofs.OutcomeLaws.{all_at_place}
-use Rattle.go_graph_core.specs.Workspaces.{PackageModel, AreAllRead, IsWorkspace}
+use Rattle.go_whole_core.specs.graph_core.OutcomeLaws.{all_at_place}
+use Rattle.go_whole_core.specs.graph_core.Workspaces.{PackageModel, AreAllRead, IsWorkspace}
 use Rattle.go_reach_core.specs.Numbers.{Numbers}
 use Rattle.go_whole_core.specs.summary_core.Summaries.{SummaryModel, path_of}
 use Rattle.go_whole_core.specs.part_core.Inputs.{InputModel, input_with, path_in}

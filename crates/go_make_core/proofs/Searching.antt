@@ -9,8 +9,8 @@ use Rattle.std.proofs.lemmas.List.{length-map}
 use Rattle.std.proofs.lemmas.Map.Keys.{Less-from_sorted}
 use Rattle.std.proofs.lemmas.Option.{slice_get_within, slice_get-get_or, get_or_from_slice_get}
 use Rattle.go_text_core.proofs.Each.{true_or_false}
-use Rattle.go_graph_core.specs.Workspaces.{by_bytes}
-use Rattle.go_graph_core.proofs.Places.{equal_texts, rises, same_text, some_item, turned}
+use Rattle.go_whole_core.specs.graph_core.Workspaces.{by_bytes}
+use Rattle.go_whole_core.specs.graph_core.Places.{equal_texts, rises, same_text, some_item, turned}
 
 -- the order of texts
 

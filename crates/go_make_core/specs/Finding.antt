@@ -1,8 +1,8 @@
 -- The parts of packages by their paths.
 use Rattle.std.specs.Prelude.{◌≡◌, ℕ, List, Option, Some, slice_get}
-use Rattle.go_graph_core.specs.Imports.{IsNumbered}
-use Rattle.go_graph_core.specs.Sources.{SourceModel}
-use Rattle.go_graph_core.specs.Workspaces.{PackageModel}
+use Rattle.go_whole_core.specs.graph_core.Imports.{IsNumbered}
+use Rattle.go_whole_core.specs.graph_core.Sources.{SourceModel}
+use Rattle.go_whole_core.specs.graph_core.Workspaces.{PackageModel}
 use Rattle.go_whole_core.specs.part_core.Parts.{PartModel}
 
 -- the package of a path has this part

@@ -1,8 +1,8 @@
 //! What the parts of the packages of a workspace are made from.
 ghost use Rattle.std.specs.Prelude.{◌≡◌, IfOk, Some, length, map, slice_get};
 ghost use Rattle.go_tree_nodes.specs.Shapes.{file_of};
-ghost use Rattle.go_graph_core.specs.Packages.{trees_of};
-ghost use Rattle.go_graph_core.specs.Plans.{AreReached, IsAssembledAt, IsPlan};
+ghost use Rattle.go_whole_core.specs.graph_core.Packages.{trees_of};
+ghost use Rattle.go_whole_core.specs.graph_core.Plans.{AreReached, IsAssembledAt, IsPlan};
 ghost use Rattle.go_whole_core.specs.block_core.Naming.{AreInFile, AreInPackage, IsGiven, imported_in};
 ghost use Rattle.go_whole_core.specs.block_core.mirrors.Steps.{AreReady, AreReadyIn, HasExports, IsPlanned, IsReady, IsShownIn};
 ghost use Rattle.go_whole_core.specs.Inputs.{HasReached, IsInputAt};
@@ -11,11 +11,13 @@ ghost use Rattle.go_make_core.specs.Telling.{told_of};
 ghost use Rattle.go_make_core.specs.mirrors.Telling.{AreToldFor, AreToldOf};
 
 use crate::told::Told;
-use go_graph_core::{ImportAt, ImportOutcome, Package, PackageSource, Plan, Workspace, assemble};
 use go_reach_core::Reached;
 use go_text_core::add;
 use go_tree_nodes::File;
 use go_whole_core::block_core::{Imported, import_specs};
+use go_whole_core::graph_core::{
+    ImportAt, ImportOutcome, Package, PackageSource, Plan, Workspace, assemble,
+};
 use go_whole_core::part_core::{Part, PartInput};
 use go_whole_core::summary_core::{ReachedSummaries, import_view};
 use std::alloc::{AllocError, Global};

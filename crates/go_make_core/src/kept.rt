@@ -1,7 +1,7 @@
 //! Which parts are there already, where a workspace was compiled before.
 ghost use Rattle.std.specs.Prelude.{◌≡◌, ◌<◌, ◌↔◌, ◌++◌, ℕ, All, IfOk, IsTrue, MatchOption, OnOk, length, map, slice_get};
 ghost use Rattle.std.specs.Option.{option_map};
-ghost use Rattle.go_graph_core.specs.Workspaces.{AreAllRead};
+ghost use Rattle.go_whole_core.specs.graph_core.Workspaces.{AreAllRead};
 ghost use Rattle.go_whole_core.specs.table_core.Tables.{AreOthers};
 ghost use Rattle.go_whole_core.specs.summary_core.Summaries.{path_of};
 ghost use Rattle.go_whole_core.specs.part_core.Parts.{PartModel};
@@ -10,8 +10,8 @@ ghost use Rattle.go_make_core.specs.Keeping.{AreMarkedFor, WasThere, WasTold};
 ghost use Rattle.go_make_core.specs.mirrors.Marking.{AllMarked, LookAlike};
 
 use crate::search::part_of;
-use go_graph_core::Workspace;
 use go_reach_core::Reached;
+use go_whole_core::graph_core::Workspace;
 use go_whole_core::part_core::{Part, PartInput, same_imports};
 use go_whole_core::summary_core::{ReachedSummaries, Summary, View};
 use std::alloc::{AllocError, Global};

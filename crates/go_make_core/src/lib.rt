@@ -22,34 +22,34 @@ pub mod answer_core {
     pub use go_whole_core::answer_core::{Answer, HeldLocal, Site};
 }
 
-/// What the crates above name of `go_block_core`.
-pub mod block_core {
-    pub use go_whole_core::block_core::Imported;
-}
-
 /// What the crates above name of `go_denote_core`.
 pub mod denote_core {
     pub use go_whole_core::denote_core::Outcome;
 }
 
-/// What the crates above name of `go_entry_core`.
-pub mod entry_core {
-    pub use go_whole_core::entry_core::outlines;
+/// What the crates above name of `go_emit_core`.
+pub mod emit_core {
+    pub use go_whole_core::emit_core::{
+        bodies_are_between_braces, calls_name_their_own, emit, emit_all, objects_are_of_faultless,
+        one_object,
+    };
 }
 
 /// What the crates above name of `go_face_core`.
 pub mod face_core {
-    pub use go_whole_core::face_core::{Face, FaceTable, lend};
+    pub use go_whole_core::face_core::Face;
 }
 
 /// What the crates above name of `go_graph_core`.
 pub mod graph_core {
-    pub use go_graph_core::{PackageSource, SourceFile, Workspace, assemble};
+    pub use go_whole_core::graph_core::{
+        PackageSource, Plan, SourceFile, Workspace, assemble, plan_imports,
+    };
 }
 
-/// What the crates above name of `go_handle_core`.
-pub mod handle_core {
-    pub use go_whole_core::handle_core::{Decl, DeclSite, SignatureRef, TypeRef};
+/// What the crates above name of `go_operand_core`.
+pub mod operand_core {
+    pub use go_whole_core::operand_core::{Operand, ValueType};
 }
 
 /// What the crates above name of `go_package_core`.
@@ -69,19 +69,9 @@ pub mod ready_core {
     pub use go_whole_core::ready_core::{PackageAt, package_outlines};
 }
 
-/// What the crates above name of `go_select_core`.
-pub mod select_core {
-    pub use go_whole_core::select_core::EmbedPath;
-}
-
-/// What the crates above name of `go_summary_core`.
-pub mod summary_core {
-    pub use go_whole_core::summary_core::{Summary, View, view_of};
-}
-
 /// What the crates above name of `go_table_core`.
 pub mod table_core {
-    pub use go_whole_core::table_core::{DeclaredMethod, DefinedType, TypeTable};
+    pub use go_whole_core::table_core::{DefinedType, PackageTypes, StructField, TypeTable};
 }
 
 /// What the crates above name of `go_whole_core`.

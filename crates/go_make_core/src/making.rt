@@ -1,7 +1,7 @@
 //! The parts of a workspace.
 ghost use Rattle.std.specs.Prelude.{◌≡◌, ◌↔◌, ◌<◌, ◌++◌, [], false, IfOk, IsTrue, None, OnOk, Some, length, replicate, slice_set};
-ghost use Rattle.go_graph_core.specs.Plans.{AreReached, IsPlan};
-ghost use Rattle.go_graph_core.specs.Workspaces.{IsWorkspace};
+ghost use Rattle.go_whole_core.specs.graph_core.Plans.{AreReached, IsPlan};
+ghost use Rattle.go_whole_core.specs.graph_core.Workspaces.{IsWorkspace};
 ghost use Rattle.go_whole_core.specs.table_core.Tables.{AreOthers};
 ghost use Rattle.go_whole_core.specs.entry_core.Showing.{shown_in, with_shown};
 ghost use Rattle.go_whole_core.specs.face_core.Packages.{with_faces};
@@ -16,8 +16,8 @@ use crate::inputs::input_of;
 use crate::kept::{earlier_part, is_told_again, keep};
 use crate::marks::Marks;
 use crate::told::Told;
-use go_graph_core::{Plan, Workspace, plan_imports};
 use go_reach_core::Reached;
+use go_whole_core::graph_core::{Plan, Workspace, plan_imports};
 use go_whole_core::part_core::{Part, PartInput, Parts, compile_over};
 use go_whole_core::summary_core::{View, view_of};
 use go_whole_core::{check_is_local, imports_bind_theirs};

@@ -2,13 +2,13 @@
 ghost use Rattle.std.specs.Prelude.{◌≡◌, List, MatchOption, None, Some, slice_get};
 ghost use Rattle.std.specs.List.Sorted.{IsStrictlySortedBy};
 ghost use Rattle.std.specs.Map.{keys_of};
-ghost use Rattle.go_graph_core.specs.Imports.{HasNoPackage, IsNumbered};
-ghost use Rattle.go_graph_core.specs.Sources.{SourceModel};
-ghost use Rattle.go_graph_core.specs.Workspaces.{IsWorkspace, by_bytes};
+ghost use Rattle.go_whole_core.specs.graph_core.Imports.{HasNoPackage, IsNumbered};
+ghost use Rattle.go_whole_core.specs.graph_core.Sources.{SourceModel};
+ghost use Rattle.go_whole_core.specs.graph_core.Workspaces.{IsWorkspace, by_bytes};
 ghost use Rattle.go_whole_core.specs.part_core.Parts.{PartModel};
 ghost use Rattle.go_make_core.specs.Finding.{IsPartAt};
 
-use go_graph_core::{PackageSource, Workspace};
+use go_whole_core::graph_core::{PackageSource, Workspace};
 use go_whole_core::part_core::Part;
 
 /// The number of the package of a path among packages in byte order of path; `None` where there is none of that path. The time is logarithmic in

@@ -1,9 +1,9 @@
 -- Behind the end of the shorter of two lists nothing is left to be made of both.
 use Rattle.std.proofs.Common.{◌≡◌, ◌⊎◌, inl, inr, ℕ, ◌≤◌, List, [], ◌∷◌, length, map, drop, Option, refl, ap, ◌∙◌, arith}
 use Rattle.std.proofs.lemmas.List.{drop_all}
-use Rattle.go_decl_core.specs.declared.keys.DeclRef.{DeclRef}
-use Rattle.go_make_core.specs.table_core.Entries.{Entry}
-use Rattle.go_make_core.specs.face_core.Faces.{TheFace}
+use Rattle.go_term_core.specs.decl_core.declared.keys.DeclRef.{DeclRef}
+use Rattle.go_part_core.specs.table_core.Entries.{Entry}
+use Rattle.go_part_core.specs.face_core.Faces.{TheFace}
 use Rattle.go_meaning_core.specs.Scenes.{own_spotted}
 
 none_known : (es : List Entry) (path : List ℕ) (ds : List DeclRef) → own_spotted es path ds [] ≡ []

@@ -1,7 +1,7 @@
 -- What a call gives, by how many results there are.
 use Rattle.std.proofs.Common.{◌≡◌, ◌≤◌, List, [], ◌∷◌, length, Option, Some, slice_get, refl, sym, ap, arith}
 use Rattle.go_term_core.specs.Terms.{Term}
-use Rattle.go_make_core.specs.table_core.Entries.{Entry}
+use Rattle.go_part_core.specs.table_core.Entries.{Entry}
 use Rattle.go_fragment_core.specs.declared.names.Gives.TheVariants as gives
 use Rattle.go_fragment_core.specs.Fragment.{over}
 use Rattle.go_meaning_core.specs.Words.{results_give, some_word}

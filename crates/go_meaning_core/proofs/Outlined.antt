@@ -1,12 +1,12 @@
 -- What names are looked up in by the outlines of a package's files is what its trees give.
 use Rattle.std.proofs.Common.{◌≡◌, ℕ, suc, List, [], ◌∷◌, ◌++◌, map, Option, refl, ap, ◌∙◌}
-use Rattle.go_make_core.specs.graph_core.Packages.{Trees, tree_shown, trees_of}
-use Rattle.go_decl_core.specs.TopDecls.{top_decls}
-use Rattle.go_make_core.specs.entry_core.Outlines.{FileOutline, outline_of}
-use Rattle.go_make_core.specs.face_core.Faces.{TheFace}
-use Rattle.go_make_core.specs.ready_core.Packages.{trees_in}
-use Rattle.go_make_core.specs.part_core.Inputs.{InputModel, path_in}
-use Rattle.go_make_core.specs.part_core.Parts.{ContentOf}
+use Rattle.go_part_core.specs.graph_core.Packages.{Trees, tree_shown, trees_of}
+use Rattle.go_term_core.specs.decl_core.TopDecls.{top_decls}
+use Rattle.go_part_core.specs.entry_core.Outlines.{FileOutline, outline_of}
+use Rattle.go_part_core.specs.face_core.Faces.{TheFace}
+use Rattle.go_part_core.specs.ready_core.Packages.{trees_in}
+use Rattle.go_part_core.specs.Inputs.{InputModel, path_in}
+use Rattle.go_part_core.specs.Parts.{ContentOf}
 use Rattle.go_meaning_core.specs.declared.tables.Tables.{Tables}
 use Rattle.go_meaning_core.specs.Scenes.{CodeScene, decl_at, package_decl_refs}
 use Rattle.go_meaning_core.specs.mirrors.Listing.{outlines_decls}

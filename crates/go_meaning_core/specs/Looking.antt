@@ -1,7 +1,7 @@
 -- What code asks of the names of a file.
 use Rattle.std.specs.Prelude.{ℕ, List, map}
-use Rattle.go_make_core.specs.table_core.Entries.{Entry}
-use Rattle.go_make_core.specs.body_core.Notes.{TheUse, TheLocal}
+use Rattle.go_part_core.specs.table_core.Entries.{Entry}
+use Rattle.go_part_core.specs.body_core.Notes.{TheUse, TheLocal}
 use Rattle.go_fragment_core.specs.declared.names.Meaning.{Meaning}
 use Rattle.go_fragment_core.specs.Names.{CodeLooks}
 use Rattle.go_meaning_core.specs.Meanings.{local_meaning}

@@ -7,10 +7,10 @@ use Rattle.go_universe_core.specs.declared.Predeclared.TheVariants as predeclare
 use Rattle.go_term_core.specs.Terms.{Term}
 use Rattle.go_constant_core.specs.declared.values.Constant.{Constant}
 use Rattle.go_constant_core.specs.declared.values.Constant.TheVariants as values
-use Rattle.go_operand_core.specs.declared.types.Operand.{Operand}
-use Rattle.go_make_core.specs.table_core.Entries.{Entry}
-use Rattle.go_make_core.specs.face_core.declared.face.Face.TheVariants as faces
-use Rattle.go_make_core.specs.face_core.Faces.{TheFace}
+use Rattle.go_part_core.specs.operand_core.declared.types.Operand.{Operand}
+use Rattle.go_part_core.specs.table_core.Entries.{Entry}
+use Rattle.go_part_core.specs.face_core.declared.face.Face.TheVariants as faces
+use Rattle.go_part_core.specs.face_core.Faces.{TheFace}
 use Rattle.go_instruction_core.specs.declared.letters.Word.{Word}
 use Rattle.go_instruction_core.specs.declared.letters.Word.TheVariants as words
 use Rattle.go_fragment_core.specs.declared.names.ConstantWord.TheVariants as constants

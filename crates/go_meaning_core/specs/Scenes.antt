@@ -5,25 +5,25 @@ use Rattle.std.specs.Prelude.{ℕ, suc, ◌&&◌, nat_eq, List, [], ◌∷◌, �
 use Rattle.std.specs.List.{flat_map}
 use Rattle.std.specs.Map.{lookup}
 use Rattle.std.specs.Str.{bytes_eq}
-use Rattle.go_fragment_core.specs.tree_nodes.Trees.{FileTree}
-use Rattle.go_decl_core.specs.declared.keys.DeclRef.{DeclRef}
-use Rattle.go_decl_core.specs.TopDecls.{TopDeclTree, kind_of_form, top_decls}
+use Rattle.go_tree_nodes.specs.Trees.{FileTree}
+use Rattle.go_term_core.specs.decl_core.declared.keys.DeclRef.{DeclRef}
+use Rattle.go_term_core.specs.decl_core.TopDecls.{TopDeclTree, kind_of_form, top_decls}
 use Rattle.go_term_core.specs.declared.term.MemberPlace.{MemberPlace}
 use Rattle.go_term_core.specs.declared.term.MemberPlace.TheVariants as places
 use Rattle.go_term_core.specs.declared.term.LocalPlace.{LocalPlace}
-use Rattle.go_make_core.specs.table_core.Entries.{Entry, Member}
-use Rattle.go_make_core.specs.denote_core.declared.things.Outcome.{Outcome}
-use Rattle.go_make_core.specs.denote_core.declared.things.Outcome.TheVariants as outcomes
-use Rattle.go_make_core.specs.handle_core.Declarations.{Declaration, Universe, OfError, Package, InFile}
-use Rattle.go_make_core.specs.face_core.Faces.{TheFace}
-use Rattle.go_make_core.specs.face_core.Packages.{PackageFacesModel, face_in}
+use Rattle.go_part_core.specs.table_core.Entries.{Entry, Member}
+use Rattle.go_part_core.specs.denote_core.declared.things.Outcome.{Outcome}
+use Rattle.go_part_core.specs.denote_core.declared.things.Outcome.TheVariants as outcomes
+use Rattle.go_part_core.specs.handle_core.Declarations.{Declaration, Universe, OfError, Package, InFile}
+use Rattle.go_part_core.specs.face_core.Faces.{TheFace}
+use Rattle.go_part_core.specs.face_core.Packages.{PackageFacesModel, face_in}
 use Rattle.go_fragment_core.specs.declared.names.Meaning.{Meaning}
 use Rattle.go_fragment_core.specs.declared.names.Meaning.TheVariants as meanings
 use Rattle.go_meaning_core.specs.Words.{sign_gives}
 use Rattle.go_meaning_core.specs.Meanings.{some_face_meaning, universe_meaning}
 use Rattle.go_lookup_core.specs.Places.{Spotted, spotted_meaning, decl_spot}
 use Rattle.go_lookup_core.specs.Looking.{meaning_or_other}
-use Rattle.go_make_core.specs.block_core.Declarations.{decl_ref}
+use Rattle.go_part_core.specs.block_core.Declarations.{decl_ref}
 
 -- a package over what some packages tell: its path; what its declarations outside functions come to; what the methods come to of the types of these
 -- packages; these types; and what these packages show

@@ -5,12 +5,12 @@ use Rattle.std.specs.Prelude.{List, [], ◌∷◌, Option, Some, None}
 use Rattle.go_term_core.specs.declared.term.Basic.{Basic}
 use Rattle.go_term_core.specs.declared.term.Basic.TheVariants as basics
 use Rattle.go_term_core.specs.Terms.{Term, Sign}
-use Rattle.go_operand_core.specs.declared.types.TypeForm.{TypeForm}
-use Rattle.go_operand_core.specs.declared.types.TypeForm.TheVariants as forms
-use Rattle.go_operand_core.specs.declared.types.ValueType.{ValueType}
-use Rattle.go_operand_core.specs.declared.types.ValueType.TheVariants as value_types
-use Rattle.go_make_core.specs.table_core.Entries.{Entry, find_entry}
-use Rattle.go_make_core.specs.decide_core.Rules.{form_of, results_of}
+use Rattle.go_part_core.specs.operand_core.declared.types.TypeForm.{TypeForm}
+use Rattle.go_part_core.specs.operand_core.declared.types.TypeForm.TheVariants as forms
+use Rattle.go_part_core.specs.operand_core.declared.types.ValueType.{ValueType}
+use Rattle.go_part_core.specs.operand_core.declared.types.ValueType.TheVariants as value_types
+use Rattle.go_part_core.specs.table_core.Entries.{Entry, find_entry}
+use Rattle.go_part_core.specs.decide_core.Rules.{form_of, results_of}
 use Rattle.go_instruction_core.specs.declared.letters.Word.{Word}
 use Rattle.go_instruction_core.specs.declared.letters.Word.TheVariants as words
 use Rattle.go_fragment_core.specs.declared.names.Gives.{Gives}

@@ -1,17 +1,17 @@
 //! What declarations come to in code.
 ghost use Rattle.std.specs.Prelude.{◌≡◌};
 ghost use Rattle.std.specs.Option.{option_map};
-ghost use Rattle.go_make_core.specs.face_core.Faces.{operand_shown};
+ghost use Rattle.go_part_core.specs.face_core.Faces.{operand_shown};
 ghost use Rattle.go_meaning_core.specs.Meanings.{constant_meaning, constant_meaning_or, face_meaning, local_meaning, some_face_meaning, type_meaning, universe_meaning, value_meaning, variable_meaning};
 
 use crate::words::{sign_gives, some_word, value_word};
 use go_constant_core::Constant;
 use go_fragment_core::{ConstantWord, Meaning};
 use go_instruction_core::Word;
-use go_make_core::face_core::Face;
-use go_make_core::handle_core::{SignatureRef, TypeRef};
-use go_make_core::table_core::TypeTable;
-use go_operand_core::Operand;
+use go_part_core::face_core::Face;
+use go_part_core::handle_core::{SignatureRef, TypeRef};
+use go_part_core::operand_core::Operand;
+use go_part_core::table_core::TypeTable;
 use go_term_core::TypeTerm;
 use go_universe_core::Predeclared;
 

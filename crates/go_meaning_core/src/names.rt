@@ -1,24 +1,24 @@
 //! What the names of a file come to.
 ghost use Rattle.std.specs.Prelude.{◌≡◌, IfOk, map};
-ghost use Rattle.go_make_core.specs.handle_core.Declarations.{site_shown};
-ghost use Rattle.go_make_core.specs.face_core.Packages.{face_in};
-ghost use Rattle.go_make_core.specs.package_core.Checked.{local_shown};
+ghost use Rattle.go_part_core.specs.handle_core.Declarations.{site_shown};
+ghost use Rattle.go_part_core.specs.face_core.Packages.{face_in};
+ghost use Rattle.go_part_core.specs.package_core.Checked.{local_shown};
 ghost use Rattle.go_meaning_core.specs.Looking.{locals_meant, uses_meant};
 ghost use Rattle.go_meaning_core.specs.Scenes.{decl_meaning, declared_meaning, local_place_meaning, method_meaning, method_place_meaning, outcome_meaning, own_or, place_meaning, selected_meaning};
 ghost use Rattle.go_meaning_core.specs.mirrors.Naming.{code_scene_shown};
 
 use crate::meanings::{local_meaning, some_meaning, universe_meaning};
 use crate::scene::PackageNames;
-use go_decl_core::DeclRef;
 use go_fragment_core::Meaning;
 use go_lookup_core::{FileCodeNames, OffsetTable, meant};
-use go_make_core::answer_core::{Answer, HeldLocal, Site};
-use go_make_core::denote_core::Outcome;
-use go_make_core::face_core::{Face, FaceTable};
-use go_make_core::handle_core::{DeclSite, SignatureRef, TypeRef};
-use go_make_core::select_core::EmbedPath;
-use go_make_core::table_core::TypeTable;
+use go_part_core::answer_core::{Answer, HeldLocal, Site};
+use go_part_core::denote_core::Outcome;
+use go_part_core::face_core::{Face, FaceTable};
+use go_part_core::handle_core::{DeclSite, SignatureRef, TypeRef};
+use go_part_core::select_core::EmbedPath;
+use go_part_core::table_core::TypeTable;
 use go_path_core::ImportPath;
+use go_term_core::decl_core::DeclRef;
 use go_term_core::{LocalPlace, MemberPlace};
 use go_text_core::add;
 use std::alloc::{AllocError, Global};

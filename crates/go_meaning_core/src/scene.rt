@@ -1,10 +1,10 @@
 //! What the names of a package are looked up in.
 ghost use Rattle.std.specs.Prelude.{◌≡◌, ◌≤◌, ◌⊎◌, ◌++◌, IfOk, OnOk, map};
 ghost use Rattle.std.specs.Option.{option_map};
-ghost use Rattle.go_decl_core.specs.Shown.{decl_shown};
-ghost use Rattle.go_make_core.specs.entry_core.Outlines.{outline_of, outline_shown};
-ghost use Rattle.go_make_core.specs.graph_core.Packages.{trees_of};
-ghost use Rattle.go_make_core.specs.face_core.Faces.{face_shown};
+ghost use Rattle.go_term_core.specs.decl_core.Shown.{decl_shown};
+ghost use Rattle.go_part_core.specs.entry_core.Outlines.{outline_of, outline_shown};
+ghost use Rattle.go_part_core.specs.graph_core.Packages.{trees_of};
+ghost use Rattle.go_part_core.specs.face_core.Faces.{face_shown};
 ghost use Rattle.go_meaning_core.specs.Meanings.{some_face_meaning};
 ghost use Rattle.go_meaning_core.specs.Scenes.{decl_at, own_spotted};
 ghost use Rattle.go_lookup_core.specs.Places.{decl_spot};
@@ -14,12 +14,12 @@ ghost use Rattle.go_lookup_core.specs.mirrors.Spotting.{item_shown};
 
 use crate::meanings::some_meaning;
 use crate::tables::Tables;
-use go_decl_core::{DeclRef, Outline, TopDecl};
 use go_lookup_core::{DeclSpot, DeclTable, SpottedDecl};
-use go_make_core::face_core::{Face, lend};
-use go_make_core::part_core::Part;
-use go_make_core::table_core::TypeTable;
+use go_part_core::Part;
+use go_part_core::face_core::{Face, lend};
+use go_part_core::table_core::TypeTable;
 use go_path_core::ImportPath;
+use go_term_core::decl_core::{DeclRef, Outline, TopDecl};
 use go_term_core::{Signature, TypeTerm};
 use go_text_core::add;
 use std::alloc::{AllocError, Global};

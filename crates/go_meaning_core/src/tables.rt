@@ -1,17 +1,17 @@
 //! What the names of packages are looked up in, by what some packages tell.
 ghost use Rattle.std.specs.Prelude.{◌≡◌, ◌++◌, IfOk, OnOk, map};
-ghost use Rattle.go_make_core.specs.table_core.Shown.{member_shown};
-ghost use Rattle.go_make_core.specs.summary_core.Views.{types_told};
+ghost use Rattle.go_part_core.specs.table_core.Shown.{member_shown};
+ghost use Rattle.go_part_core.specs.summary_core.Views.{types_told};
 ghost use Rattle.go_meaning_core.specs.Scenes.{method_at, method_spotted, methods_spotted};
 ghost use Rattle.go_lookup_core.specs.mirrors.Spotting.{item_shown};
 
 use crate::words::sign_gives;
 use go_fragment_core::Meaning;
 use go_lookup_core::{DeclSpot, DeclTable, SpottedDecl};
-use go_make_core::face_core::FaceTable;
-use go_make_core::handle_core::SignatureRef;
-use go_make_core::summary_core::Summary;
-use go_make_core::table_core::{DeclaredMethod, DefinedType, TypeTable};
+use go_part_core::face_core::FaceTable;
+use go_part_core::handle_core::SignatureRef;
+use go_part_core::summary_core::Summary;
+use go_part_core::table_core::{DeclaredMethod, DefinedType, TypeTable};
 use go_path_core::ImportPath;
 use go_term_core::MemberPlace;
 use go_text_core::add;

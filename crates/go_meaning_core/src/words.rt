@@ -1,13 +1,13 @@
 //! What types and values are over.
 ghost use Rattle.std.specs.Prelude.{◌≡◌};
-ghost use Rattle.go_make_core.specs.face_core.Faces.{value_type_shown};
+ghost use Rattle.go_part_core.specs.face_core.Faces.{value_type_shown};
 ghost use Rattle.go_meaning_core.specs.Words.{basic_word, form_word, sign_gives, some_word, value_word, word_in};
 
 use go_fragment_core::{Gives, over};
 use go_instruction_core::Word;
-use go_make_core::handle_core::{SignatureRef, TypeRef};
-use go_make_core::table_core::TypeTable;
-use go_operand_core::{TypeForm, ValueType};
+use go_part_core::handle_core::{SignatureRef, TypeRef};
+use go_part_core::operand_core::{TypeForm, ValueType};
+use go_part_core::table_core::TypeTable;
 use go_term_core::{Basic, TypeTerm};
 
 fn basic_word(basic: Basic) -> Option<Word>

@@ -1,9 +1,9 @@
 -- The machine follows expressions.
 use Rattle.std.proofs.Common.{◌≡◌, ℕ, suc, ◌+◌, ◌≤◌, Bool, true, false, List, [], ◌∷◌, ◌++◌, length, ℤ, pos, Option, Some, None, refl, sym, ap, ◌∙◌, subst, arith, length-append, if◌then◌else◌}
 use Rattle.std.specs.Prelude.{slice_get}
-use Rattle.go_instruction_core.specs.declared.instruction.Distance.TheVariants as distances
-use Rattle.go_instruction_core.specs.declared.instruction.Instruction.{Instruction}
-use Rattle.go_instruction_core.specs.declared.instruction.Instruction.TheVariants as instructions
+use Rattle.go_machine_core.specs.instruction_core.declared.instruction.Distance.TheVariants as distances
+use Rattle.go_machine_core.specs.instruction_core.declared.instruction.Instruction.{Instruction}
+use Rattle.go_machine_core.specs.instruction_core.declared.instruction.Instruction.TheVariants as instructions
 use Rattle.go_machine_core.specs.Programs.{LinkedOf}
 use Rattle.go_machine_core.specs.Words.{bit, line_text}
 use Rattle.go_means_core.specs.Values.{Value, Truth, Applied, Yields, Panics, Undefined, unary_applied, binary_applied, line_printed}
@@ -13,20 +13,20 @@ use Rattle.go_means_core.specs.Meaning.{Panicked, Unfinished}
 use Rattle.go_means_core.proofs.Steps.{Comes, Runs, here, pushed, gave, HasAt, has_front, has_back, stays, leads_comes, after, after_step, fewer, then_runs, step_to, step_at, moved, one_runs, with_one_runs, with_truth_runs, word, words_of, left_with, cells, pushed}
 use Rattle.go_means_core.proofs.Operators.{ActsOnTwo, ActsOnOne, unary_acts, binary_acts}
 use Rattle.go_means_core.proofs.Variables.{reads, pops, pushed_behind, is_truth, line_is, Every, every_then, every_one}
-use Rattle.go_token_core.specs.declared.kind.Operator.{Operator}
-use Rattle.go_token_core.specs.declared.kind.Operator.TheVariants as operators
+use Rattle.go_tree_nodes.specs.token_core.declared.kind.Operator.{Operator}
+use Rattle.go_tree_nodes.specs.token_core.declared.kind.Operator.TheVariants as operators
 use Rattle.go_tree_nodes.specs.Trees.{ExprTree, ItemTrees, Integer, Text, Named, Paren, Unary, Binary, Select, Call, Literal, StructLiteral, NoItems, Item}
 use Rattle.go_tree_nodes.specs.Counts.{item_count}
-use Rattle.go_fragment_core.specs.declared.names.ConstantWord.{ConstantWord}
-use Rattle.go_fragment_core.specs.declared.names.ConstantWord.TheVariants as constants
-use Rattle.go_fragment_core.specs.declared.names.Gives.{Gives}
-use Rattle.go_fragment_core.specs.declared.names.Gives.TheVariants as gives
-use Rattle.go_fragment_core.specs.declared.names.Meaning.{Meaning}
-use Rattle.go_fragment_core.specs.declared.names.Meaning.TheVariants as meanings
-use Rattle.go_fragment_core.specs.Constants.{folded}
-use Rattle.go_fragment_core.specs.Fragment.{means_method}
-use Rattle.go_fragment_core.specs.Names.{slot_of, callee_meaning}
-use Rattle.go_fragment_core.specs.Operators.{unary_instruction, binary_instruction, some_instruction}
+use Rattle.go_code_core.specs.fragment_core.declared.names.ConstantWord.{ConstantWord}
+use Rattle.go_code_core.specs.fragment_core.declared.names.ConstantWord.TheVariants as constants
+use Rattle.go_code_core.specs.fragment_core.declared.names.Gives.{Gives}
+use Rattle.go_code_core.specs.fragment_core.declared.names.Gives.TheVariants as gives
+use Rattle.go_code_core.specs.fragment_core.declared.names.Meaning.{Meaning}
+use Rattle.go_code_core.specs.fragment_core.declared.names.Meaning.TheVariants as meanings
+use Rattle.go_code_core.specs.fragment_core.Constants.{folded}
+use Rattle.go_code_core.specs.fragment_core.Fragment.{means_method}
+use Rattle.go_code_core.specs.fragment_core.Names.{slot_of, callee_meaning}
+use Rattle.go_code_core.specs.fragment_core.Operators.{unary_instruction, binary_instruction, some_instruction}
 use Rattle.go_code_core.specs.Code.{word_value, push, constant_or, load, name_code, binary_code, letters, call_end, expr_code, receiver_code, items_code, frame_in}
 use Rattle.go_means_core.specs.Meaning.{SourceOf}
 use Rattle.go_means_core.specs.Whole.{linked_source}

@@ -2,7 +2,7 @@
 use Rattle.std.proofs.Common.{◌≡◌, ℕ, zero, suc, pred, ◌+◌, ◌-◌, ◌≤◌, Bool, true, false, List, [], ◌∷◌, ◌++◌, length, map, replicate, ℤ, pos, Option, Some, None, refl, sym, ap, ◌∙◌, subst, arith, length-append, nat_eq, T, eqb→eq, if◌then◌else◌}
 use Rattle.std.specs.Prelude.{option_map, slice_get}
 use Rattle.std.proofs.lemmas.Option.{slice_get-map}
-use Rattle.go_instruction_core.specs.declared.instruction.Instruction.TheVariants as instructions
+use Rattle.go_machine_core.specs.instruction_core.declared.instruction.Instruction.TheVariants as instructions
 use Rattle.go_machine_core.specs.Programs.{LinkedOf}
 use Rattle.go_machine_core.specs.Machine.{Frame, Machine, At, Over, Ended, stuck_unless, first_slots, begun, entered, left, with_first, all_begun}
 use Rattle.go_means_core.specs.Values.{Value}
@@ -11,8 +11,8 @@ use Rattle.go_means_core.specs.Whole.{body_meaning, function_meaning, calls_of, 
 use Rattle.go_means_core.proofs.Steps.{Runs, here, flow_at, HasAt, has_front, has_back, has_all, stays, leads_comes, then_runs, step_to, word, words_of, cells, left_with}
 use Rattle.go_means_core.proofs.Exprs.{Obeys}
 use Rattle.go_means_core.proofs.Stmts.{lines_runs}
-use Rattle.go_fragment_core.specs.Inside.{in_fragment}
-use Rattle.go_fragment_core.specs.Slots.{lines_slots, receiver_slots, signature_slots, slots_of}
+use Rattle.go_code_core.specs.fragment_core.Inside.{in_fragment}
+use Rattle.go_code_core.specs.fragment_core.Slots.{lines_slots, receiver_slots, signature_slots, slots_of}
 use Rattle.go_code_core.specs.Code.{no_exits, lines_code, frame_in}
 use Rattle.go_means_core.specs.Meaning.{SourceOf, locals_of, params_of}
 use Rattle.go_means_core.specs.Whole.{linked_source, code_of_program}

@@ -1,16 +1,16 @@
 -- The instruction of an operator does what the operator does.
 use Rattle.std.proofs.Common.{◌≡◌, ℕ, ◌+◌, Bool, true, false, List, ◌∷◌, ℤ, Option, Some, None, refl}
 use Rattle.std.specs.Prelude.{not}
-use Rattle.go_instruction_core.specs.declared.instruction.Instruction.{Instruction}
-use Rattle.go_instruction_core.specs.declared.instruction.Instruction.TheVariants as instructions
+use Rattle.go_machine_core.specs.instruction_core.declared.instruction.Instruction.{Instruction}
+use Rattle.go_machine_core.specs.instruction_core.declared.instruction.Instruction.TheVariants as instructions
 use Rattle.go_machine_core.specs.Programs.{LinkedOf}
 use Rattle.go_machine_core.specs.Words.{bit, inverted, sum, difference, product, quotient, remainder, equal, differs, less, at_most, greater, at_least}
 use Rattle.go_machine_core.specs.Machine.{Frame, act, resulting}
 use Rattle.go_means_core.specs.Values.{Value, Number, Truth, Applied, Yields, Panics, Undefined, of_result, number_unary, truth_unary, unary_applied, number_binary, same_truth, truth_binary, binary_applied, step_binary, update_binary}
 use Rattle.go_means_core.proofs.Steps.{here, word}
-use Rattle.go_token_core.specs.declared.kind.Operator.{Operator}
-use Rattle.go_token_core.specs.declared.kind.Operator.TheVariants as operators
-use Rattle.go_fragment_core.specs.Operators.{unary_instruction, binary_instruction, step_operator, update_operator}
+use Rattle.go_tree_nodes.specs.token_core.declared.kind.Operator.{Operator}
+use Rattle.go_tree_nodes.specs.token_core.declared.kind.Operator.TheVariants as operators
+use Rattle.go_code_core.specs.fragment_core.Operators.{unary_instruction, binary_instruction, step_operator, update_operator}
 
 -- an instruction takes two words, and gives another or panics
 abbrev pub TakesTwo : Instruction → ℤ → ℤ → Option ℤ → Type 0

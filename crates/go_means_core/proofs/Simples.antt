@@ -1,8 +1,8 @@
 -- The machine follows simple statements and declarations.
 use Rattle.std.proofs.Common.{◌≡◌, ℕ, suc, ◌+◌, ◌≤◌, Bool, true, false, List, [], ◌∷◌, ◌++◌, length, ℤ, pos, Option, Some, None, refl, sym, ap, ◌∙◌, subst, arith, length-append, if◌then◌else◌}
 use Rattle.std.specs.Prelude.{slice_get, slice_set}
-use Rattle.go_instruction_core.specs.declared.instruction.Instruction.{Instruction}
-use Rattle.go_instruction_core.specs.declared.instruction.Instruction.TheVariants as instructions
+use Rattle.go_machine_core.specs.instruction_core.declared.instruction.Instruction.{Instruction}
+use Rattle.go_machine_core.specs.instruction_core.declared.instruction.Instruction.TheVariants as instructions
 use Rattle.go_machine_core.specs.Programs.{LinkedOf}
 use Rattle.go_machine_core.specs.Words.{bit}
 use Rattle.go_machine_core.specs.Machine.{Frame as MachineFrame, Machine, stuck_unless, chosen, left}
@@ -12,24 +12,24 @@ use Rattle.go_means_core.proofs.Steps.{Comes, Runs, here, gave, flow_at, HasAt, 
 use Rattle.go_means_core.proofs.Operators.{ActsOnTwo, binary_acts, IsOf, step_is, update_is}
 use Rattle.go_means_core.proofs.Variables.{reads, writes}
 use Rattle.go_means_core.proofs.Exprs.{Obeys, push_runs, result_runs, fails_runs, expr_runs}
-use Rattle.go_token_core.specs.declared.kind.Operator.{Operator}
-use Rattle.go_instruction_core.specs.declared.letters.Word.{Word}
-use Rattle.go_instruction_core.specs.declared.letters.Word.TheVariants as words
-use Rattle.go_text_core.specs.Text.{is_blank}
-use Rattle.go_text_core.specs.declared.span.Span.{Span}
+use Rattle.go_tree_nodes.specs.token_core.declared.kind.Operator.{Operator}
+use Rattle.go_machine_core.specs.instruction_core.declared.letters.Word.{Word}
+use Rattle.go_machine_core.specs.instruction_core.declared.letters.Word.TheVariants as words
+use Rattle.go_tree_nodes.specs.text_core.Text.{is_blank}
+use Rattle.go_tree_nodes.specs.text_core.declared.span.Span.{Span}
 use Rattle.go_tree_nodes.specs.declared.names.Ident.{Ident}
 use Rattle.go_tree_nodes.specs.declared.decls.ValueKind.{ValueKind}
 use Rattle.go_tree_nodes.specs.declared.decls.ValueKind.TheVariants as value_kinds
 use Rattle.go_tree_nodes.specs.Trees.{TypeTree, Separated, One, Then, ExprTree, Integer, Text, Named, Paren, Unary, Binary, Select, Call, Literal, StructLiteral, ValueSpecTree, Specs, Single, Group, SimpleTree, Alone, Step, Assign, Update, Define}
-use Rattle.go_fragment_core.specs.declared.names.Gives.{Gives}
-use Rattle.go_fragment_core.specs.declared.names.Gives.TheVariants as gives
-use Rattle.go_fragment_core.specs.declared.names.Meaning.{Meaning}
-use Rattle.go_fragment_core.specs.declared.names.Meaning.TheVariants as meanings
-use Rattle.go_fragment_core.specs.declared.targets.Target.{Target}
-use Rattle.go_fragment_core.specs.declared.targets.Target.TheVariants as targets
-use Rattle.go_fragment_core.specs.Fragment.{expr_gives}
-use Rattle.go_fragment_core.specs.Names.{Frame, slot_of, slot_target, meant_target, slot_assigned, declared_slot}
-use Rattle.go_fragment_core.specs.Operators.{step_operator, update_operator, some_instruction}
+use Rattle.go_code_core.specs.fragment_core.declared.names.Gives.{Gives}
+use Rattle.go_code_core.specs.fragment_core.declared.names.Gives.TheVariants as gives
+use Rattle.go_code_core.specs.fragment_core.declared.names.Meaning.{Meaning}
+use Rattle.go_code_core.specs.fragment_core.declared.names.Meaning.TheVariants as meanings
+use Rattle.go_code_core.specs.fragment_core.declared.targets.Target.{Target}
+use Rattle.go_code_core.specs.fragment_core.declared.targets.Target.TheVariants as targets
+use Rattle.go_code_core.specs.fragment_core.Fragment.{expr_gives}
+use Rattle.go_code_core.specs.fragment_core.Names.{Frame, slot_of, slot_target, meant_target, slot_assigned, declared_slot}
+use Rattle.go_code_core.specs.fragment_core.Operators.{step_operator, update_operator, some_instruction}
 use Rattle.go_code_core.specs.Code.{store, dropped, updated, one_code, stored, declared_code, simple_code, some_simple_code, initial_code, init_code, value_spec_code, value_lines_code, value_specs_code, test_code, returned_code, expr_code, frame_in}
 use Rattle.go_means_core.specs.Meaning.{SourceOf}
 use Rattle.go_means_core.specs.Whole.{linked_source}

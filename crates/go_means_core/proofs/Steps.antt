@@ -1,7 +1,7 @@
 -- How the machine gets from one state to another, and how outcomes follow one another.
 use Rattle.std.proofs.Common.{◌≡◌, ℕ, suc, ◌+◌, ◌<◌, ◌≤◌, List, [], ◌∷◌, ◌++◌, length, map, Bool, ℤ, pos, Option, Some, None, refl, ap, ◌∙◌, subst, arith, append_assoc, length-append}
 use Rattle.std.specs.Prelude.{slice_get}
-use Rattle.go_instruction_core.specs.declared.instruction.Instruction.{Instruction}
+use Rattle.go_machine_core.specs.instruction_core.declared.instruction.Instruction.{Instruction}
 use Rattle.go_machine_core.specs.Programs.{LinkedOf}
 use Rattle.go_machine_core.specs.Words.{bit}
 use Rattle.go_machine_core.specs.Machine.{Frame, Panicked as PanickedRun, Spent, Machine, At, Over, act, run_from, left}

@@ -1,16 +1,16 @@
 -- The machine follows statements.
 use Rattle.std.proofs.Common.{◌≡◌, ℕ, zero, suc, pred, ◌+◌, ◌-◌, ◌≤◌, Bool, true, false, List, [], ◌∷◌, ◌++◌, length, ℤ, Option, Some, refl, ap, subst, arith, length-append, if◌then◌else◌}
 use Rattle.std.specs.Prelude.{slice_get}
-use Rattle.go_instruction_core.specs.declared.instruction.Distance.TheVariants as distances
-use Rattle.go_instruction_core.specs.declared.instruction.Instruction.{Instruction}
-use Rattle.go_instruction_core.specs.declared.instruction.Instruction.TheVariants as instructions
+use Rattle.go_machine_core.specs.instruction_core.declared.instruction.Distance.TheVariants as distances
+use Rattle.go_machine_core.specs.instruction_core.declared.instruction.Instruction.{Instruction}
+use Rattle.go_machine_core.specs.instruction_core.declared.instruction.Instruction.TheVariants as instructions
 use Rattle.go_machine_core.specs.Programs.{LinkedOf}
 use Rattle.go_machine_core.specs.Machine.{Frame, Machine, chosen}
 use Rattle.go_means_core.specs.Meaning.{Outcome, Done, Panicked, Unfinished, Nonsense, and_then, Variables, Calls, scene_of, Flow, Falls, Breaks, Continues, Returns, then_do, some_simple_meaning, init_meaning, test_meaning, loop_on, turns, stmt_meaning, branch_meaning, else_meaning, lines_meaning}
 use Rattle.go_means_core.proofs.Steps.{Comes, Leads, Runs, here, flow_at, HasAt, has_front, has_back, stays, after, after_step, fewer, then_runs, step_to, step_at, moved, flow_runs, cells}
 use Rattle.go_means_core.proofs.Exprs.{Obeys}
 use Rattle.go_means_core.proofs.Simples.{skip_runs, simple_runs, some_simple_runs, value_specs_runs, init_runs, tested, test_runs, returned_runs}
-use Rattle.go_text_core.specs.declared.span.Span.{Span}
+use Rattle.go_tree_nodes.specs.text_core.declared.span.Span.{Span}
 use Rattle.go_tree_nodes.specs.Trees.{ExprTree, SimpleTree, ForTree, StmtTree, Empty, Declare, Simple, Return, Break, Continue, Block, If, For, BranchTree, Branch, NoElse, ElseBlock, ElseIf, Lines, NoLines, Line}
 use Rattle.go_code_core.specs.Code.{head_init, head_test, head_post, some_simple_code, init_code, Exits, before, jump, test_code, loop_code, in_loop, stmt_code, branch_code, lines_code, frame_in}
 use Rattle.go_means_core.specs.Meaning.{SourceOf}

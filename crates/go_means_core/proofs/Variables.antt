@@ -1,15 +1,15 @@
 -- Variables and slots; operands and counts.
 use Rattle.std.proofs.Common.{◌≡◌, ℕ, suc, ◌+◌, Bool, true, false, List, [], ◌∷◌, ◌++◌, length, ℤ, Option, Some, None, refl, ap, ◌∙◌, subst, arith, append-nil, if◌then◌else◌, nat_eq}
 use Rattle.std.specs.Prelude.{slice_get, slice_set}
-use Rattle.go_instruction_core.specs.declared.letters.Word.{Word}
-use Rattle.go_instruction_core.specs.declared.letters.Word.TheVariants as words
+use Rattle.go_machine_core.specs.instruction_core.declared.letters.Word.{Word}
+use Rattle.go_machine_core.specs.instruction_core.declared.letters.Word.TheVariants as words
 use Rattle.go_machine_core.specs.Words.{bit, is_true, truth_text, word_text, rest_text, line_text}
 use Rattle.go_machine_core.specs.Words as machines
 use Rattle.go_machine_core.specs.Machine.{popped}
 use Rattle.go_means_core.specs.Values.{Value, Number, Truth, truth_letters, value_text, in_front, behind_space, more_printed, line_printed}
 use Rattle.go_means_core.specs.Meaning.{Outcome, Done, Panicked, Unfinished, Nonsense, and_then, with_one, Variables, value_of, behind, assigned}
 use Rattle.go_means_core.proofs.Steps.{word, words_of, cell, cells, pushed}
-use Rattle.go_fragment_core.specs.Names.{slot_from}
+use Rattle.go_code_core.specs.fragment_core.Names.{slot_from}
 
 -- the slot of a variable has its value
 pub record Reads (ds : List (Option ℕ)) (values : Variables) (n at : ℕ) (v : Value) : Type 0 where

@@ -3,3 +3,4 @@ pub mod Meaning
 pub mod Whole
 pub mod Laws
 pub mod Samples
+pub mod machine_core

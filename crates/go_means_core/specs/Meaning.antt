@@ -2,26 +2,26 @@
 --
 -- The Go specification, "Expressions", "Statements", "Calls", "Order of evaluation", "Program initialization and execution".
 use Rattle.std.specs.Prelude.{ℕ, zero, suc, Bool, true, false, List, [], ◌∷◌, ◌++◌, length, map, nat_eq, slice_get, pos, Option, Some, None, if◌then◌else◌}
-use Rattle.go_text_core.specs.Text.{is_blank}
-use Rattle.go_text_core.specs.declared.span.Span.{Span}
-use Rattle.go_token_core.specs.declared.kind.Operator.{Operator}
-use Rattle.go_token_core.specs.declared.kind.Operator.TheVariants as operators
+use Rattle.go_tree_nodes.specs.text_core.Text.{is_blank}
+use Rattle.go_tree_nodes.specs.text_core.declared.span.Span.{Span}
+use Rattle.go_tree_nodes.specs.token_core.declared.kind.Operator.{Operator}
+use Rattle.go_tree_nodes.specs.token_core.declared.kind.Operator.TheVariants as operators
 use Rattle.go_tree_nodes.specs.declared.names.Ident.{Ident}
 use Rattle.go_tree_nodes.specs.declared.decls.ValueKind.{ValueKind}
 use Rattle.go_tree_nodes.specs.declared.decls.ValueKind.TheVariants as value_kinds
-use Rattle.go_instruction_core.specs.declared.letters.Word.{Word}
-use Rattle.go_instruction_core.specs.declared.letters.Word.TheVariants as words
+use Rattle.go_machine_core.specs.instruction_core.declared.letters.Word.{Word}
+use Rattle.go_machine_core.specs.instruction_core.declared.letters.Word.TheVariants as words
 use Rattle.go_tree_nodes.specs.Trees.{TypeTree, Separated, One, Then, ExprTree, ItemTrees, Integer, Text, Named, Paren, Unary, Binary, Select, Call, Literal, StructLiteral, NoItems, Item, ValueSpecTree, Specs, Single, Group, SimpleTree, Alone, Step, Assign, Update, Define, StmtTree, Empty, Declare, Simple, Return, Break, Continue, Block, If, For, BranchTree, Branch, ElseTree, NoElse, ElseBlock, ElseIf, Lines, NoLines, Line, FuncTree}
-use Rattle.go_fragment_core.specs.declared.names.ConstantWord.{ConstantWord}
-use Rattle.go_fragment_core.specs.declared.names.ConstantWord.TheVariants as constants
-use Rattle.go_fragment_core.specs.declared.names.Gives.{Gives}
-use Rattle.go_fragment_core.specs.declared.names.Gives.TheVariants as gives
-use Rattle.go_fragment_core.specs.declared.names.Meaning.{Meaning}
-use Rattle.go_fragment_core.specs.declared.names.Meaning.TheVariants as meanings
-use Rattle.go_fragment_core.specs.Constants.{folded}
-use Rattle.go_fragment_core.specs.Fragment.{expr_gives, means_method, type_word}
-use Rattle.go_fragment_core.specs.Names.{CodeLooks, Frame, callee_meaning, frame_of}
-use Rattle.go_fragment_core.specs.Slots.{lines_slots, receiver_slots, signature_slots, slots_of}
+use Rattle.go_code_core.specs.fragment_core.declared.names.ConstantWord.{ConstantWord}
+use Rattle.go_code_core.specs.fragment_core.declared.names.ConstantWord.TheVariants as constants
+use Rattle.go_code_core.specs.fragment_core.declared.names.Gives.{Gives}
+use Rattle.go_code_core.specs.fragment_core.declared.names.Gives.TheVariants as gives
+use Rattle.go_code_core.specs.fragment_core.declared.names.Meaning.{Meaning}
+use Rattle.go_code_core.specs.fragment_core.declared.names.Meaning.TheVariants as meanings
+use Rattle.go_code_core.specs.fragment_core.Constants.{folded}
+use Rattle.go_code_core.specs.fragment_core.Fragment.{expr_gives, means_method, type_word}
+use Rattle.go_code_core.specs.fragment_core.Names.{CodeLooks, Frame, callee_meaning, frame_of}
+use Rattle.go_code_core.specs.fragment_core.Slots.{lines_slots, receiver_slots, signature_slots, slots_of}
 use Rattle.go_code_core.specs.Code.{head_init, head_post, head_test, letters}
 use Rattle.go_machine_core.specs.Programs.{callee_in}
 use Rattle.go_means_core.specs.Values.{Value, Number, Truth, Applied, Yields, Panics, Undefined, unary_applied, binary_applied, step_binary, update_binary, line_printed}

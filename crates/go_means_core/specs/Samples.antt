@@ -5,13 +5,13 @@
 --
 -- Offsets count from the start of each function's text. All other places are one `s`, whatever it is.
 use Rattle.std.specs.Prelude.{◌≡◌, ℕ, List, [], ◌∷◌, ◌++◌, Some, codes}
-use Rattle.go_text_core.specs.declared.span.Span.{Span}
-use Rattle.go_token_core.specs.declared.kind.Operator.TheVariants as operators
+use Rattle.go_tree_nodes.specs.text_core.declared.span.Span.{Span}
+use Rattle.go_tree_nodes.specs.token_core.declared.kind.Operator.TheVariants as operators
 use Rattle.go_tree_nodes.specs.Trees.{NoParams, NoResult, ExprTree, Integer, Binary, Call, NoItems, Alone, Simple, NoLines, FuncTree}
-use Rattle.go_instruction_core.specs.declared.letters.Word.TheVariants as words
-use Rattle.go_fragment_core.specs.declared.names.Gives.TheVariants as gives
-use Rattle.go_fragment_core.specs.declared.names.Meaning.TheVariants as meanings
-use Rattle.go_fragment_core.specs.Names.{CodeLooks}
+use Rattle.go_machine_core.specs.instruction_core.declared.letters.Word.TheVariants as words
+use Rattle.go_code_core.specs.fragment_core.declared.names.Gives.TheVariants as gives
+use Rattle.go_code_core.specs.fragment_core.declared.names.Meaning.TheVariants as meanings
+use Rattle.go_code_core.specs.fragment_core.Names.{CodeLooks}
 use Rattle.go_code_core.specs.Samples.{add, add_looks, argument, line, looks_by, name, paren, sample_func}
 use Rattle.go_means_core.specs.Meaning.{Done, Unfinished, SourceOf}
 use Rattle.go_means_core.specs.Whole.{meaning}

@@ -5,10 +5,10 @@
 use Rattle.std.specs.Prelude.{ℕ, Bool, true, false, not, List, [], ◌∷◌, ◌++◌, Option, Some, None, ℤ, codes, int_lt, int_le}
 use Rattle.std.specs.Fmt.{signed_decimal}
 use Rattle.std.specs.Ordering.{int_eq}
-use Rattle.go_token_core.specs.declared.kind.Operator.{Operator}
-use Rattle.go_token_core.specs.declared.kind.Operator.TheVariants as operators
-use Rattle.go_instruction_core.specs.declared.letters.Word.{Word}
-use Rattle.go_instruction_core.specs.declared.letters.Word.TheVariants as words
+use Rattle.go_tree_nodes.specs.token_core.declared.kind.Operator.{Operator}
+use Rattle.go_tree_nodes.specs.token_core.declared.kind.Operator.TheVariants as operators
+use Rattle.go_machine_core.specs.instruction_core.declared.letters.Word.{Word}
+use Rattle.go_machine_core.specs.instruction_core.declared.letters.Word.TheVariants as words
 use Rattle.go_machine_core.specs.Words.{negated, sum, difference, product, quotient, remainder}
 
 -- a value of a type over `int`, or over `bool`

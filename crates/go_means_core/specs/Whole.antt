@@ -2,8 +2,8 @@
 --
 -- The Go specification, "Calls", "Program initialization and execution".
 use Rattle.std.specs.Prelude.{ℕ, zero, suc, List, [], ◌∷◌, length, map, slice_get, if◌then◌else◌}
-use Rattle.go_fragment_core.specs.Inside.{in_fragment}
-use Rattle.go_fragment_core.specs.Slots.{slots_of}
+use Rattle.go_code_core.specs.fragment_core.Inside.{in_fragment}
+use Rattle.go_code_core.specs.fragment_core.Slots.{slots_of}
 use Rattle.go_code_core.specs.Code.{code_of, frame_in}
 use Rattle.go_machine_core.specs.Programs.{LinkedOf}
 use Rattle.go_means_core.specs.Values.{Value}

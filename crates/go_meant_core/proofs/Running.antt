@@ -1,7 +1,7 @@
 -- What `run` gives is what the machine gives of the sources' code.
 use Rattle.std.proofs.Common.{◌≡◌, ℕ, List, sym, ap, ◌∙◌}
-use Rattle.go_machine_core.specs.Machine.{Run, machine}
-use Rattle.go_link_core.specs.Linked.{ProgramOf, RunnableOf}
+use Rattle.go_means_core.specs.machine_core.Machine.{Run, machine}
+use Rattle.go_run_core.specs.link_core.Linked.{ProgramOf, RunnableOf}
 use Rattle.go_run_core.specs.Laws.{AnswersAreOne}
 use Rattle.go_run_core.specs.Runs.{Gives, comes_to}
 use Rattle.go_means_core.specs.Meaning.{SourceOf}

@@ -1,7 +1,7 @@
 -- The law of runs of sources.
 use Rattle.std.specs.Prelude.{◌≡◌, ℕ, ◌≤◌, List}
-use Rattle.go_machine_core.specs.Machine.{Ended, Panicked as PanickedRun, Spent}
-use Rattle.go_link_core.specs.Linked.{IsRunnable, ProgramOf, RunnableOf}
+use Rattle.go_means_core.specs.machine_core.Machine.{Ended, Panicked as PanickedRun, Spent}
+use Rattle.go_run_core.specs.link_core.Linked.{IsRunnable, ProgramOf, RunnableOf}
 use Rattle.go_run_core.specs.Runs.{GetsStuck, Gives}
 use Rattle.go_means_core.specs.Meaning.{Done, Panicked, Unfinished, SourceOf}
 use Rattle.go_means_core.specs.Whole.{code_of_program, meaning}

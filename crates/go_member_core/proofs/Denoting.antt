@@ -11,18 +11,18 @@ use Rattle.go_text_core.specs.declared.rule.Rule.TheVariants.{C1, S8, X1}
 use Rattle.go_tree_nodes.specs.declared.usage.Usage.TheVariants as usages
 use Rattle.go_term_core.specs.Terms.{Term, Sign}
 use Rattle.go_term_core.proofs.Members.{Rises, contained_in, in_contained, in_map, map_in, pairs_rise, rising_pairs}
-use Rattle.go_table_core.specs.Entries.{Entry, EntryLook, find_entry}
-use Rattle.go_level_core.specs.embed_core.Owners.{Found, AFieldOf, AMethodOf, AnInterfaces, TheErrorMethod}
-use Rattle.go_level_core.specs.embed_core.OwnersShown.{found_shown}
-use Rattle.go_level_core.specs.declared.search.Selected.{Selected}
-use Rattle.go_level_core.specs.Selectors.{IsDenoted, IsSelectorAnswer}
-use Rattle.go_select_core.specs.Selections.{IsListing}
-use Rattle.go_denote_core.specs.declared.things.Answer.{Answer}
-use Rattle.go_denote_core.specs.declared.things.Outcome.{Outcome}
-use Rattle.go_denote_core.specs.declared.things.Outcome.TheVariants as outcomes
-use Rattle.go_denote_core.specs.declared.things.Selection.{Selection}
-use Rattle.go_denote_core.specs.Answers.{refused}
-use Rattle.go_denote_core.specs.Selectors.{member_answer, method_answer}
+use Rattle.go_handle_core.specs.table_core.Entries.{Entry, EntryLook, find_entry}
+use Rattle.go_handle_core.specs.embed_core.Owners.{Found, AFieldOf, AMethodOf, AnInterfaces, TheErrorMethod}
+use Rattle.go_handle_core.specs.embed_core.OwnersShown.{found_shown}
+use Rattle.go_handle_core.specs.level_core.declared.search.Selected.{Selected}
+use Rattle.go_handle_core.specs.level_core.Selectors.{IsDenoted, IsSelectorAnswer}
+use Rattle.go_handle_core.specs.select_core.Selections.{IsListing}
+use Rattle.go_handle_core.specs.denote_core.declared.things.Answer.{Answer}
+use Rattle.go_handle_core.specs.denote_core.declared.things.Outcome.{Outcome}
+use Rattle.go_handle_core.specs.denote_core.declared.things.Outcome.TheVariants as outcomes
+use Rattle.go_handle_core.specs.denote_core.declared.things.Selection.{Selection}
+use Rattle.go_handle_core.specs.denote_core.Answers.{refused}
+use Rattle.go_handle_core.specs.denote_core.Selectors.{member_answer, method_answer}
 use Rattle.go_handle_core.specs.decide_core.Rules.{selection_of}
 use Rattle.go_handle_core.specs.decide_core.Selecting.{Choice, choice, selected_of}
 use Rattle.go_handle_core.specs.decide_core.Choosing.{denoted_decided}

@@ -8,23 +8,23 @@ use Rattle.std.specs.Ordering.{nat_cmp}
 use Rattle.go_text_core.specs.declared.name.Name.{Name}
 use Rattle.go_tree_nodes.specs.declared.usage.Usage.{Usage}
 use Rattle.go_tree_nodes.specs.declared.usage.Usage.TheVariants as usages
-use Rattle.go_decl_core.specs.declared.keys.DeclRef.{DeclRef}
+use Rattle.go_term_core.specs.decl_core.declared.keys.DeclRef.{DeclRef}
 use Rattle.go_term_core.specs.declared.term.MemberPlace.{MemberPlace}
 use Rattle.go_term_core.specs.declared.term.MemberPlace.TheVariants as places
 use Rattle.go_term_core.specs.Terms.{Term, Sign}
-use Rattle.go_table_core.specs.Entries.{Entry, EntryLook, find_entry}
-use Rattle.go_level_core.specs.embed_core.Owners.{Found, AFieldOf, AMethodOf, AnInterfaces, TheErrorMethod}
-use Rattle.go_level_core.specs.embed_core.OwnersShown.{found_shown}
-use Rattle.go_level_core.specs.declared.search.Selected.{Selected}
-use Rattle.go_level_core.specs.Selectors.{IsDenoted, Searched, Refused, In, FieldsIn, searched}
-use Rattle.go_select_core.specs.PathNames.{names_along}
-use Rattle.go_denote_core.specs.operand_core.declared.types.Operand.{Operand}
-use Rattle.go_denote_core.specs.operand_core.declared.types.ValueType.TheVariants as value_types
-use Rattle.go_denote_core.specs.declared.things.Dot.TheVariants as dots
-use Rattle.go_denote_core.specs.declared.things.Outcome.{Outcome}
-use Rattle.go_denote_core.specs.declared.things.Outcome.TheVariants as outcomes
-use Rattle.go_denote_core.specs.Look.{Look}
-use Rattle.go_denote_core.specs.Selectors.{selector_answer}
+use Rattle.go_handle_core.specs.table_core.Entries.{Entry, EntryLook, find_entry}
+use Rattle.go_handle_core.specs.embed_core.Owners.{Found, AFieldOf, AMethodOf, AnInterfaces, TheErrorMethod}
+use Rattle.go_handle_core.specs.embed_core.OwnersShown.{found_shown}
+use Rattle.go_handle_core.specs.level_core.declared.search.Selected.{Selected}
+use Rattle.go_handle_core.specs.level_core.Selectors.{IsDenoted, Searched, Refused, In, FieldsIn, searched}
+use Rattle.go_handle_core.specs.select_core.PathNames.{names_along}
+use Rattle.go_handle_core.specs.operand_core.declared.types.Operand.{Operand}
+use Rattle.go_handle_core.specs.operand_core.declared.types.ValueType.TheVariants as value_types
+use Rattle.go_handle_core.specs.denote_core.declared.things.Dot.TheVariants as dots
+use Rattle.go_handle_core.specs.denote_core.declared.things.Outcome.{Outcome}
+use Rattle.go_handle_core.specs.denote_core.declared.things.Outcome.TheVariants as outcomes
+use Rattle.go_handle_core.specs.denote_core.Look.{Look}
+use Rattle.go_handle_core.specs.denote_core.Selectors.{selector_answer}
 use Rattle.go_handle_core.specs.decide_core.Rules.{term_rules}
 use Rattle.go_handle_core.specs.Declarations.{Declaration, declaration_found}
 use Rattle.go_handle_core.specs.Names.{selection_in}

@@ -6,3 +6,13 @@
 mod listing;
 
 pub use listing::{MemberKind, MethodPlace, TypeMember, members_of};
+
+/// What the crates above name of `go_handle_core`.
+pub mod handle_core {
+    pub use go_handle_core::{SignatureRef, TypeRef};
+}
+
+/// What the crates above name of `go_table_core`.
+pub mod table_core {
+    pub use go_handle_core::table_core::TypeTable;
+}

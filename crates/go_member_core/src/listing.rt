@@ -1,16 +1,16 @@
 //! The members of a type.
 ghost use Rattle.std.specs.Prelude.{◌≡◌, IfOk, map, option_map};
-ghost use Rattle.go_table_core.specs.Entries.{find_entry};
+ghost use Rattle.go_handle_core.specs.table_core.Entries.{find_entry};
 ghost use Rattle.go_term_core.specs.Shapes.{shape};
-ghost use Rattle.go_level_core.specs.embed_core.OwnersShown.{found_shown};
+ghost use Rattle.go_handle_core.specs.embed_core.OwnersShown.{found_shown};
 ghost use Rattle.go_member_core.specs.Members.{AreMembers, declared_place, kind_found, member_with, method_found, place_shown, start_of, type_member_shown};
 
-use go_decl_core::DeclRef;
-use go_level_core::{Operand, behind};
-use go_path_core::ImportPath;
-use go_select_core::type_core::{TypeTable, TypeTerm};
-use go_select_core::{Member, Selected, path_names, selectable};
+use go_handle_core::level_core::{Operand, behind};
+use go_handle_core::select_core::{Member, Selected, path_names, selectable};
+use go_handle_core::type_core::{TypeTable, TypeTerm};
 use go_term_core::MemberPlace;
+use go_term_core::decl_core::DeclRef;
+use go_term_core::path_core::ImportPath;
 use go_text_core::{Name, add};
 use std::alloc::{AllocError, Global};
 

@@ -1,7 +1,7 @@
 -- What is answered to the question whether a type implements an interface type.
 use Rattle.std.proofs.Common.{◌≡◌, ◌↔◌, ℕ, Bool, true, false, ◌==◌, List, [], ◌∷◌, ◌++◌, length, get_or, Option, Some, None, Result, Ok, Err, IsTrue, refl, sym, ap, ◌∙◌, subst, arith, ◌⊎◌, inl, inr}
 use Rattle.std.specs.Prelude.{codes, slice_get}
-use Rattle.go_select_core.specs.term_core.declared.term.Basic.TheVariants as basics
+use Rattle.go_term_core.specs.declared.term.Basic.TheVariants as basics
 use Rattle.unicode.specs.GeneralCategory.{general_category}
 use Rattle.unicode.specs.Rows.{value_in}
 use Rattle.ucd_category.specs.GeneralCategoryRows.{general_category_rows}
@@ -10,11 +10,11 @@ use Rattle.std.specs.declared.cmp.Ordering.TheVariants.{Less}
 use Rattle.std.specs.Str.{chars}
 use Rattle.go_text_core.specs.Text.{uppercase, exported, SameId}
 use Rattle.go_text_core.specs.declared.rule.Rule.{Rule}
-use Rattle.go_select_core.specs.term_core.declared.term.Method.{Method}
-use Rattle.go_select_core.specs.term_core.declared.term.MemberPlace.{MemberPlace}
-use Rattle.go_select_core.specs.term_core.Terms.{Term, NoType, Predeclared, ErrorType, Defined, PointerTo, StructOf, InterfaceOf, Methods, Sign, SignOf, Terms, NoTerm, ATerm, term_list, sign_params, sign_results}
-use Rattle.go_select_core.specs.term_core.Identity.{IsMethod, SameSign, SameTerms, Identical}
-use Rattle.go_select_core.specs.term_core.Shapes.{shape, sign_of, method_shapes}
+use Rattle.go_term_core.specs.declared.term.Method.{Method}
+use Rattle.go_term_core.specs.declared.term.MemberPlace.{MemberPlace}
+use Rattle.go_term_core.specs.Terms.{Term, NoType, Predeclared, ErrorType, Defined, PointerTo, StructOf, InterfaceOf, Methods, Sign, SignOf, Terms, NoTerm, ATerm, term_list, sign_params, sign_results}
+use Rattle.go_term_core.specs.Identity.{IsMethod, SameSign, SameTerms, Identical}
+use Rattle.go_term_core.specs.Shapes.{shape, sign_of, method_shapes}
 use Rattle.go_select_core.specs.table_core.Entries.{EntryLook, underlying_in}
 use Rattle.go_select_core.specs.embed_core.OwnersShown.{found_shown}
 use Rattle.go_select_core.specs.level_core.declared.search.Selected.{Selected}

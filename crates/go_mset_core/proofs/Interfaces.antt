@@ -2,11 +2,11 @@
 use Rattle.std.proofs.Common.{◌≡◌, ℕ, zero, suc, Bool, false, List, [], ◌∷◌, ◌++◌, Contains, Some, refl, sym, ap, ◌∙◌, subst, arith, inl, inr}
 use Rattle.std.specs.Prelude.{slice_get, codes}
 use Rattle.go_text_core.specs.Text.{SameId, is_blank}
-use Rattle.go_select_core.specs.term_core.declared.term.MemberPlace.{MemberPlace}
-use Rattle.go_select_core.specs.term_core.Terms.{Term, NoType, Predeclared, ErrorType, Defined, PointerTo, StructOf, InterfaceOf, Methods, NoMethod, AMethod, Sign, SignOf, Terms, NoTerm, ATerm}
-use Rattle.go_select_core.specs.term_core.Identity.{IsMethod, SameSign, SameTerms}
-use Rattle.go_select_core.specs.term_core.Laws.{HasNone}
-use Rattle.go_select_core.specs.term_core.Meanings.{itself, onward}
+use Rattle.go_term_core.specs.declared.term.MemberPlace.{MemberPlace}
+use Rattle.go_term_core.specs.Terms.{Term, NoType, Predeclared, ErrorType, Defined, PointerTo, StructOf, InterfaceOf, Methods, NoMethod, AMethod, Sign, SignOf, Terms, NoTerm, ATerm}
+use Rattle.go_term_core.specs.Identity.{IsMethod, SameSign, SameTerms}
+use Rattle.go_term_core.specs.Laws.{HasNone}
+use Rattle.go_term_core.proofs.Meanings.{itself, onward}
 use Rattle.go_select_core.specs.table_core.Assign.{IsInterface}
 use Rattle.go_select_core.specs.table_core.Entries.{EntryLook, underlying_in}
 use Rattle.go_select_core.specs.embed_core.Owners.{OwnerModel, EmbeddedEdge, Found, AFieldOf, AMethodOf, AnInterfaces, TheErrorMethod, Named, owner_in, path_of_term, term_embedded, declared_found, methods_found, term_found, members_of}

@@ -1,7 +1,7 @@
 -- Types that have no methods.
 use Rattle.std.proofs.Common.{◌≡◌, List, ℕ, true, subst}
 use Rattle.go_select_core.specs.decl_core.declared.keys.DeclKey.{DeclKey}
-use Rattle.go_select_core.specs.term_core.Terms.{Term, NoType, Predeclared, ErrorType, Defined, PointerTo, StructOf, InterfaceOf}
+use Rattle.go_term_core.specs.Terms.{Term, NoType, Predeclared, ErrorType, Defined, PointerTo, StructOf, InterfaceOf}
 use Rattle.go_select_core.specs.settle_core.declared.kind.Kind.{Kind}
 use Rattle.go_select_core.specs.settle_core.declared.kind.Kind.TheVariants as kinds
 use Rattle.go_select_core.specs.table_core.Entries.{EntryLook, underlying_in}

@@ -1,6 +1,6 @@
 -- Method sets depend on what a type reaches alone.
 use Rattle.std.proofs.Common.{ℕ, List, Result, Ok, Err, sym, subst}
-use Rattle.go_select_core.specs.term_core.Terms.{Term, Sign}
+use Rattle.go_term_core.specs.Terms.{Term, Sign}
 use Rattle.go_select_core.specs.table_core.Entries.{EntryLook, underlying_in}
 use Rattle.go_select_core.specs.table_core.Laws.{AgreeFrom}
 use Rattle.go_select_core.specs.table_core.Meanings.{underlying_local}

@@ -2,9 +2,9 @@
 use Rattle.std.proofs.Common.{◌≡◌, ◌↔◌, ℕ, Bool, true, false, ◌||◌, List, [], ◌∷◌, ◌++◌, Contains, Result, Ok, Err, IfOk, OnOk, IsTrue, append-nil, refl, sym, ap, ◌∙◌, subst, ◌⊎◌, inl, inr, if◌then◌else◌}
 use Rattle.std.specs.Prelude.{map}
 use Rattle.go_text_core.specs.Text.{SameId}
-use Rattle.go_select_core.specs.term_core.Terms.{Term}
-use Rattle.go_select_core.specs.term_core.Meanings.{id_back}
-use Rattle.go_select_core.specs.term_core.Members.{In, Rises, contained_in, in_contained, in_map, map_in, pairs_rise, rising_pairs, rising_same}
+use Rattle.go_term_core.specs.Terms.{Term}
+use Rattle.go_term_core.proofs.Meanings.{id_back}
+use Rattle.go_term_core.proofs.Members.{In, Rises, contained_in, in_contained, in_map, map_in, pairs_rise, rising_pairs, rising_same}
 use Rattle.go_select_core.specs.table_core.Entries.{EntryLook}
 use Rattle.go_select_core.specs.embed_core.declared.member.Member.{Member}
 use Rattle.go_select_core.specs.embed_core.declared.member.Member.TheVariants as members

@@ -1,7 +1,7 @@
 -- Methods of a type itself, and methods that embedded fields promote.
 use Rattle.std.proofs.Common.{◌≡◌, ◌↔◌, ℕ, ◌<◌, Bool, true, false, ◌||◌, List, [], ◌∷◌, length, refl, sym, ap, ◌∙◌, subst, arith, ◌⊎◌, inl, inr}
 use Rattle.go_text_core.specs.Text.{is_blank}
-use Rattle.go_select_core.specs.term_core.Terms.{Term, PointerTo}
+use Rattle.go_term_core.specs.Terms.{Term, PointerTo}
 use Rattle.go_select_core.specs.table_core.Entries.{EntryLook}
 use Rattle.go_select_core.specs.embed_core.Owners.{Found, AFieldOf, AMethodOf, AnInterfaces, TheErrorMethod}
 use Rattle.go_select_core.specs.level_core.Paths.{Step, FieldsLead, IsSelected}

@@ -2,8 +2,8 @@
 use Rattle.std.proofs.Common.{◌≡◌, ◌↔◌, ℕ, Bool, true, false, ◌||◌, List, refl, sym, ap, ◌∙◌, subst, inl, inr}
 use Rattle.go_text_core.specs.Text.{SameId, is_blank}
 use Rattle.go_text_core.specs.declared.rule.Rule.{Rule}
-use Rattle.go_select_core.specs.term_core.Terms.{Term, NoType, Predeclared, ErrorType, Defined, PointerTo, StructOf, InterfaceOf, Sign}
-use Rattle.go_select_core.specs.term_core.Meanings.{id_back, id_on}
+use Rattle.go_term_core.specs.Terms.{Term, NoType, Predeclared, ErrorType, Defined, PointerTo, StructOf, InterfaceOf, Sign}
+use Rattle.go_term_core.proofs.Meanings.{id_back, id_on}
 use Rattle.go_select_core.specs.settle_core.declared.kind.Kind.TheVariants as kinds
 use Rattle.go_select_core.specs.settle_core.Settled.{kind_of_term}
 use Rattle.go_select_core.specs.table_core.Entries.{EntryLook, underlying_in}

@@ -3,10 +3,10 @@ use Rattle.std.specs.Prelude.{◌≡◌, ℕ, List, [], Result, Ok, Err, codes}
 use Rattle.std.specs.Ordering.{nat_cmp}
 use Rattle.std.specs.Cmp.Lexicographic.{slice_cmp}
 use Rattle.std.specs.declared.cmp.Ordering.TheVariants.{Less}
-use Rattle.go_select_core.specs.term_core.declared.term.Basic.TheVariants as basics
-use Rattle.go_select_core.specs.term_core.declared.term.MemberPlace.{MemberPlace}
-use Rattle.go_select_core.specs.term_core.Terms.{Term, Predeclared, ErrorType, InterfaceOf, Sign, SignOf, NoTerm, ATerm}
-use Rattle.go_select_core.specs.term_core.Identity.{IsMethod, SameSign}
+use Rattle.go_term_core.specs.declared.term.Basic.TheVariants as basics
+use Rattle.go_term_core.specs.declared.term.MemberPlace.{MemberPlace}
+use Rattle.go_term_core.specs.Terms.{Term, Predeclared, ErrorType, InterfaceOf, Sign, SignOf, NoTerm, ATerm}
+use Rattle.go_term_core.specs.Identity.{IsMethod, SameSign}
 use Rattle.go_select_core.specs.table_core.Entries.{EntryLook, underlying_in}
 use Rattle.go_select_core.specs.embed_core.Owners.{Found, AFieldOf, AMethodOf, AnInterfaces, TheErrorMethod}
 use Rattle.go_mset_core.specs.declared.interface.Missing.{Missing}

@@ -3,9 +3,9 @@ use Rattle.std.specs.Prelude.{◌≡◌, ◌↔◌, ℕ, Bool, true, false, List
 use Rattle.go_text_core.specs.Text.{SameId, is_blank}
 use Rattle.go_text_core.specs.declared.rule.Rule.{Rule}
 use Rattle.go_select_core.specs.decl_core.declared.keys.DeclKey.{DeclKey}
-use Rattle.go_select_core.specs.term_core.declared.term.MemberPlace.{MemberPlace}
-use Rattle.go_select_core.specs.term_core.Terms.{Term, NoType, Defined, PointerTo, InterfaceOf, Methods, NoMethod, AMethod, Sign}
-use Rattle.go_select_core.specs.term_core.Laws.{HasNone}
+use Rattle.go_term_core.specs.declared.term.MemberPlace.{MemberPlace}
+use Rattle.go_term_core.specs.Terms.{Term, NoType, Defined, PointerTo, InterfaceOf, Methods, NoMethod, AMethod, Sign}
+use Rattle.go_term_core.specs.Laws.{HasNone}
 use Rattle.go_select_core.specs.settle_core.declared.kind.Kind.TheVariants as kinds
 use Rattle.go_select_core.specs.table_core.Assign.{IsInterface}
 use Rattle.go_select_core.specs.table_core.Entries.{EntryLook, underlying_in, declared_methods}

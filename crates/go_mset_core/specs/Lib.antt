@@ -9,3 +9,4 @@ pub mod level_core
 pub mod select_core
 pub mod settle_core
 pub mod table_core
+pub mod type_core

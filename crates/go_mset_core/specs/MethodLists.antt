@@ -1,7 +1,7 @@
 -- The methods of a method set, as a list.
 use Rattle.std.specs.Prelude.{◌≡◌, ℕ, List, Contains, AllPairs}
 use Rattle.go_text_core.specs.Text.{SameId}
-use Rattle.go_select_core.specs.term_core.Terms.{Term}
+use Rattle.go_term_core.specs.Terms.{Term}
 use Rattle.go_select_core.specs.table_core.Entries.{EntryLook}
 use Rattle.go_select_core.specs.embed_core.Owners.{Found}
 use Rattle.go_select_core.specs.embed_core.OwnersShown.{found_shown, name_shown, member_package_shown}

@@ -1,7 +1,7 @@
 -- Which methods a type has: the Go specification, "Method sets", "Struct types".
 use Rattle.std.specs.Prelude.{◌≡◌, ℕ, Bool, true, false, ◌||◌, List, ⊤}
 use Rattle.go_text_core.specs.Text.{is_blank}
-use Rattle.go_select_core.specs.term_core.Terms.{Term}
+use Rattle.go_term_core.specs.Terms.{Term}
 use Rattle.go_select_core.specs.table_core.Entries.{EntryLook}
 use Rattle.go_select_core.specs.embed_core.Owners.{Found, AFieldOf, AMethodOf, AnInterfaces, TheErrorMethod}
 use Rattle.go_select_core.specs.level_core.Paths.{IsSelected}

@@ -4,3 +4,4 @@ pub use Rattle.go_select_core.specs.embed_core.Ids as Ids
 pub use Rattle.go_select_core.specs.embed_core.Owners as Owners
 pub use Rattle.go_select_core.specs.embed_core.OwnersShown as OwnersShown
 pub use Rattle.go_select_core.specs.embed_core.Telling as Telling
+pub use Rattle.go_select_core.specs.embed_core.declared as declared

@@ -12,3 +12,4 @@ pub use Rattle.go_select_core.specs.table_core.Shown as Shown
 pub use Rattle.go_select_core.specs.table_core.Tables as Tables
 pub use Rattle.go_select_core.specs.table_core.Underlying as Underlying
 pub use Rattle.go_select_core.specs.table_core.codes as codes
+pub use Rattle.go_select_core.specs.table_core.declared as declared

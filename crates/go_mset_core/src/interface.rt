@@ -1,8 +1,8 @@
 //! Which types implement an interface type.
 ghost use Rattle.std.specs.Prelude.{◌≡◌, ◌↔◌, IfOk, IsTrue};
 ghost use Rattle.go_select_core.specs.table_core.Entries.{find_entry};
-ghost use Rattle.go_select_core.specs.term_core.Terms.{PointerTo, ErrorType, InterfaceOf};
-ghost use Rattle.go_select_core.specs.term_core.Shapes.{shape, sign_of, method_shapes};
+ghost use Rattle.go_term_core.specs.Terms.{PointerTo, ErrorType, InterfaceOf};
+ghost use Rattle.go_term_core.specs.Shapes.{shape, sign_of, method_shapes};
 ghost use Rattle.go_select_core.specs.level_core.Selectors.{IsSelectorAnswer};
 ghost use Rattle.go_mset_core.specs.Implementing.{HasMethod, IsImplementsAnswer, IsImplementing};
 ghost use Rattle.go_mset_core.specs.mirrors.Asking.{holder_shown, sign_wanted, text_shown, IsBefore, IsNextMissing, IsLeastMissing};

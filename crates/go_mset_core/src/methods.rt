@@ -1,7 +1,7 @@
 //! The method set of a type.
 ghost use Rattle.std.specs.Prelude.{◌≡◌, ◌++◌, ◌∷◌, [], IfOk, OnOk};
 ghost use Rattle.go_select_core.specs.table_core.Entries.{find_entry};
-ghost use Rattle.go_select_core.specs.term_core.Shapes.{shape};
+ghost use Rattle.go_term_core.specs.Shapes.{shape};
 ghost use Rattle.go_mset_core.specs.MethodLists.{IsMethodSet};
 ghost use Rattle.go_mset_core.specs.mirrors.Keeping.{kept};
 

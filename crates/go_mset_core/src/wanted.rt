@@ -1,9 +1,9 @@
 //! The methods that an interface type asks for.
 ghost use Rattle.std.specs.Prelude.{◌≡◌, ◌↔◌, ◌∷◌, [], IsTrue};
-ghost use Rattle.go_select_core.specs.term_core.Identity.{SameSign};
-ghost use Rattle.go_select_core.specs.term_core.Shapes.{shape, sign_of};
-ghost use Rattle.go_select_core.specs.term_core.Terms.{Predeclared, sign_params, sign_results};
-ghost use Rattle.go_select_core.specs.term_core.declared.term.Basic.TheVariants as basics;
+ghost use Rattle.go_term_core.specs.Identity.{SameSign};
+ghost use Rattle.go_term_core.specs.Shapes.{shape, sign_of};
+ghost use Rattle.go_term_core.specs.Terms.{Predeclared, sign_params, sign_results};
+ghost use Rattle.go_term_core.specs.declared.term.Basic.TheVariants as basics;
 ghost use Rattle.go_select_core.specs.embed_core.OwnersShown.{found_shown};
 ghost use Rattle.go_mset_core.specs.MethodSets.{IsCallable};
 ghost use Rattle.go_mset_core.specs.Implementing.{IsSigned, error_sign};

@@ -5,13 +5,13 @@ use Rattle.std.specs.Prelude.{if◌then◌else◌, slice_get}
 use Rattle.std.specs.Str.{bytes_eq}
 use Rattle.std.proofs.lemmas.Slice.Eq.{bytes_eq-Decides}
 use Rattle.std.proofs.lemmas.List.{append_assoc, append-nil, length-append, get_or_append_left, get_or_push}
-use Rattle.go_text_core.specs.Text.{is_blank}
+use Rattle.go_tree_nodes.specs.text_core.Text.{is_blank}
 use Rattle.go_tree_nodes.specs.declared.names.Ident.{Ident}
 use Rattle.go_tree_nodes.specs.Terminals.{Terminal, TerminalKind, Spelled, Number, Quoted, Word, Mark, Stray}
-use Rattle.go_open_core.specs.declared.DeclId.{DeclId}
-use Rattle.go_open_core.specs.Blocks.{in_block, or_else, found_in, innermost, with_innermost, block_after, short_name, short_names, short_names_behind, is_short_new}
-use Rattle.go_open_core.specs.Blocks as open_blocks
-use Rattle.go_open_core.specs.declared.short.ShortName.TheVariants.{New, Old, Blank, Repeated}
+use Rattle.go_walk_core.specs.open_core.declared.DeclId.{DeclId}
+use Rattle.go_walk_core.specs.open_core.Blocks.{in_block, or_else, found_in, innermost, with_innermost, block_after, short_name, short_names, short_names_behind, is_short_new}
+use Rattle.go_walk_core.specs.open_core.Blocks as open_blocks
+use Rattle.go_walk_core.specs.open_core.declared.short.ShortName.TheVariants.{New, Old, Blank, Repeated}
 use Rattle.go_scope_core.specs.block_core.Blocks.{BlocksModel}
 use Rattle.go_scope_core.specs.Models.{scopes_model}
 use Rattle.go_walk_core.specs.local_core.Steps.{Steps, Done, Check, Declare, Inner, spell_piece}

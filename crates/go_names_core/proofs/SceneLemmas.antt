@@ -1,7 +1,7 @@
 -- What a scope finds where a piece is checked, and what the intervals give there.
 use Rattle.std.proofs.Common.{◌≡◌, ℕ, List, [], ◌∷◌, ◌++◌, map, Option, refl, sym, ap, ◌∙◌}
 use Rattle.std.proofs.lemmas.List.{map-append}
-use Rattle.go_text_core.specs.declared.span.Span.{Span}
+use Rattle.go_tree_nodes.specs.text_core.declared.span.Span.{Span}
 use Rattle.go_tree_nodes.specs.Terminals.{Terminal, TerminalKind, Spelled, Number, Quoted, Word, Mark, Stray}
 use Rattle.go_scope_core.specs.Models.{scopes_model}
 use Rattle.go_walk_core.specs.local_core.Steps.{Piece, Steps, Done, Check, Declare, Inner, spell_piece}

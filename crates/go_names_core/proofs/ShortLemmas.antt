@@ -1,12 +1,12 @@
 -- What names are in a block, one after the other.
 use Rattle.std.proofs.Common.{◌≡◌, ℕ, ◌+◌, ◌<◌, ◌&&◌, not, List, [], ◌∷◌, ◌++◌, map, length, take, get_or, is_some, if◌then◌else◌, Bor, sym, ap, ◌∙◌, append_assoc}
 use Rattle.std.proofs.lemmas.List.{append-nil, map-append, map_more}
-use Rattle.go_text_core.specs.Text.{is_blank}
+use Rattle.go_tree_nodes.specs.text_core.Text.{is_blank}
 use Rattle.go_tree_nodes.specs.declared.names.Ident.{Ident}
-use Rattle.go_open_core.specs.Blocks.{in_block, list_name, list_names, short_name, short_names, short_names_behind}
-use Rattle.go_open_core.specs.declared.short.ShortName.{ShortName}
-use Rattle.go_open_core.specs.declared.short.ShortName.TheVariants.{New, Old, Blank, Repeated}
-use Rattle.go_open_core.proofs.Names.{listed-names, list_names-append}
+use Rattle.go_walk_core.specs.open_core.Blocks.{in_block, list_name, list_names, short_name, short_names, short_names_behind}
+use Rattle.go_walk_core.specs.open_core.declared.short.ShortName.{ShortName}
+use Rattle.go_walk_core.specs.open_core.declared.short.ShortName.TheVariants.{New, Old, Blank, Repeated}
+use Rattle.go_walk_core.specs.open_core.Names.{listed-names, list_names-append}
 use Rattle.go_walk_core.specs.local_core.Faults.{spellings}
 
 -- how the first of some identifiers are spelled

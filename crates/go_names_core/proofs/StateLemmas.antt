@@ -3,8 +3,8 @@ use Rattle.std.proofs.Common.{◌≡◌, ℕ, Bool, false, Result, Ok, Err, List
 use Rattle.std.proofs.lemmas.List.{append-nil}
 use Rattle.std.specs.Result.{OnOk}
 use Rattle.go_tree_nodes.specs.declared.names.Ident.{Ident}
-use Rattle.go_open_core.specs.declared.DeclId.{DeclId}
-use Rattle.go_open_core.specs.Blocks.{innermost, with_innermost, block_after, short_names}
+use Rattle.go_walk_core.specs.open_core.declared.DeclId.{DeclId}
+use Rattle.go_walk_core.specs.open_core.Blocks.{innermost, with_innermost, block_after, short_names}
 use Rattle.go_scope_core.specs.Models.{ScopesModel}
 use Rattle.go_walk_core.specs.local_core.declared.Fault.{Fault}
 use Rattle.go_walk_core.specs.local_core.Steps.{Piece, Newness, Check, Declare}

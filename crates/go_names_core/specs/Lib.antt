@@ -9,4 +9,3 @@ pub mod block_core
 pub mod local_core
 pub mod open_core
 pub mod scope_core
-pub mod scope_core_lemmas

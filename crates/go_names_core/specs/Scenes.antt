@@ -2,7 +2,7 @@
 use Rattle.std.specs.Prelude.{ℕ, Bool, List, [], ◌∷◌, ◌++◌, length, map}
 use Rattle.go_tree_nodes.specs.declared.names.Ident.{Ident}
 use Rattle.go_tree_nodes.specs.Trees.{FuncTree}
-use Rattle.go_open_core.specs.Blocks.{innermost, with_innermost, block_after, short_names, is_short_new}
+use Rattle.go_walk_core.specs.open_core.Blocks.{innermost, with_innermost, block_after, short_names, is_short_new}
 use Rattle.go_scope_core.specs.block_core.Blocks.{BlocksModel}
 use Rattle.go_scope_core.specs.Models.{ScopesModel, scopes_model}
 use Rattle.go_scope_core.specs.Scopes.{with_open}

@@ -1,6 +1,6 @@
 -- A function with what each name in it denotes, worked out by hand. The n-th token of the function stands at n.
 use Rattle.std.specs.Prelude.{◌≡◌, ℕ, List, [], ◌∷◌, Option, Some, None, codes}
-use Rattle.go_text_core.specs.declared.rule.Rule.TheVariants.{B4, I1}
+use Rattle.go_tree_nodes.specs.text_core.declared.rule.Rule.TheVariants.{B4, I1}
 use Rattle.go_tree_nodes.specs.token_core.declared.kind.Operator.TheVariants as operator
 use Rattle.go_universe_core.specs.declared.Predeclared.TheVariants as predeclared
 use Rattle.go_tree_nodes.specs.declared.names.Ident.{Ident}

@@ -11,7 +11,7 @@ use crate::noting::{
     Noter, note_expr, note_exprs, note_receiver, note_signature, note_simple, note_some_exprs,
     note_value_spec,
 };
-use go_text_core::Span;
+use go_tree_nodes::text_core::Span;
 use go_tree_nodes::{Definition, Expr, Exprs, FuncDecl, Ident, Simple, ValueKind, ValueSpec};
 use std::alloc::{AllocError, Global};
 

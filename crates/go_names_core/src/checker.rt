@@ -13,7 +13,7 @@ ghost use Rattle.go_names_core.specs.Body.{each_means, func_idents, func_header}
 
 use crate::look::OpenNames;
 use crate::meaning::Meant;
-use go_text_core::Span;
+use go_tree_nodes::text_core::Span;
 use go_tree_nodes::{Definition, Expr, Exprs, FuncDecl, Simple, ValueKind, ValueSpec};
 use std::alloc::AllocError;
 

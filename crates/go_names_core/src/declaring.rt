@@ -1,7 +1,7 @@
 //! Names that are about to be declared: which are new in their block, and the rules that they break.
 
 ghost use Rattle.std.specs.Prelude.{◌≡◌, [], ◌∷◌, ◌++◌, IfOk, OnOk, map, if◌then◌else◌};
-ghost use Rattle.go_open_core.specs.Blocks.{innermost, short_name, short_names, is_short_new, list_name, any_new};
+ghost use Rattle.go_walk_core.specs.open_core.Blocks.{innermost, short_name, short_names, is_short_new, list_name, any_new};
 ghost use Rattle.go_walk_core.specs.local_core.Faults.{ident_fault, none_new_fault, spellings};
 ghost use Rattle.go_tree_nodes.specs.TypeShapes.{shape_idents};
 ghost use Rattle.go_walk_core.specs.local_core.Outline.{idents};
@@ -11,11 +11,11 @@ ghost use Rattle.go_names_core.specs.Scenes.{name_scene, local_declared, locals_
 
 use crate::idents::{header_idents, listed_idents};
 use crate::meaning::Meant;
-use go_open_core::{DeclId, NameList, ShortName};
 use go_scope_core::Scopes;
-use go_text_core::Rule;
+use go_tree_nodes::text_core::Rule;
 use go_tree_nodes::{FuncDecl, Ident, Idents};
 use go_walk_core::local_core::Fault;
+use go_walk_core::open_core::{DeclId, NameList, ShortName};
 use std::alloc::{AllocError, Global};
 
 // What a name would be in the innermost block of a scope, behind those that were seen.

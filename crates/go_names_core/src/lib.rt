@@ -25,15 +25,10 @@ pub use names::{Denoted, FuncNames, NameUse, function_names};
 
 /// What the crates above name of `go_block_core`.
 pub mod block_core {
-    pub use go_scope_core::block_core::{Binding, Blocks, DeclRef, Imported, Target, import_specs};
+    pub use go_scope_core::block_core::Blocks;
 }
 
 /// What the crates above name of `go_local_core`.
 pub mod local_core {
     pub use go_walk_core::local_core::Fault;
-}
-
-/// What the crates above name of `go_scope_core`.
-pub mod scope_core {
-    pub use go_scope_core::{InScope, Scopes};
 }

@@ -15,7 +15,7 @@ use crate::checker::Checker;
 use crate::declaring::{declare, names_of, names_of_header};
 use crate::look::OpenNames;
 use go_scope_core::Scopes;
-use go_text_core::Span;
+use go_tree_nodes::text_core::Span;
 use go_tree_nodes::{Definition, Expr, Exprs, FuncDecl, Simple, ValueKind, ValueSpec};
 use go_walk_core::Visitor;
 use go_walk_core::local_core::Fault;

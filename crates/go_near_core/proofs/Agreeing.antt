@@ -5,55 +5,55 @@ use Rattle.go_text_core.specs.Text.{is_blank}
 use Rattle.go_text_core.specs.declared.rule.Rule.{Rule}
 use Rattle.go_text_core.specs.declared.rule.Rule.TheVariants.{Y3, Y7, N8, F1, F5, F8}
 use Rattle.go_token_core.specs.declared.kind.Operator.{Operator}
-use Rattle.go_operand_core.specs.constant_core.declared.values.Constant.{Constant}
-use Rattle.go_operand_core.specs.term_core.declared.term.Basic.{Basic}
-use Rattle.go_operand_core.specs.term_core.declared.term.Basic.TheVariants as basics
+use Rattle.go_constant_core.specs.declared.values.Constant.{Constant}
+use Rattle.go_term_core.specs.declared.term.Basic.{Basic}
+use Rattle.go_term_core.specs.declared.term.Basic.TheVariants as basics
 use Rattle.go_tree_nodes.specs.declared.exprs.Key.{Key}
 use Rattle.go_tree_nodes.specs.declared.usage.Usage.{Usage}
-use Rattle.go_operand_core.specs.declared.types.ValueType.{ValueType}
-use Rattle.go_operand_core.specs.declared.types.ValueType.TheVariants as types
-use Rattle.go_operand_core.specs.declared.types.Operand.{Operand}
-use Rattle.go_operand_core.specs.declared.operators.Group.{Group}
-use Rattle.go_operand_core.specs.declared.operators.Group.TheVariants as groups
-use Rattle.go_operand_core.specs.declared.prefixes.Prefix.{Prefix}
-use Rattle.go_operand_core.specs.declared.prefixes.Prefix.TheVariants as prefixes
-use Rattle.go_operand_core.specs.TypeRules.{TypeRules}
-use Rattle.go_operand_core.specs.Values.{is_over, form_basic, basic_under, default_type, untyped, basic_type}
-use Rattle.go_operand_core.specs.Assign.{takes_nil, takes_untyped, untyped_assignable, assignable, taken, common_typed, common_untyped, common_nil, common, comparable_typed, comparable_untyped, comparable_nil, comparable}
-use Rattle.go_operand_core.specs.Operators.{group, divides, takes, is_some_zero, with_constants, value, arithmetic, ordered, equated, binary_in, binary_operand}
-use Rattle.go_operand_core.specs.Prefixes.{prefix, refused_unary, signed, pointed, indirection, address, signed_over, unary_in, unary_operand}
-use Rattle.go_part_core.specs.denote_core.declared.things.Stand.{Stand}
-use Rattle.go_part_core.specs.denote_core.declared.things.Builtin.TheVariants as builtins
-use Rattle.go_part_core.specs.denote_core.declared.things.Dot.{Dot}
-use Rattle.go_part_core.specs.denote_core.declared.things.Dot.TheVariants as dots
-use Rattle.go_part_core.specs.denote_core.declared.things.Argument.{Argument}
-use Rattle.go_part_core.specs.denote_core.declared.things.Argument.TheVariants as arguments
-use Rattle.go_part_core.specs.denote_core.declared.things.Denoted.{Denoted}
-use Rattle.go_part_core.specs.denote_core.declared.things.Denoted.TheVariants as denotes
-use Rattle.go_part_core.specs.denote_core.Answers.{refused, found_answer, name_answer}
-use Rattle.go_part_core.specs.denote_core.Selectors.{selector_answer}
-use Rattle.go_part_core.specs.denote_core.Arguments.{argument_of_result, arguments_of}
-use Rattle.go_part_core.specs.denote_core.Calls.{call_answer}
-use Rattle.go_part_core.specs.denote_core.Laws.{SaysAlike, ValueAlike, GivenAlike, EachAlike, ArgumentAlike, ArgumentsAlike, CallsAlike}
-use Rattle.go_part_core.specs.denote_core.Locality.{selectors_local, calls_local}
-use Rattle.go_part_core.specs.literal_core.declared.things.KeyAnswer.{KeyAnswer}
-use Rattle.go_part_core.specs.literal_core.declared.things.Keys.{Keys}
-use Rattle.go_part_core.specs.literal_core.declared.things.Mode.{Mode}
-use Rattle.go_part_core.specs.literal_core.declared.things.Mode.TheVariants as modes
-use Rattle.go_part_core.specs.literal_core.declared.things.NamedField.{NamedField}
-use Rattle.go_part_core.specs.literal_core.declared.things.NamedField.TheVariants as nameds
-use Rattle.go_part_core.specs.literal_core.Look.{FieldOf}
-use Rattle.go_part_core.specs.literal_core.Fields.{shown_field, named_field}
-use Rattle.go_part_core.specs.literal_core.Literals.{is_struct, struct_rule, struct_mode, field_type_at, literal_rule, literal_mode, element_target}
-use Rattle.go_part_core.specs.literal_core.Keys.{refused_key, missing_rule, found_key, key_answer}
-use Rattle.go_part_core.specs.expr_core.declared.things.Judged.{Judged}
-use Rattle.go_part_core.specs.expr_core.Looks.{Looks, look_of_place, literals_at}
-use Rattle.go_part_core.specs.expr_core.Operators.{of_operand, pointer_type, is_star, passed, unary_of, operand_of, binary_operands, binary_of}
-use Rattle.go_part_core.specs.expr_core.Elements.{key_target_by, is_again, element_type, misfit_rule, element_rule}
+use Rattle.go_emit_core.specs.operand_core.declared.types.ValueType.{ValueType}
+use Rattle.go_emit_core.specs.operand_core.declared.types.ValueType.TheVariants as types
+use Rattle.go_emit_core.specs.operand_core.declared.types.Operand.{Operand}
+use Rattle.go_emit_core.specs.operand_core.declared.operators.Group.{Group}
+use Rattle.go_emit_core.specs.operand_core.declared.operators.Group.TheVariants as groups
+use Rattle.go_emit_core.specs.operand_core.declared.prefixes.Prefix.{Prefix}
+use Rattle.go_emit_core.specs.operand_core.declared.prefixes.Prefix.TheVariants as prefixes
+use Rattle.go_emit_core.specs.operand_core.TypeRules.{TypeRules}
+use Rattle.go_emit_core.specs.operand_core.Values.{is_over, form_basic, basic_under, default_type, untyped, basic_type}
+use Rattle.go_emit_core.specs.operand_core.Assign.{takes_nil, takes_untyped, untyped_assignable, assignable, taken, common_typed, common_untyped, common_nil, common, comparable_typed, comparable_untyped, comparable_nil, comparable}
+use Rattle.go_emit_core.specs.operand_core.Operators.{group, divides, takes, is_some_zero, with_constants, value, arithmetic, ordered, equated, binary_in, binary_operand}
+use Rattle.go_emit_core.specs.operand_core.Prefixes.{prefix, refused_unary, signed, pointed, indirection, address, signed_over, unary_in, unary_operand}
+use Rattle.go_emit_core.specs.denote_core.declared.things.Stand.{Stand}
+use Rattle.go_emit_core.specs.denote_core.declared.things.Builtin.TheVariants as builtins
+use Rattle.go_emit_core.specs.denote_core.declared.things.Dot.{Dot}
+use Rattle.go_emit_core.specs.denote_core.declared.things.Dot.TheVariants as dots
+use Rattle.go_emit_core.specs.denote_core.declared.things.Argument.{Argument}
+use Rattle.go_emit_core.specs.denote_core.declared.things.Argument.TheVariants as arguments
+use Rattle.go_emit_core.specs.denote_core.declared.things.Denoted.{Denoted}
+use Rattle.go_emit_core.specs.denote_core.declared.things.Denoted.TheVariants as denotes
+use Rattle.go_emit_core.specs.denote_core.Answers.{refused, found_answer, name_answer}
+use Rattle.go_emit_core.specs.denote_core.Selectors.{selector_answer}
+use Rattle.go_emit_core.specs.denote_core.Arguments.{argument_of_result, arguments_of}
+use Rattle.go_emit_core.specs.denote_core.Calls.{call_answer}
+use Rattle.go_emit_core.specs.denote_core.Laws.{SaysAlike, ValueAlike, GivenAlike, EachAlike, ArgumentAlike, ArgumentsAlike, CallsAlike}
+use Rattle.go_emit_core.specs.denote_core.Locality.{selectors_local, calls_local}
+use Rattle.go_emit_core.specs.literal_core.declared.things.KeyAnswer.{KeyAnswer}
+use Rattle.go_emit_core.specs.literal_core.declared.things.Keys.{Keys}
+use Rattle.go_emit_core.specs.literal_core.declared.things.Mode.{Mode}
+use Rattle.go_emit_core.specs.literal_core.declared.things.Mode.TheVariants as modes
+use Rattle.go_emit_core.specs.literal_core.declared.things.NamedField.{NamedField}
+use Rattle.go_emit_core.specs.literal_core.declared.things.NamedField.TheVariants as nameds
+use Rattle.go_emit_core.specs.literal_core.Look.{FieldOf}
+use Rattle.go_emit_core.specs.literal_core.Fields.{shown_field, named_field}
+use Rattle.go_emit_core.specs.literal_core.Literals.{is_struct, struct_rule, struct_mode, field_type_at, literal_rule, literal_mode, element_target}
+use Rattle.go_emit_core.specs.literal_core.Keys.{refused_key, missing_rule, found_key, key_answer}
+use Rattle.go_emit_core.specs.expr_core.declared.things.Judged.{Judged}
+use Rattle.go_emit_core.specs.expr_core.Looks.{Looks, look_of_place, literals_at}
+use Rattle.go_emit_core.specs.expr_core.Operators.{of_operand, pointer_type, is_star, passed, unary_of, operand_of, binary_operands, binary_of}
+use Rattle.go_emit_core.specs.expr_core.Elements.{key_target_by, is_again, element_type, misfit_rule, element_rule}
 use Rattle.go_near_core.specs.Near.{NearRest, IfAny, IfFine, NearValue, NearOperand, NearArgument, NearDot, NearField, NearDenoted}
 use Rattle.go_near_core.specs.Looks.{AreRulesClosed, AreClosed, RulesAgree, LooksAgree}
 use Rattle.go_near_core.proofs.Closing.{either, common_near, unary_near, binary_near}
-use Rattle.go_part_core.specs.statement_core.Locality.{Each}
+use Rattle.go_emit_core.specs.statement_core.Locality.{Each}
 
 -- operands
 

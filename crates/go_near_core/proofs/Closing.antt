@@ -7,49 +7,49 @@ use Rattle.go_text_core.specs.declared.rule.Rule.{Rule}
 use Rattle.go_token_core.specs.declared.kind.Operator.{Operator}
 use Rattle.go_tree_nodes.specs.declared.usage.Usage.{Usage}
 use Rattle.go_tree_nodes.specs.declared.usage.Usage.TheVariants as usages
-use Rattle.go_operand_core.specs.constant_core.declared.values.Constant.{Constant}
-use Rattle.go_operand_core.specs.term_core.declared.term.Basic.{Basic}
-use Rattle.go_operand_core.specs.term_core.declared.term.Basic.TheVariants as basics
-use Rattle.go_operand_core.specs.declared.types.TypeForm.{TypeForm}
-use Rattle.go_operand_core.specs.declared.types.TypeForm.TheVariants as forms
-use Rattle.go_operand_core.specs.declared.types.ValueType.{ValueType}
-use Rattle.go_operand_core.specs.declared.types.ValueType.TheVariants as types
-use Rattle.go_operand_core.specs.declared.types.Operand.{Operand}
-use Rattle.go_operand_core.specs.declared.operators.Group.{Group}
-use Rattle.go_operand_core.specs.declared.operators.Group.TheVariants as groups
-use Rattle.go_operand_core.specs.declared.prefixes.Prefix.{Prefix}
-use Rattle.go_operand_core.specs.declared.prefixes.Prefix.TheVariants as prefixes
-use Rattle.go_operand_core.specs.TypeRules.{TypeRules}
-use Rattle.go_operand_core.specs.Values.{is_basic, is_over, basic_under, default_type, untyped}
-use Rattle.go_operand_core.specs.Assign.{assignable, taken, common_typed, common_kind, common_untyped, common_nil, common}
-use Rattle.go_operand_core.specs.Operators.{group, divides, takes, is_some_zero, computed, with_constants, arithmetic, ordered, equated, binary_in, binary_operand}
-use Rattle.go_operand_core.specs.Prefixes.{prefix, signed, pointed, indirection, address, signed_over, unary_in, unary_operand}
-use Rattle.go_operand_core.specs.Conversions.{makes_text, fits, convert, length_of}
-use Rattle.go_part_core.specs.denote_core.declared.things.Stand.{Stand}
-use Rattle.go_part_core.specs.denote_core.declared.things.Stand.TheVariants as stands
-use Rattle.go_part_core.specs.denote_core.declared.things.Builtin.{Builtin}
-use Rattle.go_part_core.specs.denote_core.declared.things.Builtin.TheVariants as builtins
-use Rattle.go_part_core.specs.denote_core.declared.things.Dot.{Dot}
-use Rattle.go_part_core.specs.denote_core.declared.things.Dot.TheVariants as dots
-use Rattle.go_part_core.specs.denote_core.declared.things.Found.{Found}
-use Rattle.go_part_core.specs.denote_core.declared.things.Found.TheVariants as founds
-use Rattle.go_part_core.specs.denote_core.declared.things.Exported.{Exported}
-use Rattle.go_part_core.specs.denote_core.declared.things.Exported.TheVariants as exporteds
-use Rattle.go_part_core.specs.denote_core.declared.things.Selection.{Selection}
-use Rattle.go_part_core.specs.denote_core.declared.things.Selection.TheVariants as selections
-use Rattle.go_part_core.specs.denote_core.declared.things.Argument.{Argument}
-use Rattle.go_part_core.specs.denote_core.declared.things.Argument.TheVariants as arguments
-use Rattle.go_part_core.specs.denote_core.declared.things.Denoted.{Denoted}
-use Rattle.go_part_core.specs.denote_core.declared.things.Denoted.TheVariants as denotes
-use Rattle.go_part_core.specs.denote_core.declared.things.Answer.{Answer}
-use Rattle.go_part_core.specs.denote_core.Answers.{of_value, value_of_type, package_answer, type_answer, func_answer, value_answer, found_answer, name_answer}
-use Rattle.go_part_core.specs.denote_core.Selectors.{usage_place, exported_answer, dot_of, field_answer, method_answer, member_answer, value_selector, selector_answer}
-use Rattle.go_part_core.specs.denote_core.Arguments.{argument_of_result, argument_of, arguments_alone, arguments_of, fits_type}
-use Rattle.go_part_core.specs.denote_core.Calls.{of_results, all_fit, func_call, of_conversion, convert_argument, conversion, of_length, length_argument, is_printable, builtin_call, judged_call, of_builtin, free_call, call_answer}
-use Rattle.go_part_core.specs.expr_core.Looks.{Looks, look_of_place}
+use Rattle.go_constant_core.specs.declared.values.Constant.{Constant}
+use Rattle.go_term_core.specs.declared.term.Basic.{Basic}
+use Rattle.go_term_core.specs.declared.term.Basic.TheVariants as basics
+use Rattle.go_emit_core.specs.operand_core.declared.types.TypeForm.{TypeForm}
+use Rattle.go_emit_core.specs.operand_core.declared.types.TypeForm.TheVariants as forms
+use Rattle.go_emit_core.specs.operand_core.declared.types.ValueType.{ValueType}
+use Rattle.go_emit_core.specs.operand_core.declared.types.ValueType.TheVariants as types
+use Rattle.go_emit_core.specs.operand_core.declared.types.Operand.{Operand}
+use Rattle.go_emit_core.specs.operand_core.declared.operators.Group.{Group}
+use Rattle.go_emit_core.specs.operand_core.declared.operators.Group.TheVariants as groups
+use Rattle.go_emit_core.specs.operand_core.declared.prefixes.Prefix.{Prefix}
+use Rattle.go_emit_core.specs.operand_core.declared.prefixes.Prefix.TheVariants as prefixes
+use Rattle.go_emit_core.specs.operand_core.TypeRules.{TypeRules}
+use Rattle.go_emit_core.specs.operand_core.Values.{is_basic, is_over, basic_under, default_type, untyped}
+use Rattle.go_emit_core.specs.operand_core.Assign.{assignable, taken, common_typed, common_kind, common_untyped, common_nil, common}
+use Rattle.go_emit_core.specs.operand_core.Operators.{group, divides, takes, is_some_zero, computed, with_constants, arithmetic, ordered, equated, binary_in, binary_operand}
+use Rattle.go_emit_core.specs.operand_core.Prefixes.{prefix, signed, pointed, indirection, address, signed_over, unary_in, unary_operand}
+use Rattle.go_emit_core.specs.operand_core.Conversions.{makes_text, fits, convert, length_of}
+use Rattle.go_emit_core.specs.denote_core.declared.things.Stand.{Stand}
+use Rattle.go_emit_core.specs.denote_core.declared.things.Stand.TheVariants as stands
+use Rattle.go_emit_core.specs.denote_core.declared.things.Builtin.{Builtin}
+use Rattle.go_emit_core.specs.denote_core.declared.things.Builtin.TheVariants as builtins
+use Rattle.go_emit_core.specs.denote_core.declared.things.Dot.{Dot}
+use Rattle.go_emit_core.specs.denote_core.declared.things.Dot.TheVariants as dots
+use Rattle.go_emit_core.specs.denote_core.declared.things.Found.{Found}
+use Rattle.go_emit_core.specs.denote_core.declared.things.Found.TheVariants as founds
+use Rattle.go_emit_core.specs.denote_core.declared.things.Exported.{Exported}
+use Rattle.go_emit_core.specs.denote_core.declared.things.Exported.TheVariants as exporteds
+use Rattle.go_emit_core.specs.denote_core.declared.things.Selection.{Selection}
+use Rattle.go_emit_core.specs.denote_core.declared.things.Selection.TheVariants as selections
+use Rattle.go_emit_core.specs.denote_core.declared.things.Argument.{Argument}
+use Rattle.go_emit_core.specs.denote_core.declared.things.Argument.TheVariants as arguments
+use Rattle.go_emit_core.specs.denote_core.declared.things.Denoted.{Denoted}
+use Rattle.go_emit_core.specs.denote_core.declared.things.Denoted.TheVariants as denotes
+use Rattle.go_emit_core.specs.denote_core.declared.things.Answer.{Answer}
+use Rattle.go_emit_core.specs.denote_core.Answers.{of_value, value_of_type, package_answer, type_answer, func_answer, value_answer, found_answer, name_answer}
+use Rattle.go_emit_core.specs.denote_core.Selectors.{usage_place, exported_answer, dot_of, field_answer, method_answer, member_answer, value_selector, selector_answer}
+use Rattle.go_emit_core.specs.denote_core.Arguments.{argument_of_result, argument_of, arguments_alone, arguments_of, fits_type}
+use Rattle.go_emit_core.specs.denote_core.Calls.{of_results, all_fit, func_call, of_conversion, convert_argument, conversion, of_length, length_argument, is_printable, builtin_call, judged_call, of_builtin, free_call, call_answer}
+use Rattle.go_emit_core.specs.expr_core.Looks.{Looks, look_of_place}
 use Rattle.go_near_core.specs.Near.{NearRest, IfAny, IfFine, NearForm, NearValue, NearOperand, NearArgument, NearDot, NearFound, NearExported, NearSelection, NearDenoted}
 use Rattle.go_near_core.specs.Looks.{AreRulesClosed, AreClosed}
-use Rattle.go_part_core.specs.statement_core.Locality.{Each}
+use Rattle.go_emit_core.specs.statement_core.Locality.{Each}
 
 pub either : {A : Type 0} (Is : A → Type 0) (b : Bool) (x y : A) → Is x → Is y → Is (if b then x else y)
 either Is true x y h k = h

@@ -9,35 +9,35 @@ use Rattle.go_tree_nodes.specs.declared.types.TypeName.TheVariants as type_names
 use Rattle.go_tree_nodes.specs.declared.usage.Usage.TheVariants as usages
 use Rattle.go_tree_nodes.specs.Trees.{TypeTree, FieldTrees, MethodTrees, SignatureTree, ResultTree, ParamTrees, NamedType, Pointer, ParenType, Struct, Interface, NoFields, NamedFields, EmbeddedField, NoMethods, Method, Signed, NoResult, OneResult, Results, NoParams, Param, ExprTree, ItemTrees, Integer, Text, Named, Paren, Unary, Binary, Select, Call, Literal, StructLiteral, NoItems, Item}
 use Rattle.go_tree_nodes.specs.Counts.{item_count}
-use Rattle.go_part_core.specs.expr_core.Alike.{mapped}
-use Rattle.go_part_core.specs.tree_core.declared.occurrence.Role.TheVariants as roles
-use Rattle.go_part_core.specs.denote_core.declared.things.Stand.{Stand}
-use Rattle.go_part_core.specs.denote_core.declared.things.Stand.TheVariants as stands
-use Rattle.go_part_core.specs.denote_core.declared.things.Denoted as things
-use Rattle.go_part_core.specs.denote_core.declared.things.Denoted.TheVariants as denotes
-use Rattle.go_part_core.specs.denote_core.declared.things.Answer.{Answer}
-use Rattle.go_part_core.specs.denote_core.Selectors.{dot_of, selector_answer}
-use Rattle.go_part_core.specs.denote_core.Arguments.{arguments_of, is_free, single_rule}
-use Rattle.go_part_core.specs.denote_core.Calls.{call_answer}
-use Rattle.go_part_core.specs.literal_core.declared.things.KeyAnswer.{KeyAnswer}
-use Rattle.go_part_core.specs.literal_core.declared.things.Mode.{Mode}
-use Rattle.go_part_core.specs.literal_core.Literals.{literal_type, literal_denotes}
-use Rattle.go_part_core.specs.literal_core.Repeats.{has_name}
-use Rattle.go_part_core.specs.expr_core.Looks.{Looks, look_of_place}
-use Rattle.go_part_core.specs.expr_core.Places.{inside, under_place, left_place, whole, is_name, is_literal, is_lone_call, is_several, start, item_start, place_role}
+use Rattle.go_emit_core.specs.expr_core.Alike.{mapped}
+use Rattle.go_tree_core.specs.declared.occurrence.Role.TheVariants as roles
+use Rattle.go_emit_core.specs.denote_core.declared.things.Stand.{Stand}
+use Rattle.go_emit_core.specs.denote_core.declared.things.Stand.TheVariants as stands
+use Rattle.go_emit_core.specs.denote_core.declared.things.Denoted as things
+use Rattle.go_emit_core.specs.denote_core.declared.things.Denoted.TheVariants as denotes
+use Rattle.go_emit_core.specs.denote_core.declared.things.Answer.{Answer}
+use Rattle.go_emit_core.specs.denote_core.Selectors.{dot_of, selector_answer}
+use Rattle.go_emit_core.specs.denote_core.Arguments.{arguments_of, is_free, single_rule}
+use Rattle.go_emit_core.specs.denote_core.Calls.{call_answer}
+use Rattle.go_emit_core.specs.literal_core.declared.things.KeyAnswer.{KeyAnswer}
+use Rattle.go_emit_core.specs.literal_core.declared.things.Mode.{Mode}
+use Rattle.go_emit_core.specs.literal_core.Literals.{literal_type, literal_denotes}
+use Rattle.go_emit_core.specs.literal_core.Repeats.{has_name}
+use Rattle.go_emit_core.specs.expr_core.Looks.{Looks, look_of_place}
+use Rattle.go_emit_core.specs.expr_core.Places.{inside, under_place, left_place, whole, is_name, is_literal, is_lone_call, is_several, start, item_start, place_role}
 use Rattle.go_tree_nodes.specs.Starts.{type_name_start, type_start}
-use Rattle.go_part_core.specs.expr_core.Operators.{unary_of, binary_of}
-use Rattle.go_part_core.specs.expr_core.Denoting.{ident_answer, type_name_answer, named_type, written_type, denoted, denoted_items, select_answer}
-use Rattle.go_part_core.specs.expr_core.Elements.{key_names, all_keys, keys_of, is_mixed, element_type, element_rule, whole_mode}
-use Rattle.go_part_core.specs.expr_core.Uses.{made_use, use_of, uses, spots, type_name_spots, type_name_uses, type_spots, fields_spots, methods_spots, signature_spots, result_spots, params_spots, key_spots, key_uses, args_spots, args_uses, items_spots, items_uses}
-use Rattle.go_part_core.specs.expr_core.TypeUses.{type_uses, fields_uses, methods_uses, signature_uses, result_uses, params_uses}
-use Rattle.go_part_core.specs.expr_core.Faults.{fault_at, listed_rule, faults, args_faults, items_faults, operand_faults, literal_faults}
+use Rattle.go_emit_core.specs.expr_core.Operators.{unary_of, binary_of}
+use Rattle.go_emit_core.specs.expr_core.Denoting.{ident_answer, type_name_answer, named_type, written_type, denoted, denoted_items, select_answer}
+use Rattle.go_emit_core.specs.expr_core.Elements.{key_names, all_keys, keys_of, is_mixed, element_type, element_rule, whole_mode}
+use Rattle.go_emit_core.specs.expr_core.Uses.{made_use, use_of, uses, spots, type_name_spots, type_name_uses, type_spots, fields_spots, methods_spots, signature_spots, result_spots, params_spots, key_spots, key_uses, args_spots, args_uses, items_spots, items_uses}
+use Rattle.go_emit_core.specs.expr_core.TypeUses.{type_uses, fields_uses, methods_uses, signature_uses, result_uses, params_uses}
+use Rattle.go_emit_core.specs.expr_core.Faults.{fault_at, listed_rule, faults, args_faults, items_faults, operand_faults, literal_faults}
 use Rattle.go_near_core.specs.Near.{NearRest, IfAny, NearArgument, NearDot, NearDenoted}
 use Rattle.go_near_core.specs.Looks.{AreClosed, LooksAgree}
 use Rattle.go_near_core.specs.Laws.{IsNearby}
 use Rattle.go_near_core.proofs.Closing.{name_near, selector_near, dot_near, arguments_near, call_near}
 use Rattle.go_near_core.proofs.Agreeing.{unary_judged, binary_judged, unary_of_near, binary_of_near, name_same, selector_same, call_same, arguments_same, key_same, rule_same, mode_same, target_same, target_near, misfit_same}
-use Rattle.go_part_core.specs.statement_core.Locality.{Each}
+use Rattle.go_emit_core.specs.statement_core.Locality.{Each}
 
 module _ {T S D P : Type 0} (Near : T → Type 0) (Rest : NearRest S D) (looks others : Looks T S D P) (law : AreClosed Near Rest looks) (agree : LooksAgree Near Rest looks others) where
   abbrev Denotes : things.Denoted T S D → Type 0

@@ -3,16 +3,16 @@ use Rattle.std.proofs.Common.{◌≡◌, List, ◌++◌, refl}
 use Rattle.std.specs.Prelude.{Option}
 use Rattle.std.specs.List.{flat_map}
 use Rattle.go_tree_nodes.specs.Trees.{DeclTree, Value, Types, Func, FileTree}
-use Rattle.go_part_core.specs.block_core.declared.imports.Imported.{Imported}
-use Rattle.go_part_core.specs.block_core.Naming.{file_specs}
-use Rattle.go_part_core.specs.written_core.Written as types
-use Rattle.go_part_core.specs.written_core.Written.{InFile}
-use Rattle.go_part_core.specs.face_core.Faces.{TheFace}
-use Rattle.go_part_core.specs.env_core.Scenes.{SceneModel}
-use Rattle.go_part_core.specs.func_core.Stands.{outer_looks}
-use Rattle.go_part_core.specs.file_core.Imports.{imports_uses}
-use Rattle.go_part_core.specs.file_core.Files.{decl_uses, decl_faults, decl_locals, file_uses, file_faults, file_locals}
-use Rattle.go_part_core.specs.table_core.Entries.{Entry}
+use Rattle.go_emit_core.specs.block_core.declared.imports.Imported.{Imported}
+use Rattle.go_emit_core.specs.block_core.Naming.{file_specs}
+use Rattle.go_emit_core.specs.written_core.Written as types
+use Rattle.go_emit_core.specs.written_core.Written.{InFile}
+use Rattle.go_emit_core.specs.face_core.Faces.{TheFace}
+use Rattle.go_emit_core.specs.env_core.Scenes.{SceneModel}
+use Rattle.go_emit_core.specs.func_core.Stands.{outer_looks}
+use Rattle.go_emit_core.specs.file_core.Imports.{imports_uses}
+use Rattle.go_emit_core.specs.file_core.Files.{decl_uses, decl_faults, decl_locals, file_uses, file_faults, file_locals}
+use Rattle.go_emit_core.specs.table_core.Entries.{Entry}
 use Rattle.go_near_core.specs.Tables.{near_by, Nearby, IsNear, near_rest, AgreeOn}
 use Rattle.go_near_core.specs.Functions.{stand, with_types, IsStandNear, StandsAgree}
 use Rattle.go_near_core.specs.Laws.{FunctionsLookNearby, FilesLookNearby, OtherTypesDoNotCount}

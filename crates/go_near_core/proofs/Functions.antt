@@ -1,48 +1,48 @@
 -- A function is the same in two stands of a file that agree on what is near.
 use Rattle.std.proofs.Common.{◌≡◌, ℕ, zero, suc, Bool, List, [], ◌∷◌, ◌++◌, map, refl, ap, ◌∙◌, arith}
 use Rattle.std.specs.Prelude.{Option, Some, None, ⊤, if◌then◌else◌}
-use Rattle.go_operand_core.specs.decl_core.declared.keys.DeclKey.{DeclKey}
+use Rattle.go_term_core.specs.decl_core.declared.keys.DeclKey.{DeclKey}
 use Rattle.go_tree_nodes.specs.declared.types.TypeName.{TypeName}
 use Rattle.go_tree_nodes.specs.Trees.{TypeTree, FuncTree}
-use Rattle.go_operand_core.specs.term_core.declared.term.MemberPlace.TheVariants as places
-use Rattle.go_operand_core.specs.term_core.Terms.{Term, NoType}
-use Rattle.go_part_core.specs.table_core.Entries.{term_in}
-use Rattle.go_part_core.specs.settle_core.Settled.{kind_of_term, settled}
-use Rattle.go_part_core.specs.settle_core.Local.{settling_is_local}
-use Rattle.go_part_core.specs.settle_core.Mentions.{settled_mentions_written}
-use Rattle.go_part_core.specs.embed_core.Telling.{faults_local}
-use Rattle.go_part_core.specs.written_core.Written as types
-use Rattle.go_part_core.specs.written_core.Written.{InFile, term_of}
-use Rattle.go_part_core.specs.written_core.ByNames.{written_by_names}
+use Rattle.go_term_core.specs.declared.term.MemberPlace.TheVariants as places
+use Rattle.go_term_core.specs.Terms.{Term, NoType}
+use Rattle.go_emit_core.specs.table_core.Entries.{term_in}
+use Rattle.go_emit_core.specs.settle_core.Settled.{kind_of_term, settled}
+use Rattle.go_emit_core.specs.settle_core.Local.{settling_is_local}
+use Rattle.go_emit_core.specs.settle_core.Mentions.{settled_mentions_written}
+use Rattle.go_emit_core.specs.embed_core.Telling.{faults_local}
+use Rattle.go_emit_core.specs.written_core.Written as types
+use Rattle.go_emit_core.specs.written_core.Written.{InFile, term_of}
+use Rattle.go_emit_core.specs.written_core.ByNames.{written_by_names}
 use Rattle.go_local_core.specs.Binding.{NameLook}
 use Rattle.go_local_core.specs.Steps.{Piece}
 use Rattle.go_local_core.specs.Pieces.{ident_place, piece_declares}
 use Rattle.go_local_core.specs.Outline.{func_steps, func_opens, func_closes}
 use Rattle.go_local_core.specs.mirrors.Walk.{walk_out}
-use Rattle.go_operand_core.specs.declared.types.Operand.{Operand}
-use Rattle.go_part_core.specs.denote_core.declared.things.Found.TheVariants as founds
-use Rattle.go_part_core.specs.face_core.Faces.{TheFace}
-use Rattle.go_part_core.specs.handle_core.Declarations.{InFile as DeclaredIn}
-use Rattle.go_part_core.specs.names_core.Scope.{some_meaning}
-use Rattle.go_part_core.specs.scope_core.Scopes as scopes
-use Rattle.go_part_core.specs.scope_core.Scopes.{Denoted}
-use Rattle.go_part_core.specs.scope_core.Models.{scopes_model}
-use Rattle.go_part_core.specs.scope_core.Laws.{denotes}
-use Rattle.go_part_core.specs.inline_core.Functions.{looked_up_ident}
-use Rattle.go_part_core.specs.inline_core.Inline.{inline_of, located_fault, repeated_params}
-use Rattle.go_part_core.specs.env_core.declared.meaning.Meaning.{Meaning}
-use Rattle.go_part_core.specs.env_core.declared.meaning.Meaning.TheVariants as meanings
-use Rattle.go_part_core.specs.env_core.Scenes.{SceneModel}
-use Rattle.go_part_core.specs.env_core.Found.{found_of}
-use Rattle.go_part_core.specs.env_core.Looks.{inline_type, inline_faults}
-use Rattle.go_part_core.specs.piece_core.Headers.{returned_types, returned_names}
-use Rattle.go_part_core.specs.piece_core.Pieces.{piece_values}
-use Rattle.go_part_core.specs.body_core.Body.{body_of}
-use Rattle.go_part_core.specs.body_core.Notes.{note}
-use Rattle.go_part_core.specs.body_core.Rules.{value_at, local_at, piece_locals}
-use Rattle.go_part_core.specs.func_core.Types.{is_local_meaning, named_where}
-use Rattle.go_part_core.specs.func_core.Stands.{FileStand, kinds_in_scene, types_where, looks_where, outer_meanings, outer_look, outer_looks}
-use Rattle.go_part_core.specs.func_core.Functions.{own_rules, walked_func, checked_func}
+use Rattle.go_emit_core.specs.operand_core.declared.types.Operand.{Operand}
+use Rattle.go_emit_core.specs.denote_core.declared.things.Found.TheVariants as founds
+use Rattle.go_emit_core.specs.face_core.Faces.{TheFace}
+use Rattle.go_emit_core.specs.handle_core.Declarations.{InFile as DeclaredIn}
+use Rattle.go_emit_core.specs.names_core.Scope.{some_meaning}
+use Rattle.go_emit_core.specs.scope_core.Scopes as scopes
+use Rattle.go_emit_core.specs.scope_core.Scopes.{Denoted}
+use Rattle.go_emit_core.specs.scope_core.Models.{scopes_model}
+use Rattle.go_emit_core.specs.scope_core.Laws.{denotes}
+use Rattle.go_emit_core.specs.inline_core.Functions.{looked_up_ident}
+use Rattle.go_emit_core.specs.inline_core.Inline.{inline_of, located_fault, repeated_params}
+use Rattle.go_emit_core.specs.env_core.declared.meaning.Meaning.{Meaning}
+use Rattle.go_emit_core.specs.env_core.declared.meaning.Meaning.TheVariants as meanings
+use Rattle.go_emit_core.specs.env_core.Scenes.{SceneModel}
+use Rattle.go_emit_core.specs.env_core.Found.{found_of}
+use Rattle.go_emit_core.specs.env_core.Looks.{inline_type, inline_faults}
+use Rattle.go_emit_core.specs.piece_core.Headers.{returned_types, returned_names}
+use Rattle.go_emit_core.specs.piece_core.Pieces.{piece_values}
+use Rattle.go_emit_core.specs.body_core.Body.{body_of}
+use Rattle.go_emit_core.specs.body_core.Notes.{note}
+use Rattle.go_emit_core.specs.body_core.Rules.{value_at, local_at, piece_locals}
+use Rattle.go_emit_core.specs.func_core.Types.{is_local_meaning, named_where}
+use Rattle.go_emit_core.specs.func_core.Stands.{FileStand, kinds_in_scene, types_where, looks_where, outer_meanings, outer_look, outer_looks}
+use Rattle.go_emit_core.specs.func_core.Functions.{own_rules, walked_func, checked_func}
 use Rattle.go_near_core.specs.Near.{IfAny, NearOperand, NearFound}
 use Rattle.go_near_core.specs.Looks.{AreClosed, LooksAgree}
 use Rattle.go_near_core.specs.Tables.{Nearby, IsNear, near_rest}
@@ -54,7 +54,7 @@ use Rattle.go_near_core.proofs.Reaching.{typed_near, typed_same}
 use Rattle.go_near_core.proofs.Seeing.{scene_closed, scenes_agree}
 use Rattle.go_near_core.proofs.Pieces.{pieces_nearby, returned_near, returned_same}
 use Rattle.go_near_core.proofs.Walking.{MeansNear, SayAlike, walk_same}
-use Rattle.go_part_core.specs.statement_core.Locality.{Each}
+use Rattle.go_emit_core.specs.statement_core.Locality.{Each}
 
 module _ (near : Nearby) (file : InFile) (s t : SceneModel) (known others : List (Option TheFace)) (top other : types.Meaning) (law : StandsAgree near file s t known others top other) where
   abbrev one : FileStand

@@ -1,15 +1,15 @@
 -- The files of a package are the same over two tables of types that agree on what is near.
 use Rattle.std.proofs.Common.{◌≡◌, ℕ, List, refl, ap}
 use Rattle.std.specs.Prelude.{Option}
-use Rattle.go_part_core.specs.table_core.Entries.{Entry}
-use Rattle.go_part_core.specs.entry_core.Entries.{file_at}
-use Rattle.go_part_core.specs.entry_core.Meanings.{file_meaning}
-use Rattle.go_part_core.specs.entry_core.Outlines.{FileOutline}
-use Rattle.go_part_core.specs.face_core.Faces.{TheFace}
-use Rattle.go_part_core.specs.face_core.Laws.{LookAlike}
-use Rattle.go_part_core.specs.face_core.Written.{WrittenOf, package_written}
-use Rattle.go_part_core.specs.face_core.Locality.{written_are_local}
-use Rattle.go_part_core.specs.env_core.Found.{found_outside}
+use Rattle.go_emit_core.specs.table_core.Entries.{Entry}
+use Rattle.go_emit_core.specs.entry_core.Entries.{file_at}
+use Rattle.go_emit_core.specs.entry_core.Meanings.{file_meaning}
+use Rattle.go_emit_core.specs.entry_core.Outlines.{FileOutline}
+use Rattle.go_emit_core.specs.face_core.Faces.{TheFace}
+use Rattle.go_emit_core.specs.face_core.Laws.{LookAlike}
+use Rattle.go_emit_core.specs.face_core.Written.{WrittenOf, package_written}
+use Rattle.go_emit_core.specs.face_core.Locality.{written_are_local}
+use Rattle.go_emit_core.specs.env_core.Found.{found_outside}
 use Rattle.go_near_core.specs.Tables.{near_by, Nearby, AgreeOn}
 use Rattle.go_near_core.specs.Functions.{StandsAgree}
 use Rattle.go_near_core.specs.Packages.{PackageOf, scene_over, IsPackageNear}

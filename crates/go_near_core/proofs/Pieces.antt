@@ -10,41 +10,41 @@ use Rattle.go_tree_nodes.specs.declared.decls.ValueKind.{ValueKind}
 use Rattle.go_tree_nodes.specs.declared.decls.ValueKind.TheVariants as kinds
 use Rattle.go_tree_nodes.specs.Trees.{Separated, One, Then, TypeTree, ExprTree, Integer, Text, Named, Paren, Unary, Binary, Select, Call, Literal, StructLiteral, SignatureTree, ResultTree, ParamTrees, Signed, NoResult, OneResult, Results, NoParams, Param, SimpleTree, Alone, Step, Assign, Update, Define, ValueSpecTree}
 use Rattle.go_open_core.specs.Blocks.{is_listed, list_name}
-use Rattle.go_part_core.specs.walk_core.Ends.{is_blank_target}
+use Rattle.go_walk_core.specs.Ends.{is_blank_target}
 use Rattle.go_local_core.specs.Outline.{idents}
 use Rattle.go_local_core.specs.Steps.{Piece, Header, Spec, Act, Condition, Given}
-use Rattle.go_operand_core.specs.TypeRules.{TypeRules}
-use Rattle.go_part_core.specs.denote_core.declared.things.Stand.TheVariants as stands
-use Rattle.go_part_core.specs.denote_core.declared.things.Denoted.{Denoted}
-use Rattle.go_part_core.specs.denote_core.declared.things.Argument.{Argument}
-use Rattle.go_part_core.specs.denote_core.declared.things.Argument.TheVariants as arguments
-use Rattle.go_part_core.specs.denote_core.Arguments.{argument_of, arguments_of, is_free}
-use Rattle.go_part_core.specs.statement_core.declared.targets.Target.{Target}
-use Rattle.go_part_core.specs.statement_core.declared.targets.Target.TheVariants as targets
-use Rattle.go_part_core.specs.statement_core.Targets.{target_of}
-use Rattle.go_part_core.specs.statement_core.Assignments.{assignment_rule}
-use Rattle.go_part_core.specs.statement_core.Declarations.{declared_types, variables_rule, is_initial, initial_argument, initials_rule, initial_types, short_types}
-use Rattle.go_part_core.specs.statement_core.Returns.{return_rule}
-use Rattle.go_part_core.specs.statement_core.Statements.{statement_rule, condition_rule}
-use Rattle.go_part_core.specs.statement_core.Updates.{update_rule, increment_rule}
-use Rattle.go_part_core.specs.statement_core.Constants.{constants_rule, constant_answer}
-use Rattle.go_part_core.specs.statement_core.Locality.{type_if_written, StatementsAreLocal}
-use Rattle.go_part_core.specs.statement_core.Alike.{local}
-use Rattle.go_part_core.specs.expr_core.Looks.{Looks, look_of_place}
-use Rattle.go_part_core.specs.expr_core.Places.{start}
-use Rattle.go_part_core.specs.expr_core.Lists.{is_list, denoted_exprs, exprs_faults}
-use Rattle.go_part_core.specs.expr_core.Denoting as denoting
-use Rattle.go_part_core.specs.expr_core.Denoting.{denoted, ident_answer}
-use Rattle.go_part_core.specs.expr_core.Uses.{uses}
-use Rattle.go_part_core.specs.expr_core.Faults.{fault_at, listed_rule, faults, member_faults, operand_faults}
-use Rattle.go_part_core.specs.piece_core.Values.{variable, is_call_alone, list_start, behind, given, is_unknown, list_uses, list_faults}
-use Rattle.go_part_core.specs.piece_core.Types.{type_faults, some_written_type, some_type_uses, some_type_faults}
-use Rattle.go_part_core.specs.piece_core.Targets.{target, target_uses, target_faults, targets_uses, targets_faults, old_target, short_target, flag_of, flags_behind, short_targets}
-use Rattle.go_part_core.specs.piece_core.Targets as lefts
-use Rattle.go_part_core.specs.piece_core.Specifications.{names_start, values_uses, values_faults, values_given, spec_faults, variables_faults, variable_types, constant_fault, each_constant_faults, constants_faults, constant_value, constant_values, own_faults, names_values, initials_faults, own_outer_faults, outer_faults, outer_values}
-use Rattle.go_part_core.specs.piece_core.Headers.{receiver_uses, receiver_type, some_starred, named_receiver, receiver_types, of_entry, entry_types, types_of_result, types_of_signature, params_faults, result_faults, signature_faults, header_types, returned_types}
-use Rattle.go_part_core.specs.piece_core.Statements.{callee_of, operand_argument, simple_uses, simple_faults, short_name_types}
-use Rattle.go_part_core.specs.piece_core.Pieces.{piece_uses, piece_faults, piece_values, simple_values}
+use Rattle.go_emit_core.specs.operand_core.TypeRules.{TypeRules}
+use Rattle.go_emit_core.specs.denote_core.declared.things.Stand.TheVariants as stands
+use Rattle.go_emit_core.specs.denote_core.declared.things.Denoted.{Denoted}
+use Rattle.go_emit_core.specs.denote_core.declared.things.Argument.{Argument}
+use Rattle.go_emit_core.specs.denote_core.declared.things.Argument.TheVariants as arguments
+use Rattle.go_emit_core.specs.denote_core.Arguments.{argument_of, arguments_of, is_free}
+use Rattle.go_emit_core.specs.statement_core.declared.targets.Target.{Target}
+use Rattle.go_emit_core.specs.statement_core.declared.targets.Target.TheVariants as targets
+use Rattle.go_emit_core.specs.statement_core.Targets.{target_of}
+use Rattle.go_emit_core.specs.statement_core.Assignments.{assignment_rule}
+use Rattle.go_emit_core.specs.statement_core.Declarations.{declared_types, variables_rule, is_initial, initial_argument, initials_rule, initial_types, short_types}
+use Rattle.go_emit_core.specs.statement_core.Returns.{return_rule}
+use Rattle.go_emit_core.specs.statement_core.Statements.{statement_rule, condition_rule}
+use Rattle.go_emit_core.specs.statement_core.Updates.{update_rule, increment_rule}
+use Rattle.go_emit_core.specs.statement_core.Constants.{constants_rule, constant_answer}
+use Rattle.go_emit_core.specs.statement_core.Locality.{type_if_written, StatementsAreLocal}
+use Rattle.go_emit_core.specs.statement_core.Alike.{local}
+use Rattle.go_emit_core.specs.expr_core.Looks.{Looks, look_of_place}
+use Rattle.go_emit_core.specs.expr_core.Places.{start}
+use Rattle.go_emit_core.specs.expr_core.Lists.{is_list, denoted_exprs, exprs_faults}
+use Rattle.go_emit_core.specs.expr_core.Denoting as denoting
+use Rattle.go_emit_core.specs.expr_core.Denoting.{denoted, ident_answer}
+use Rattle.go_emit_core.specs.expr_core.Uses.{uses}
+use Rattle.go_emit_core.specs.expr_core.Faults.{fault_at, listed_rule, faults, member_faults, operand_faults}
+use Rattle.go_emit_core.specs.piece_core.Values.{variable, is_call_alone, list_start, behind, given, is_unknown, list_uses, list_faults}
+use Rattle.go_emit_core.specs.piece_core.Types.{type_faults, some_written_type, some_type_uses, some_type_faults}
+use Rattle.go_emit_core.specs.piece_core.Targets.{target, target_uses, target_faults, targets_uses, targets_faults, old_target, short_target, flag_of, flags_behind, short_targets}
+use Rattle.go_emit_core.specs.piece_core.Targets as lefts
+use Rattle.go_emit_core.specs.piece_core.Specifications.{names_start, values_uses, values_faults, values_given, spec_faults, variables_faults, variable_types, constant_fault, each_constant_faults, constants_faults, constant_value, constant_values, own_faults, names_values, initials_faults, own_outer_faults, outer_faults, outer_values}
+use Rattle.go_emit_core.specs.piece_core.Headers.{receiver_uses, receiver_type, some_starred, named_receiver, receiver_types, of_entry, entry_types, types_of_result, types_of_signature, params_faults, result_faults, signature_faults, header_types, returned_types}
+use Rattle.go_emit_core.specs.piece_core.Statements.{callee_of, operand_argument, simple_uses, simple_faults, short_name_types}
+use Rattle.go_emit_core.specs.piece_core.Pieces.{piece_uses, piece_faults, piece_values, simple_values}
 use Rattle.go_near_core.specs.Near.{NearRest, IfAny, NearOperand, NearArgument, NearDenoted}
 use Rattle.go_near_core.specs.Looks.{AreClosed, LooksAgree}
 use Rattle.go_near_core.specs.Pieces.{IsPieceNearby, IsOuterNearby}
@@ -52,7 +52,7 @@ use Rattle.go_near_core.proofs.Closing.{either, argument_near, arguments_near}
 use Rattle.go_near_core.proofs.Agreeing.{arguments_same}
 use Rattle.go_near_core.proofs.Expressions.{ident_near, ident_same, named_near, named_same, written_near, written_same, denoted_near, denoted_same, name_uses, type_used, signature_used, used_same, operand_with, written_faults, faults_same}
 use Rattle.go_near_core.proofs.Statements.{NearTarget, copies, pairs_alike, results_alike, each_given, each_type, wanted_alike, under_alike, form_alike, condition_alike, update_same, increment_same, constants_same, declared_near, short_near, constant_near, target_near}
-use Rattle.go_part_core.specs.statement_core.Locality.{Each}
+use Rattle.go_emit_core.specs.statement_core.Locality.{Each}
 
 pub each_both : {X : Type 0} (Is : X → Type 0) (xs ys : List X) → Each Is xs → Each Is ys → Each Is (xs ++ ys)
 each_both Is [] ys h k = k

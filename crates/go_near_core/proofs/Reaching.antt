@@ -2,31 +2,31 @@
 use Rattle.std.proofs.Common.{◌≡◌, ℕ, Bool, List, [], ◌∷◌, refl, sym, ap, ◌∙◌, arith, Contains}
 use Rattle.std.specs.Prelude.{Some, None, Result, Ok, Err, ⊤, if◌then◌else◌, not}
 use Rattle.std.proofs.lemmas.List.Elements.{Contains-append_left, Contains-append_right}
-use Rattle.go_operand_core.specs.decl_core.declared.keys.DeclKey.{DeclKey}
-use Rattle.go_operand_core.specs.term_core.Terms.{Term, NoType, Predeclared, ErrorType, Defined, PointerTo, StructOf, InterfaceOf, Sign, SignOf, Terms, NoTerm, ATerm, is_no_type, term_keys, terms_keys}
-use Rattle.go_part_core.specs.table_core.Entries.{Entry, find_entry, underlying_in, entry_keys}
-use Rattle.go_part_core.specs.table_core.Assign.{AValue}
-use Rattle.go_part_core.specs.table_core.Laws.{LeadsTo, IsReached, AgreeFrom}
-use Rattle.go_part_core.specs.table_core.Meanings.{underlying_local}
-use Rattle.go_part_core.specs.embed_core.Owners.{Found, AFieldOf, AMethodOf, AnInterfaces, TheErrorMethod}
-use Rattle.go_part_core.specs.level_core.Selectors.{Searched, Refused, In, FieldsIn, searched, IsFoundAs}
-use Rattle.go_part_core.specs.select_core.Laws.{found_keys}
-use Rattle.go_part_core.specs.select_core.Local.{ReachesWhat, reach_searched, leads_covered, named_covered}
+use Rattle.go_term_core.specs.decl_core.declared.keys.DeclKey.{DeclKey}
+use Rattle.go_term_core.specs.Terms.{Term, NoType, Predeclared, ErrorType, Defined, PointerTo, StructOf, InterfaceOf, Sign, SignOf, Terms, NoTerm, ATerm, is_no_type, term_keys, terms_keys}
+use Rattle.go_emit_core.specs.table_core.Entries.{Entry, find_entry, underlying_in, entry_keys}
+use Rattle.go_emit_core.specs.table_core.Assign.{AValue}
+use Rattle.go_emit_core.specs.table_core.Laws.{LeadsTo, IsReached, AgreeFrom}
+use Rattle.go_emit_core.specs.table_core.Meanings.{underlying_local}
+use Rattle.go_emit_core.specs.embed_core.Owners.{Found, AFieldOf, AMethodOf, AnInterfaces, TheErrorMethod}
+use Rattle.go_emit_core.specs.level_core.Selectors.{Searched, Refused, In, FieldsIn, searched, IsFoundAs}
+use Rattle.go_emit_core.specs.select_core.Laws.{found_keys}
+use Rattle.go_emit_core.specs.select_core.Local.{ReachesWhat, reach_searched, leads_covered, named_covered}
 use Rattle.go_text_core.specs.declared.rule.Rule.{Rule}
-use Rattle.go_part_core.specs.decide_core.Conversion.{is_type_term}
-use Rattle.go_part_core.specs.decide_core.Selecting.{Choice, selected_of}
-use Rattle.go_part_core.specs.decide_core.Rules.{form_under, term_rules, typed, all_typed, param_types_of, results_of, member_selection}
-use Rattle.go_part_core.specs.decide_core.Localities.{decisions_local}
-use Rattle.go_part_core.specs.decide_core.Choosing.{IsOutcome, outcome}
-use Rattle.go_part_core.specs.denote_core.declared.things.Selection.{Selection}
-use Rattle.go_part_core.specs.denote_core.declared.things.Selection.TheVariants as selections
-use Rattle.go_part_core.specs.handle_core.Declarations.{Declaration, declaration_found}
-use Rattle.go_part_core.specs.handle_core.Names.{shown_choice, selection_in}
+use Rattle.go_emit_core.specs.decide_core.Conversion.{is_type_term}
+use Rattle.go_emit_core.specs.decide_core.Selecting.{Choice, selected_of}
+use Rattle.go_emit_core.specs.decide_core.Rules.{form_under, term_rules, typed, all_typed, param_types_of, results_of, member_selection}
+use Rattle.go_emit_core.specs.decide_core.Localities.{decisions_local}
+use Rattle.go_emit_core.specs.decide_core.Choosing.{IsOutcome, outcome}
+use Rattle.go_emit_core.specs.denote_core.declared.things.Selection.{Selection}
+use Rattle.go_emit_core.specs.denote_core.declared.things.Selection.TheVariants as selections
+use Rattle.go_emit_core.specs.handle_core.Declarations.{Declaration, declaration_found}
+use Rattle.go_emit_core.specs.handle_core.Names.{shown_choice, selection_in}
 use Rattle.go_near_core.specs.Near.{IfAny, NearForm, NearSelection}
 use Rattle.go_near_core.specs.Looks.{AreRulesClosed, RulesAgree}
 use Rattle.go_near_core.specs.Tables.{Nearby, IsNear, IsNearSign, near_rest, AgreeOn}
 use Rattle.go_near_core.proofs.Closing.{either}
-use Rattle.go_part_core.specs.statement_core.Locality.{Each}
+use Rattle.go_emit_core.specs.statement_core.Locality.{Each}
 
 none_in : (near : Nearby) (k : DeclKey) → Contains [] k → near.types k
 none_in near k h = absurd (omega (arith, h.1))

@@ -4,22 +4,22 @@ use Rattle.std.specs.Prelude.{Option, if◌then◌else◌, bytes_eq}
 use Rattle.std.specs.Str.{chars}
 use Rattle.std.proofs.lemmas.List.Elements.{Contains-append_left, Contains-append_right}
 use Rattle.go_text_core.specs.Text.{exported}
-use Rattle.go_operand_core.specs.decl_core.declared.keys.DeclKey.{DeclKey}
-use Rattle.go_operand_core.specs.term_core.declared.term.MemberPlace.{MemberPlace}
-use Rattle.go_operand_core.specs.term_core.Terms.{Term, NoType, Predeclared, ErrorType, Defined, PointerTo, StructOf, InterfaceOf, Fields, NoField, AField, term_keys, fields_keys}
-use Rattle.go_part_core.specs.table_core.Entries.{find_entry, has_method}
-use Rattle.go_part_core.specs.table_core.Meanings.{underlying_local}
-use Rattle.go_part_core.specs.embed_core.Owners.{OwnerModel, path_of_term, owner_in}
-use Rattle.go_part_core.specs.decide_core.Rules.{term_rules}
-use Rattle.go_part_core.specs.handle_core.Declarations.{InFile}
-use Rattle.go_part_core.specs.handle_core.Names.{selection_in}
-use Rattle.go_part_core.specs.expr_core.Looks.{WrittenRules}
-use Rattle.go_part_core.specs.face_core.Faces.{TheFace}
+use Rattle.go_term_core.specs.decl_core.declared.keys.DeclKey.{DeclKey}
+use Rattle.go_term_core.specs.declared.term.MemberPlace.{MemberPlace}
+use Rattle.go_term_core.specs.Terms.{Term, NoType, Predeclared, ErrorType, Defined, PointerTo, StructOf, InterfaceOf, Fields, NoField, AField, term_keys, fields_keys}
+use Rattle.go_emit_core.specs.table_core.Entries.{find_entry, has_method}
+use Rattle.go_emit_core.specs.table_core.Meanings.{underlying_local}
+use Rattle.go_emit_core.specs.embed_core.Owners.{OwnerModel, path_of_term, owner_in}
+use Rattle.go_emit_core.specs.decide_core.Rules.{term_rules}
+use Rattle.go_emit_core.specs.handle_core.Declarations.{InFile}
+use Rattle.go_emit_core.specs.handle_core.Names.{selection_in}
+use Rattle.go_emit_core.specs.expr_core.Looks.{WrittenRules}
+use Rattle.go_emit_core.specs.face_core.Faces.{TheFace}
 use Rattle.go_local_core.specs.Binding as binding
-use Rattle.go_part_core.specs.env_core.declared.meaning.Meaning.{Meaning}
-use Rattle.go_part_core.specs.env_core.Scenes.{SceneModel}
-use Rattle.go_part_core.specs.env_core.Fields.{field_known, fields_seen, term_seen, owner_seen}
-use Rattle.go_part_core.specs.env_core.Looks.{looks_in}
+use Rattle.go_emit_core.specs.env_core.declared.meaning.Meaning.{Meaning}
+use Rattle.go_emit_core.specs.env_core.Scenes.{SceneModel}
+use Rattle.go_emit_core.specs.env_core.Fields.{field_known, fields_seen, term_seen, owner_seen}
+use Rattle.go_emit_core.specs.env_core.Looks.{looks_in}
 use Rattle.go_near_core.specs.Near.{NearField}
 use Rattle.go_near_core.specs.Looks.{AreClosed, RulesAgree, LooksAgree}
 use Rattle.go_near_core.specs.Tables.{near_by, Nearby, IsNear, near_rest}
@@ -28,7 +28,7 @@ use Rattle.go_near_core.specs.Laws.{TablesLookNearby, ScenesLookNearby}
 use Rattle.go_near_core.proofs.Closing.{either}
 use Rattle.go_near_core.proofs.Reaching.{agree_from, turned, under_near, under_same, rules_closed, rules_agree, typed_near, typed_same, params_near, results_near, params_same, results_same, select_near, select_same}
 use Rattle.go_near_core.proofs.Expressions.{nearby}
-use Rattle.go_part_core.specs.statement_core.Locality.{Each}
+use Rattle.go_emit_core.specs.statement_core.Locality.{Each}
 
 module _ (near : Nearby) (s t : SceneModel) (law : ScenesAgree near s t) where
   abbrev NearFields : Fields → Type 0

@@ -6,29 +6,29 @@ use Rattle.go_text_core.specs.declared.rule.Rule.{Rule}
 use Rattle.go_text_core.specs.declared.rule.Rule.TheVariants.{Y3, Y4}
 use Rattle.go_token_core.specs.declared.kind.Operator.{Operator}
 use Rattle.go_token_core.specs.declared.kind.Operator.TheVariants as operators
-use Rattle.go_operand_core.specs.constant_core.declared.values.Constant.{Constant}
-use Rattle.go_operand_core.specs.constant_core.declared.values.Constant.TheVariants as constants
-use Rattle.go_operand_core.specs.term_core.declared.term.Basic.{Basic}
-use Rattle.go_operand_core.specs.declared.types.ValueType.{ValueType}
-use Rattle.go_operand_core.specs.declared.types.ValueType.TheVariants as value_types
-use Rattle.go_operand_core.specs.declared.types.Operand.{Operand}
-use Rattle.go_operand_core.specs.TypeRules.{TypeRules}
-use Rattle.go_operand_core.specs.Values.{form_basic}
-use Rattle.go_operand_core.specs.Assign.{assignable_to}
-use Rattle.go_operand_core.specs.Updates.{broken, update_with, operator_of}
-use Rattle.go_operand_core.specs.Operators.{refused_binary, value}
-use Rattle.go_part_core.specs.denote_core.declared.things.Argument.{Argument}
-use Rattle.go_part_core.specs.denote_core.declared.things.Argument.TheVariants as arguments
-use Rattle.go_part_core.specs.denote_core.declared.things.Denoted.{Denoted}
-use Rattle.go_part_core.specs.denote_core.declared.things.Denoted.TheVariants as denotes
-use Rattle.go_part_core.specs.statement_core.declared.targets.Target.{Target}
-use Rattle.go_part_core.specs.statement_core.declared.targets.Target.TheVariants as targets
-use Rattle.go_part_core.specs.statement_core.declared.constants.ConstantAnswer.{ConstantAnswer}
-use Rattle.go_part_core.specs.statement_core.Targets.{target_of_value, no_single_value, target_of}
-use Rattle.go_part_core.specs.statement_core.Updates.{update_rule, increment_rule}
-use Rattle.go_part_core.specs.statement_core.Declarations.{given_type, declared_types, type_after, paired_types, short_types}
-use Rattle.go_part_core.specs.statement_core.Constants.{is_constant, constants_rule, operand_constant, own_value, of_own_type, of_no_type, assigned_value, answer_of_value, of_basic_type, of_type, constant_answer}
-use Rattle.go_part_core.specs.statement_core.Locality.{FitsAlike, ArgumentGivenAlike, target_wanted, EachPair, Each, TypeAlike, UnderAlike, FormAlike, ConditionAlike}
+use Rattle.go_constant_core.specs.declared.values.Constant.{Constant}
+use Rattle.go_constant_core.specs.declared.values.Constant.TheVariants as constants
+use Rattle.go_term_core.specs.declared.term.Basic.{Basic}
+use Rattle.go_emit_core.specs.operand_core.declared.types.ValueType.{ValueType}
+use Rattle.go_emit_core.specs.operand_core.declared.types.ValueType.TheVariants as value_types
+use Rattle.go_emit_core.specs.operand_core.declared.types.Operand.{Operand}
+use Rattle.go_emit_core.specs.operand_core.TypeRules.{TypeRules}
+use Rattle.go_emit_core.specs.operand_core.Values.{form_basic}
+use Rattle.go_emit_core.specs.operand_core.Assign.{assignable_to}
+use Rattle.go_emit_core.specs.operand_core.Updates.{broken, update_with, operator_of}
+use Rattle.go_emit_core.specs.operand_core.Operators.{refused_binary, value}
+use Rattle.go_emit_core.specs.denote_core.declared.things.Argument.{Argument}
+use Rattle.go_emit_core.specs.denote_core.declared.things.Argument.TheVariants as arguments
+use Rattle.go_emit_core.specs.denote_core.declared.things.Denoted.{Denoted}
+use Rattle.go_emit_core.specs.denote_core.declared.things.Denoted.TheVariants as denotes
+use Rattle.go_emit_core.specs.statement_core.declared.targets.Target.{Target}
+use Rattle.go_emit_core.specs.statement_core.declared.targets.Target.TheVariants as targets
+use Rattle.go_emit_core.specs.statement_core.declared.constants.ConstantAnswer.{ConstantAnswer}
+use Rattle.go_emit_core.specs.statement_core.Targets.{target_of_value, no_single_value, target_of}
+use Rattle.go_emit_core.specs.statement_core.Updates.{update_rule, increment_rule}
+use Rattle.go_emit_core.specs.statement_core.Declarations.{given_type, declared_types, type_after, paired_types, short_types}
+use Rattle.go_emit_core.specs.statement_core.Constants.{is_constant, constants_rule, operand_constant, own_value, of_own_type, of_no_type, assigned_value, answer_of_value, of_basic_type, of_type, constant_answer}
+use Rattle.go_emit_core.specs.statement_core.Locality.{FitsAlike, ArgumentGivenAlike, target_wanted, EachPair, Each, TypeAlike, UnderAlike, FormAlike, ConditionAlike}
 use Rattle.go_near_core.specs.Near.{NearRest, IfAny, NearValue, NearOperand, NearArgument, NearDenoted}
 use Rattle.go_near_core.specs.Looks.{AreRulesClosed, RulesAgree}
 use Rattle.go_near_core.proofs.Closing.{either, default_near}

@@ -7,13 +7,13 @@ use Rattle.go_tree_nodes.specs.declared.decls.ValueKind.{ValueKind}
 use Rattle.go_tree_nodes.specs.declared.decls.ValueKind.TheVariants as kinds
 use Rattle.go_tree_nodes.specs.Trees.{Separated, One, Then, ExprTree, Specs, ValueSpecTree, ValueTree, TypeDeclTree, of_specs}
 use Rattle.go_local_core.specs.Steps.{Spec}
-use Rattle.go_part_core.specs.denote_core.declared.things.Stand.TheVariants as stands
-use Rattle.go_part_core.specs.expr_core.Looks.{Looks}
-use Rattle.go_part_core.specs.expr_core.Places.{start}
-use Rattle.go_part_core.specs.expr_core.Faults.{fault_at}
-use Rattle.go_part_core.specs.top_core.Initial.{initial_rule, list_initial_faults, values_initial_faults, initial_faults}
-use Rattle.go_part_core.specs.top_core.Tops.{top_spec_faults, value_decl_uses, value_decl_faults, type_spec_uses, type_decl_uses}
-use Rattle.go_part_core.specs.piece_core.Specifications.{spec_uses}
+use Rattle.go_emit_core.specs.denote_core.declared.things.Stand.TheVariants as stands
+use Rattle.go_emit_core.specs.expr_core.Looks.{Looks}
+use Rattle.go_emit_core.specs.expr_core.Places.{start}
+use Rattle.go_emit_core.specs.expr_core.Faults.{fault_at}
+use Rattle.go_emit_core.specs.top_core.Initial.{initial_rule, list_initial_faults, values_initial_faults, initial_faults}
+use Rattle.go_emit_core.specs.top_core.Tops.{top_spec_faults, value_decl_uses, value_decl_faults, type_spec_uses, type_decl_uses}
+use Rattle.go_emit_core.specs.piece_core.Specifications.{spec_uses}
 use Rattle.go_near_core.specs.Near.{NearRest}
 use Rattle.go_near_core.specs.Looks.{AreClosed, LooksAgree}
 use Rattle.go_near_core.proofs.Expressions.{denoted_same, type_used}

@@ -12,7 +12,7 @@ use Rattle.go_local_core.specs.mirrors.Walk.{Names, latest, look_in, is_new, wit
 use Rattle.go_near_core.specs.Near.{IfAny}
 use Rattle.go_near_core.proofs.Closing.{either}
 use Rattle.go_near_core.proofs.Pieces.{each_both}
-use Rattle.go_part_core.specs.statement_core.Locality.{Each}
+use Rattle.go_emit_core.specs.statement_core.Locality.{Each}
 
 or_near : {X : Type 0} (Near : X → Type 0) (a b : Option X) → IfAny Near a → IfAny Near b → IfAny Near (or_else a b)
 or_near Near None b h k = k

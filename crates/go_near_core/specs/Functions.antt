@@ -1,16 +1,16 @@
 -- Two stands in one file of a package that agree on what is near.
 use Rattle.std.specs.Prelude.{◌≡◌, ℕ, List, Option}
 use Rattle.go_tree_nodes.specs.declared.types.TypeName.{TypeName}
-use Rattle.go_part_core.specs.table_core.Entries.{Entry}
-use Rattle.go_part_core.specs.handle_core.Declarations.{Declaration}
-use Rattle.go_part_core.specs.written_core.Written as types
-use Rattle.go_part_core.specs.written_core.Written.{InFile}
-use Rattle.go_part_core.specs.names_core.declared.meaning.Outside.{Outside}
-use Rattle.go_part_core.specs.face_core.Faces.{TheFace}
-use Rattle.go_part_core.specs.env_core.Scenes.{SceneModel}
-use Rattle.go_part_core.specs.env_core.Found.{found_outside, found_exported}
-use Rattle.go_part_core.specs.body_core.Rules.{outside_in}
-use Rattle.go_part_core.specs.func_core.Stands.{FileStand}
+use Rattle.go_emit_core.specs.table_core.Entries.{Entry}
+use Rattle.go_emit_core.specs.handle_core.Declarations.{Declaration}
+use Rattle.go_emit_core.specs.written_core.Written as types
+use Rattle.go_emit_core.specs.written_core.Written.{InFile}
+use Rattle.go_emit_core.specs.names_core.declared.meaning.Outside.{Outside}
+use Rattle.go_emit_core.specs.face_core.Faces.{TheFace}
+use Rattle.go_emit_core.specs.env_core.Scenes.{SceneModel}
+use Rattle.go_emit_core.specs.env_core.Found.{found_outside, found_exported}
+use Rattle.go_emit_core.specs.body_core.Rules.{outside_in}
+use Rattle.go_emit_core.specs.func_core.Stands.{FileStand}
 use Rattle.go_near_core.specs.Near.{NearFound, NearExported}
 use Rattle.go_near_core.specs.Tables.{Nearby, IsNear, IsNearPackage, near_rest}
 use Rattle.go_near_core.specs.Scenes.{ScenesAgree}

@@ -1,39 +1,39 @@
 -- Laws of locality in types: what is asked of the table of types is asked of what is near alone.
 use Rattle.std.specs.Prelude.{◌≡◌, ℕ, List, Option}
 use Rattle.go_tree_nodes.specs.Trees.{ExprTree, FuncTree, FileTree}
-use Rattle.go_part_core.specs.block_core.declared.imports.Imported.{Imported}
-use Rattle.go_part_core.specs.written_core.Written as types
-use Rattle.go_part_core.specs.written_core.Written.{InFile}
-use Rattle.go_part_core.specs.denote_core.declared.things.Stand.{Stand}
-use Rattle.go_part_core.specs.expr_core.Looks.{Looks}
-use Rattle.go_part_core.specs.expr_core.Denoting as denoting
-use Rattle.go_part_core.specs.expr_core.Uses as all_uses
-use Rattle.go_part_core.specs.expr_core.Faults as all_faults
-use Rattle.go_operand_core.specs.term_core.Terms.{Term, Sign}
-use Rattle.go_part_core.specs.table_core.Entries.{Entry, find_entry}
-use Rattle.go_part_core.specs.table_core.Laws.{AgreeFrom}
-use Rattle.go_part_core.specs.decide_core.Rules.{term_rules, param_types_of, results_of}
-use Rattle.go_part_core.specs.handle_core.Names.{selection_in}
+use Rattle.go_emit_core.specs.block_core.declared.imports.Imported.{Imported}
+use Rattle.go_emit_core.specs.written_core.Written as types
+use Rattle.go_emit_core.specs.written_core.Written.{InFile}
+use Rattle.go_emit_core.specs.denote_core.declared.things.Stand.{Stand}
+use Rattle.go_emit_core.specs.expr_core.Looks.{Looks}
+use Rattle.go_emit_core.specs.expr_core.Denoting as denoting
+use Rattle.go_emit_core.specs.expr_core.Uses as all_uses
+use Rattle.go_emit_core.specs.expr_core.Faults as all_faults
+use Rattle.go_term_core.specs.Terms.{Term, Sign}
+use Rattle.go_emit_core.specs.table_core.Entries.{Entry, find_entry}
+use Rattle.go_emit_core.specs.table_core.Laws.{AgreeFrom}
+use Rattle.go_emit_core.specs.decide_core.Rules.{term_rules, param_types_of, results_of}
+use Rattle.go_emit_core.specs.handle_core.Names.{selection_in}
 use Rattle.go_local_core.specs.Binding.{NameLook}
-use Rattle.go_part_core.specs.expr_core.Looks.{WrittenRules}
-use Rattle.go_part_core.specs.face_core.Faces.{TheFace}
-use Rattle.go_part_core.specs.env_core.declared.meaning.Meaning.{Meaning}
-use Rattle.go_part_core.specs.env_core.Scenes.{SceneModel}
-use Rattle.go_part_core.specs.env_core.Fields.{literals_in}
-use Rattle.go_part_core.specs.env_core.Looks.{TheLooks, looks_in}
+use Rattle.go_emit_core.specs.expr_core.Looks.{WrittenRules}
+use Rattle.go_emit_core.specs.face_core.Faces.{TheFace}
+use Rattle.go_emit_core.specs.env_core.declared.meaning.Meaning.{Meaning}
+use Rattle.go_emit_core.specs.env_core.Scenes.{SceneModel}
+use Rattle.go_emit_core.specs.env_core.Fields.{literals_in}
+use Rattle.go_emit_core.specs.env_core.Looks.{TheLooks, looks_in}
 use Rattle.go_near_core.specs.Near.{NearRest, IfAny, NearField, NearSelection, NearDenoted}
 use Rattle.go_near_core.specs.Looks.{AreRulesClosed, AreClosed, RulesAgree, LooksAgree}
 use Rattle.go_near_core.specs.Tables.{NearTests, near_by, IsNear, IsNearSign, near_rest, AgreeOn}
 use Rattle.go_local_core.specs.Steps.{Piece}
 use Rattle.go_near_core.specs.Pieces.{IsPieceNearby}
-use Rattle.go_part_core.specs.func_core.Functions.{checked_func}
-use Rattle.go_part_core.specs.file_core.Files.{file_uses, file_faults, file_locals}
-use Rattle.go_part_core.specs.entry_core.Outlines.{FileOutline}
-use Rattle.go_part_core.specs.face_core.Written.{package_written}
+use Rattle.go_emit_core.specs.func_core.Functions.{checked_func}
+use Rattle.go_emit_core.specs.file_core.Files.{file_uses, file_faults, file_locals}
+use Rattle.go_emit_core.specs.entry_core.Outlines.{FileOutline}
+use Rattle.go_emit_core.specs.face_core.Written.{package_written}
 use Rattle.go_near_core.specs.Packages.{PackageOf, stand_over, IsPackageNear}
 use Rattle.go_near_core.specs.Functions.{stand, with_types, IsStandNear, StandsAgree}
 use Rattle.go_near_core.specs.Scenes.{ScenesAgree, NamesAgree, WrittenAgree}
-use Rattle.go_part_core.specs.statement_core.Locality.{Each}
+use Rattle.go_emit_core.specs.statement_core.Locality.{Each}
 
 -- what is asked of near types is the same in two tables that agree on what is near, and is near: what lies under a type, what is decided of types, what
 -- a selector chooses, the types of parameters and of results

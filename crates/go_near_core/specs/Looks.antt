@@ -2,10 +2,10 @@
 use Rattle.std.specs.Prelude.{◌≡◌, ℕ, List, Option}
 use Rattle.go_tree_nodes.specs.declared.types.TypeName.{TypeName}
 use Rattle.go_tree_nodes.specs.Trees.{TypeTree}
-use Rattle.go_operand_core.specs.TypeRules.{TypeRules}
-use Rattle.go_part_core.specs.expr_core.Looks.{Looks}
+use Rattle.go_emit_core.specs.operand_core.TypeRules.{TypeRules}
+use Rattle.go_emit_core.specs.expr_core.Looks.{Looks}
 use Rattle.go_near_core.specs.Near.{NearRest, IfAny, NearForm, NearField, NearFound, NearExported, NearSelection}
-use Rattle.go_part_core.specs.statement_core.Locality.{Each}
+use Rattle.go_emit_core.specs.statement_core.Locality.{Each}
 
 -- the rules of types lead from near types to near ones, and the predeclared types are near
 pub record AreRulesClosed {T : Type 0} (Near : T → Type 0) (rules : TypeRules T) : Type 0 where

@@ -1,24 +1,24 @@
 -- What expressions are judged by, where all types, signatures and packages in it are near: near is any property of types, one of signatures and one of
 -- the packages that names stand for.
 use Rattle.std.specs.Prelude.{[], ◌∷◌, Option, Some, None, Result, Ok, Err, ⊤}
-use Rattle.go_operand_core.specs.declared.types.ValueType.{ValueType}
-use Rattle.go_operand_core.specs.declared.types.ValueType.TheVariants as value_types
-use Rattle.go_operand_core.specs.declared.types.TypeForm.{TypeForm}
-use Rattle.go_operand_core.specs.declared.types.TypeForm.TheVariants as forms
-use Rattle.go_operand_core.specs.declared.types.Operand.{Operand}
-use Rattle.go_part_core.specs.denote_core.declared.things.Found.{Found}
-use Rattle.go_part_core.specs.denote_core.declared.things.Found.TheVariants as founds
-use Rattle.go_part_core.specs.denote_core.declared.things.Exported.{Exported}
-use Rattle.go_part_core.specs.denote_core.declared.things.Exported.TheVariants as exporteds
-use Rattle.go_part_core.specs.denote_core.declared.things.Selection.{Selection}
-use Rattle.go_part_core.specs.denote_core.declared.things.Selection.TheVariants as selections
-use Rattle.go_part_core.specs.denote_core.declared.things.Denoted.{Denoted}
-use Rattle.go_part_core.specs.denote_core.declared.things.Denoted.TheVariants as denotes
-use Rattle.go_part_core.specs.denote_core.declared.things.Dot.{Dot}
-use Rattle.go_part_core.specs.denote_core.declared.things.Dot.TheVariants as dots
-use Rattle.go_part_core.specs.denote_core.declared.things.Argument.{Argument}
-use Rattle.go_part_core.specs.denote_core.declared.things.Argument.TheVariants as arguments
-use Rattle.go_part_core.specs.literal_core.Look.{FieldOf}
+use Rattle.go_emit_core.specs.operand_core.declared.types.ValueType.{ValueType}
+use Rattle.go_emit_core.specs.operand_core.declared.types.ValueType.TheVariants as value_types
+use Rattle.go_emit_core.specs.operand_core.declared.types.TypeForm.{TypeForm}
+use Rattle.go_emit_core.specs.operand_core.declared.types.TypeForm.TheVariants as forms
+use Rattle.go_emit_core.specs.operand_core.declared.types.Operand.{Operand}
+use Rattle.go_emit_core.specs.denote_core.declared.things.Found.{Found}
+use Rattle.go_emit_core.specs.denote_core.declared.things.Found.TheVariants as founds
+use Rattle.go_emit_core.specs.denote_core.declared.things.Exported.{Exported}
+use Rattle.go_emit_core.specs.denote_core.declared.things.Exported.TheVariants as exporteds
+use Rattle.go_emit_core.specs.denote_core.declared.things.Selection.{Selection}
+use Rattle.go_emit_core.specs.denote_core.declared.things.Selection.TheVariants as selections
+use Rattle.go_emit_core.specs.denote_core.declared.things.Denoted.{Denoted}
+use Rattle.go_emit_core.specs.denote_core.declared.things.Denoted.TheVariants as denotes
+use Rattle.go_emit_core.specs.denote_core.declared.things.Dot.{Dot}
+use Rattle.go_emit_core.specs.denote_core.declared.things.Dot.TheVariants as dots
+use Rattle.go_emit_core.specs.denote_core.declared.things.Argument.{Argument}
+use Rattle.go_emit_core.specs.denote_core.declared.things.Argument.TheVariants as arguments
+use Rattle.go_emit_core.specs.literal_core.Look.{FieldOf}
 
 -- what is near beside types: signatures, and the packages that names stand for
 pub record NearRest (S D : Type 0) : Type 1 where

@@ -1,22 +1,22 @@
 -- A package over tables of types that agree on what is near.
 use Rattle.std.specs.Prelude.{◌≡◌, ℕ, List, Option}
-use Rattle.go_operand_core.specs.decl_core.TopDecls.{TopDeclTree, TypeForm}
+use Rattle.go_term_core.specs.decl_core.TopDecls.{TopDeclTree, TypeForm}
 use Rattle.go_tree_nodes.specs.declared.types.TypeName.{TypeName}
 use Rattle.go_tree_nodes.specs.Trees.{TypeSpecTree}
-use Rattle.go_part_core.specs.block_core.Blocks.{BlocksModel}
-use Rattle.go_part_core.specs.table_core.Entries.{Entry}
-use Rattle.go_part_core.specs.entry_core.Entries.{file_at, type_key}
-use Rattle.go_part_core.specs.entry_core.Laws.{IsDeclaredInFile}
-use Rattle.go_part_core.specs.entry_core.Meanings.{Shows, file_meaning}
-use Rattle.go_part_core.specs.entry_core.Outlines.{FileOutline}
-use Rattle.go_part_core.specs.names_core.declared.meaning.Outside.{Outside}
-use Rattle.go_part_core.specs.handle_core.Declarations.{Declaration}
-use Rattle.go_part_core.specs.face_core.Faces.{TheFace}
-use Rattle.go_part_core.specs.face_core.Packages.{PackageFacesModel}
-use Rattle.go_part_core.specs.face_core.Written.{package_written}
-use Rattle.go_part_core.specs.env_core.Scenes.{SceneModel}
-use Rattle.go_part_core.specs.env_core.Found.{found_outside, found_exported}
-use Rattle.go_part_core.specs.func_core.Stands.{FileStand}
+use Rattle.go_emit_core.specs.block_core.Blocks.{BlocksModel}
+use Rattle.go_emit_core.specs.table_core.Entries.{Entry}
+use Rattle.go_emit_core.specs.entry_core.Entries.{file_at, type_key}
+use Rattle.go_emit_core.specs.entry_core.Laws.{IsDeclaredInFile}
+use Rattle.go_emit_core.specs.entry_core.Meanings.{Shows, file_meaning}
+use Rattle.go_emit_core.specs.entry_core.Outlines.{FileOutline}
+use Rattle.go_emit_core.specs.names_core.declared.meaning.Outside.{Outside}
+use Rattle.go_emit_core.specs.handle_core.Declarations.{Declaration}
+use Rattle.go_emit_core.specs.face_core.Faces.{TheFace}
+use Rattle.go_emit_core.specs.face_core.Packages.{PackageFacesModel}
+use Rattle.go_emit_core.specs.face_core.Written.{package_written}
+use Rattle.go_emit_core.specs.env_core.Scenes.{SceneModel}
+use Rattle.go_emit_core.specs.env_core.Found.{found_outside, found_exported}
+use Rattle.go_emit_core.specs.func_core.Stands.{FileStand}
 use Rattle.go_near_core.specs.Near.{NearFound, NearExported}
 use Rattle.go_near_core.specs.Tables.{Nearby, IsNear, IsNearPackage, near_rest}
 

@@ -3,11 +3,11 @@ use Rattle.std.specs.Prelude.{◌≡◌, Bool, List, Option}
 use Rattle.go_tree_nodes.specs.declared.decls.ValueKind.{ValueKind}
 use Rattle.go_tree_nodes.specs.Trees.{ValueSpecTree}
 use Rattle.go_local_core.specs.Steps.{Piece}
-use Rattle.go_part_core.specs.expr_core.Looks.{Looks}
-use Rattle.go_part_core.specs.piece_core.Pieces.{piece_uses, piece_faults, piece_values}
-use Rattle.go_part_core.specs.piece_core.Specifications.{outer_faults, outer_values}
+use Rattle.go_emit_core.specs.expr_core.Looks.{Looks}
+use Rattle.go_emit_core.specs.piece_core.Pieces.{piece_uses, piece_faults, piece_values}
+use Rattle.go_emit_core.specs.piece_core.Specifications.{outer_faults, outer_values}
 use Rattle.go_near_core.specs.Near.{IfAny, NearOperand}
-use Rattle.go_part_core.specs.statement_core.Locality.{Each}
+use Rattle.go_emit_core.specs.statement_core.Locality.{Each}
 
 -- in a function whose results have near types
 pub record IsPieceNearby {T S D P : Type 0} (Near : T → Type 0) (looks others : Looks T S D P) (p : Piece) : Type 0 where

@@ -2,14 +2,14 @@
 use Rattle.std.specs.Prelude.{◌≡◌, ℕ, List, Option}
 use Rattle.go_tree_nodes.specs.declared.types.TypeName.{TypeName}
 use Rattle.go_tree_nodes.specs.Trees.{TypeTree}
-use Rattle.go_operand_core.specs.term_core.Terms.{Term}
+use Rattle.go_term_core.specs.Terms.{Term}
 use Rattle.go_local_core.specs.Binding.{NameLook}
-use Rattle.go_part_core.specs.expr_core.Looks.{WrittenRules}
-use Rattle.go_part_core.specs.handle_core.Declarations.{Declaration}
-use Rattle.go_part_core.specs.face_core.Faces.{TheFace}
-use Rattle.go_part_core.specs.env_core.declared.meaning.Meaning.{Meaning}
-use Rattle.go_part_core.specs.env_core.Scenes.{SceneModel}
-use Rattle.go_part_core.specs.env_core.Found.{found_of, found_exported}
+use Rattle.go_emit_core.specs.expr_core.Looks.{WrittenRules}
+use Rattle.go_emit_core.specs.handle_core.Declarations.{Declaration}
+use Rattle.go_emit_core.specs.face_core.Faces.{TheFace}
+use Rattle.go_emit_core.specs.env_core.declared.meaning.Meaning.{Meaning}
+use Rattle.go_emit_core.specs.env_core.Scenes.{SceneModel}
+use Rattle.go_emit_core.specs.env_core.Found.{found_of, found_exported}
 use Rattle.go_near_core.specs.Near.{IfAny, NearFound, NearExported}
 use Rattle.go_near_core.specs.Tables.{Nearby, IsNear, IsNearPackage, near_rest, AgreeOn}
 

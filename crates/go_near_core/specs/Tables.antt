@@ -1,9 +1,9 @@
 -- What is near: declared types that lead to none beside themselves, packages that show no others, and what mentions no others.
 use Rattle.std.specs.Prelude.{◌≡◌, ℕ, Bool, true, List, Some, Contains, ⊤}
-use Rattle.go_operand_core.specs.decl_core.declared.keys.DeclKey.{DeclKey}
-use Rattle.go_operand_core.specs.term_core.Terms.{Term, Sign, term_keys, sign_keys}
-use Rattle.go_part_core.specs.table_core.Entries.{Entry, find_entry, entry_keys}
-use Rattle.go_part_core.specs.handle_core.Declarations.{Declaration, Universe, OfError, Package, InFile}
+use Rattle.go_term_core.specs.decl_core.declared.keys.DeclKey.{DeclKey}
+use Rattle.go_term_core.specs.Terms.{Term, Sign, term_keys, sign_keys}
+use Rattle.go_emit_core.specs.table_core.Entries.{Entry, find_entry, entry_keys}
+use Rattle.go_emit_core.specs.handle_core.Declarations.{Declaration, Universe, OfError, Package, InFile}
 use Rattle.go_near_core.specs.Near.{NearRest}
 
 -- any declared types, by their keys, and any packages, by their paths

@@ -1,3 +1,3 @@
 -- What the crates above name of go_decide_core.
-pub use Rattle.go_part_core.specs.decide_core.Conversion as Conversion
-pub use Rattle.go_part_core.specs.decide_core.Rules as Rules
+pub use Rattle.go_emit_core.specs.decide_core.Conversion as Conversion
+pub use Rattle.go_emit_core.specs.decide_core.Rules as Rules

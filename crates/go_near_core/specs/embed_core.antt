@@ -1,3 +1,3 @@
 -- What the crates above name of go_embed_core.
-pub use Rattle.go_part_core.specs.embed_core.Faults as Faults
-pub use Rattle.go_part_core.specs.embed_core.Telling as Telling
+pub use Rattle.go_emit_core.specs.embed_core.Faults as Faults
+pub use Rattle.go_emit_core.specs.embed_core.Telling as Telling

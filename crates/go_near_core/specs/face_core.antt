@@ -1,9 +1,9 @@
 -- What the crates above name of go_face_core.
-pub use Rattle.go_part_core.specs.face_core.Faces as Faces
-pub use Rattle.go_part_core.specs.face_core.Laws as Laws
-pub use Rattle.go_part_core.specs.face_core.Locality as Locality
-pub use Rattle.go_part_core.specs.face_core.Packages as Packages
-pub use Rattle.go_part_core.specs.face_core.Places as Places
-pub use Rattle.go_part_core.specs.face_core.Written as Written
-pub use Rattle.go_part_core.specs.face_core.codes as codes
-pub use Rattle.go_part_core.specs.face_core.declared as declared
+pub use Rattle.go_emit_core.specs.face_core.Faces as Faces
+pub use Rattle.go_emit_core.specs.face_core.Laws as Laws
+pub use Rattle.go_emit_core.specs.face_core.Locality as Locality
+pub use Rattle.go_emit_core.specs.face_core.Packages as Packages
+pub use Rattle.go_emit_core.specs.face_core.Places as Places
+pub use Rattle.go_emit_core.specs.face_core.Written as Written
+pub use Rattle.go_emit_core.specs.face_core.codes as codes
+pub use Rattle.go_emit_core.specs.face_core.declared as declared

@@ -1,2 +1,3 @@
 -- What the crates above name of go_operand_core.
-pub use Rattle.go_operand_core.specs.declared as declared
+pub use Rattle.go_emit_core.specs.operand_core.Values as Values
+pub use Rattle.go_emit_core.specs.operand_core.declared as declared

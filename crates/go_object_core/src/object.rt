@@ -4,7 +4,7 @@ ghost use Rattle.go_object_core.specs.Listing.{references_of};
 
 use go_instruction_core::Instruction;
 use go_path_core::ImportPath;
-use go_text_core::Name;
+use go_path_core::text_core::Name;
 
 /// A function as it runs. `D` says where something is declared.
 #[derive(Drop)]

@@ -292,5 +292,5 @@ impl OpenBlocks {
 
 /// What the crates above name of `go_text_core`.
 pub mod text_core {
-    pub use go_text_core::Rule;
+    pub use go_text_core::{Name, Rule, is_digit, is_exported, is_letter};
 }

@@ -12,8 +12,5 @@ pub mod Refusals
 pub mod Variables
 pub mod Converting
 pub mod constant_core
-pub mod decl_core
-pub mod term_core
 pub mod text_core
 pub mod tree_core
-pub mod tree_nodes

@@ -33,14 +33,6 @@ pub mod constant_core {
     pub use go_constant_core::{Constant, ConstantText, natural};
 }
 
-/// What the crates above name of `go_term_core`.
-pub mod term_core {
-    pub use go_term_core::{
-        Basic, Field, FieldLine, LocalPlace, MemberPlace, Params, Signature, TypeTerm, copy,
-        copy_signature, identical, identical_but_for_tags, is_no_type,
-    };
-}
-
 /// What the crates above name of `go_text_core`.
 pub mod text_core {
     pub use go_constant_core::text_core::Rule;
@@ -49,9 +41,4 @@ pub mod text_core {
 /// What the crates above name of `go_tree_core`.
 pub mod tree_core {
     pub use go_term_core::tree_core::Role;
-}
-
-/// What the crates above name of `go_tree_nodes`.
-pub mod tree_nodes {
-    pub use go_term_core::tree_nodes::Usage;
 }

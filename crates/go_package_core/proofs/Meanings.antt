@@ -4,18 +4,18 @@ use Rattle.std.specs.Prelude.{◌↔◌, Option, Some, Bool, Contains, slice_get
 use Rattle.std.specs.List.{AllZip, enumerate_from}
 use Rattle.go_tree_nodes.specs.Trees.{FileTree}
 use Rattle.go_ready_core.specs.table_core.Entries.{Entry, find_entry}
-use Rattle.go_file_core.specs.type_core.Meanings.{one_settled}
-use Rattle.go_file_core.specs.entry_core.Entries.{package_meanings}
+use Rattle.go_ready_core.specs.type_core.Meanings.{one_settled}
+use Rattle.go_ready_core.specs.entry_core.Entries.{package_meanings}
 use Rattle.go_ready_core.specs.fault_core.declared.places.PackageFault.{PackageFault}
 use Rattle.go_ready_core.specs.fault_core.TypeFaults.{faults_of_types}
-use Rattle.go_used_core.specs.handle_core.Declarations.{Declaration}
-use Rattle.go_used_core.specs.expr_core.Laws.{use_place}
-use Rattle.go_used_core.specs.report_core.Faults.{IsSettled}
-use Rattle.go_used_core.specs.report_core.Settled.{settled_are_one}
-use Rattle.go_used_core.specs.face_core.Faces.{TheFace}
-use Rattle.go_used_core.specs.face_core.Written.{decls_of}
-use Rattle.go_file_core.proofs.Occurring.{files_have_occurrences}
-use Rattle.go_used_core.specs.answer_core.Shown.{package_shown}
+use Rattle.go_ready_core.specs.handle_core.Declarations.{Declaration}
+use Rattle.go_ready_core.specs.expr_core.Laws.{use_place}
+use Rattle.go_ready_core.specs.report_core.Faults.{IsSettled}
+use Rattle.go_ready_core.specs.report_core.Settled.{settled_are_one}
+use Rattle.go_ready_core.specs.face_core.Faces.{TheFace}
+use Rattle.go_ready_core.specs.face_core.Written.{decls_of}
+use Rattle.go_ready_core.specs.file_core.Occurring.{files_have_occurrences}
+use Rattle.go_ready_core.specs.answer_core.Shown.{package_shown}
 use Rattle.go_ready_core.specs.Packages.{PackageIn, entries_in, outlines_in, scene_in}
 use Rattle.go_ready_core.specs.Values.{AreDeclared, AreLooped}
 use Rattle.go_ready_core.proofs.Tables.{have_one_table}

@@ -6,20 +6,20 @@ use Rattle.std.proofs.lemmas.List.{length-map}
 use Rattle.std.proofs.lemmas.List.FromFn.{length-enumerate_from}
 use Rattle.go_tree_nodes.specs.Trees.{FileTree}
 use Rattle.go_ready_core.specs.table_core.Entries.{Entry}
-use Rattle.go_file_core.specs.entry_core.Outlines.{FileOutline, outline_of}
+use Rattle.go_ready_core.specs.entry_core.Outlines.{FileOutline, outline_of}
 use Rattle.go_ready_core.specs.fault_core.declared.places.PackageFault.{PackageFault}
-use Rattle.go_file_core.specs.inline_core.Types.{InlineOf}
-use Rattle.go_used_core.specs.face_core.Faces.{TheFace}
-use Rattle.go_used_core.specs.face_core.Packages.{PackageFacesModel}
-use Rattle.go_used_core.specs.face_core.Written.{WrittenOf, decls_of, package_written}
-use Rattle.go_file_core.specs.env_core.Scenes.{SceneModel}
+use Rattle.go_ready_core.specs.inline_core.Types.{InlineOf}
+use Rattle.go_ready_core.specs.face_core.Faces.{TheFace}
+use Rattle.go_ready_core.specs.face_core.Packages.{PackageFacesModel}
+use Rattle.go_ready_core.specs.face_core.Written.{WrittenOf, decls_of, package_written}
+use Rattle.go_ready_core.specs.env_core.Scenes.{SceneModel}
 use Rattle.go_ready_core.specs.value_core.Package.{PlacedOf, placed_decls}
-use Rattle.go_used_core.specs.handle_core.Declarations.{Declaration}
-use Rattle.go_used_core.specs.local_core.declared.Fault.{Fault}
-use Rattle.go_used_core.specs.report_core.Faults.{IsSettled}
-use Rattle.go_file_core.specs.body_core.Notes.{TheUse}
+use Rattle.go_ready_core.specs.handle_core.Declarations.{Declaration}
+use Rattle.go_local_core.specs.declared.Fault.{Fault}
+use Rattle.go_ready_core.specs.report_core.Faults.{IsSettled}
+use Rattle.go_ready_core.specs.body_core.Notes.{TheUse}
 use Rattle.go_ready_core.specs.known_core.Alike.{decls_stand_alike}
-use Rattle.go_used_core.specs.answer_core.Shown.{package_shown}
+use Rattle.go_ready_core.specs.answer_core.Shown.{package_shown}
 use Rattle.go_ready_core.specs.Inlines.{initial_in, initial_types, types_stand}
 use Rattle.go_ready_core.specs.Laws.{package_placed}
 use Rattle.go_ready_core.specs.Packages.{PackageIn, outlines_in, scene_in}

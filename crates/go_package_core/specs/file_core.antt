@@ -1,5 +1,5 @@
 -- What the crates above name of go_file_core.
-pub use Rattle.go_file_core.specs.Files as Files
-pub use Rattle.go_file_core.specs.Imports as Imports
-pub use Rattle.go_file_core.specs.Laws as Laws
-pub use Rattle.go_file_core.specs.Stands as Stands
+pub use Rattle.go_ready_core.specs.file_core.Files as Files
+pub use Rattle.go_ready_core.specs.file_core.Imports as Imports
+pub use Rattle.go_ready_core.specs.file_core.Laws as Laws
+pub use Rattle.go_ready_core.specs.file_core.Stands as Stands

@@ -1,3 +1,3 @@
 -- What the crates above name of go_inline_core.
-pub use Rattle.go_file_core.specs.inline_core.Functions as Functions
-pub use Rattle.go_file_core.specs.inline_core.Inline as Inline
+pub use Rattle.go_ready_core.specs.inline_core.Functions as Functions
+pub use Rattle.go_ready_core.specs.inline_core.Inline as Inline

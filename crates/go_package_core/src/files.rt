@@ -1,15 +1,15 @@
 //! The check of the files of a package.
 ghost use Rattle.std.specs.Prelude.{◌≡◌, ◌++◌, [], ℕ, List, IfOk, drop, length, map, slice_index_or};
 ghost use Rattle.std.specs.List.{AllZip, enumerate_from};
-ghost use Rattle.go_used_core.specs.decl_core.Shown.{decl_shown};
+ghost use Rattle.go_term_core.specs.decl_core.Shown.{decl_shown};
 ghost use Rattle.go_tree_nodes.specs.Shapes.{file_of};
-ghost use Rattle.go_file_core.specs.entry_core.Outlines.{outline_shown};
-ghost use Rattle.go_used_core.specs.handle_core.Declarations.{Declaration};
-ghost use Rattle.go_used_core.specs.report_core.Faults.{IsSettled};
-ghost use Rattle.go_file_core.specs.env_core.Scenes.{scene_shown};
-ghost use Rattle.go_file_core.specs.Files.{file_faults, file_locals, file_uses};
-ghost use Rattle.go_file_core.specs.Stands.{AreFunctionTypes, AreInitialTypes, stand_of};
-ghost use Rattle.go_used_core.specs.answer_core.Outer.{outer_faults};
+ghost use Rattle.go_ready_core.specs.entry_core.Outlines.{outline_shown};
+ghost use Rattle.go_ready_core.specs.handle_core.Declarations.{Declaration};
+ghost use Rattle.go_ready_core.specs.report_core.Faults.{IsSettled};
+ghost use Rattle.go_ready_core.specs.env_core.Scenes.{scene_shown};
+ghost use Rattle.go_ready_core.specs.file_core.Files.{file_faults, file_locals, file_uses};
+ghost use Rattle.go_ready_core.specs.file_core.Stands.{AreFunctionTypes, AreInitialTypes, stand_of};
+ghost use Rattle.go_ready_core.specs.answer_core.Outer.{outer_faults};
 ghost use Rattle.go_ready_core.specs.Packages.{outlines_in, package_in_shown, scene_in};
 ghost use Rattle.go_ready_core.specs.Values.{decls_in};
 ghost use Rattle.go_package_core.specs.Checked.{IsFileChecked, answers_shown, local_shown};
@@ -18,19 +18,19 @@ ghost use Rattle.go_tree_nodes.specs.Spelling.{IsPlaced};
 
 use crate::checked::FileAnswers;
 use crate::locals::held_locals;
-use go_file_core::entry_core::ImportedNames;
-use go_file_core::env_core::Scene;
-use go_file_core::{FileAt, check_file};
+use go_ready_core::answer_core::{OuterAt, answers_of, outer_faults};
+use go_ready_core::block_core::Imported;
+use go_ready_core::entry_core::ImportedNames;
+use go_ready_core::env_core::Scene;
+use go_ready_core::face_core::Face;
 use go_ready_core::fault_core::PackageFault;
+use go_ready_core::file_core::{FileAt, check_file};
+use go_ready_core::handle_core::{SignatureRef, TypeRef};
+use go_ready_core::report_core::settle_faults;
 use go_ready_core::{PackageAt, Ready};
+use go_term_core::decl_core::Outline;
 use go_text_core::add;
 use go_tree_nodes::File;
-use go_used_core::answer_core::{OuterAt, answers_of, outer_faults};
-use go_used_core::block_core::Imported;
-use go_used_core::decl_core::Outline;
-use go_used_core::face_core::Face;
-use go_used_core::handle_core::{SignatureRef, TypeRef};
-use go_used_core::report_core::settle_faults;
 use std::alloc::{AllocError, Global};
 
 /// What the declarations of a package outside functions are, in order of file and number.

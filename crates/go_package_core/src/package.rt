@@ -3,8 +3,8 @@ ghost use Rattle.std.specs.Prelude.{◌≡◌, ◌++◌, All, List, IfOk, length
 ghost use Rattle.std.specs.List.{AllByRecursion};
 ghost use Rattle.go_ready_core.specs.table_core.Entries.{Entry};
 ghost use Rattle.go_ready_core.specs.table_core.Tables.{AreOthers};
-ghost use Rattle.go_file_core.specs.entry_core.Outlines.{outline_shown};
-ghost use Rattle.go_file_core.specs.env_core.Scenes.{scene_shown};
+ghost use Rattle.go_ready_core.specs.entry_core.Outlines.{outline_shown};
+ghost use Rattle.go_ready_core.specs.env_core.Scenes.{scene_shown};
 ghost use Rattle.go_ready_core.specs.value_core.Laws.{AreFaces};
 ghost use Rattle.go_ready_core.specs.value_core.Package.{AreThroughThemselves, placed_decls};
 ghost use Rattle.go_ready_core.specs.Inlines.{IsPlacedOutline};
@@ -16,18 +16,18 @@ ghost use Rattle.go_tree_nodes.specs.Spelling.{IsPlaced};
 
 use crate::checked::CheckedPackage;
 use crate::files::{Declared, check_files};
-use go_file_core::entry_core::ImportedNames;
-use go_file_core::env_core::Scene;
-use go_file_core::inline_core::InlineTypes;
-use go_file_core::type_core::TypeTable;
+use go_ready_core::answer_core::{held_faces, shown_faces};
+use go_ready_core::block_core::Blocks;
+use go_ready_core::entry_core::ImportedNames;
+use go_ready_core::env_core::Scene;
+use go_ready_core::face_core::{FaceTable, WrittenFaces};
+use go_ready_core::handle_core::Home;
+use go_ready_core::inline_core::InlineTypes;
 use go_ready_core::known_core::package_values;
+use go_ready_core::type_core::TypeTable;
 use go_ready_core::value_core::through_itself;
 use go_ready_core::{OwnTypes, PackageAt, Ready, make_ready, package_outlines, package_types};
-use go_used_core::answer_core::{held_faces, shown_faces};
-use go_used_core::block_core::Blocks;
-use go_used_core::decl_core::Outline;
-use go_used_core::face_core::{FaceTable, WrittenFaces};
-use go_used_core::handle_core::Home;
+use go_term_core::decl_core::Outline;
 use std::alloc::{AllocError, Global};
 
 // What is known of a package where its expressions are judged.

@@ -4,6 +4,6 @@ pub mod Names
 pub mod Parsing
 pub mod Refusing
 pub mod mirrors
+pub mod scan_core
 pub mod token_core
 pub mod tree_core
-pub mod tree_nodes

@@ -1,16 +1,16 @@
 //! Functions and methods.
 ghost use Rattle.std.specs.Prelude.{◌≡◌, ◌<◌, ◌^◌, IfOk};
-ghost use Rattle.go_token_core.specs.declared.kind.Operator.TheVariants as operator;
+ghost use Rattle.go_scan_core.specs.token_core.declared.kind.Operator.TheVariants as operator;
 ghost use Rattle.go_tree_nodes.specs.Shapes.{func_of};
-ghost use Rattle.go_parse_types.specs.mirrors.Giving.{Gives};
-ghost use Rattle.go_parse_types.specs.mirrors.Marks.{mark_at, name_at};
+ghost use Rattle.go_parse_stmts.specs.parse_types.mirrors.Giving.{Gives};
+ghost use Rattle.go_parse_stmts.specs.parse_types.mirrors.Marks.{mark_at, name_at};
 ghost use Rattle.go_parse_core.specs.mirrors.FileReading as reading;
 ghost use Rattle.go_parse_core.specs.mirrors.FileReading.{func_at, is_receiver_name, receiver_at, receiver_by};
 
 use go_parse_stmts::block;
-use go_parse_types::{Ahead, Stop, signature, type_name};
-use go_text_core::Span;
-use go_token_core::Operator;
+use go_parse_stmts::parse_types::{Ahead, Stop, signature, type_name};
+use go_scan_core::text_core::Span;
+use go_scan_core::token_core::Operator;
 use go_tree_nodes::{FuncDecl, Ident, Receiver};
 use std::alloc::{AllocError, Global};
 

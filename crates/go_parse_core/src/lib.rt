@@ -28,15 +28,10 @@ pub use parsed::{Parsed, parse, tree_of};
 
 /// What the crates above name of `go_parse_types`.
 pub mod parse_types {
-    pub use go_parse_types::add;
+    pub use go_parse_stmts::parse_types::add;
 }
 
 /// What the crates above name of `go_token_core`.
 pub mod token_core {
-    pub use go_token_core::{KEYWORDS, characters_of};
-}
-
-/// What the crates above name of `go_tree_nodes`.
-pub mod tree_nodes {
-    pub use go_tree_nodes::{File, Ident, ImportSpec, ImportSpecs};
+    pub use go_scan_core::token_core::{KEYWORDS, characters_of};
 }

@@ -16,10 +16,10 @@ ghost use Rattle.go_parse_core.specs.mirrors.Stopping.{IsErrorOf};
 
 use crate::error::{ParseError, SynFault};
 use crate::file::file;
-use go_parse_types::{Ahead, Stop};
+use go_parse_stmts::parse_types::{Ahead, Stop};
+use go_scan_core::text_core::Rule;
+use go_scan_core::token_core::{Comment, ScanError};
 use go_scan_core::{comments, scan};
-use go_text_core::Rule;
-use go_token_core::{Comment, ScanError};
 use go_tree_nodes::File;
 use std::alloc::{AllocError, Global};
 use std::marker::Model;

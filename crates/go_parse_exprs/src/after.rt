@@ -6,8 +6,8 @@ ghost use Rattle.go_parse_exprs.specs.mirrors.CodeShapes.{next_of};
 
 use crate::operators::infix;
 use go_parse_types::Ahead;
-use go_text_core::Span;
-use go_token_core::Operator;
+use go_tree_nodes::text_core::Span;
+use go_tree_nodes::token_core::Operator;
 
 /// What may come behind an operand.
 #[derive(Clone, Copy)]

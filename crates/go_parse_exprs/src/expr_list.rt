@@ -8,7 +8,7 @@ ghost use Rattle.go_parse_exprs.specs.mirrors.ExprReading.{exprs_at};
 
 use crate::expr_reader::expr;
 use go_parse_types::{Ahead, Stop, add, fitted};
-use go_token_core::Operator;
+use go_tree_nodes::token_core::Operator;
 use go_tree_nodes::{Exprs, NextExpr};
 use std::alloc::Global;
 

@@ -1,6 +1,6 @@
 //! Expressions.
 ghost use Rattle.std.specs.Prelude.{◌≡◌, ◌≤◌, ◌<◌, ◌+◌, ◌^◌, map, IfOk};
-ghost use Rattle.go_token_core.specs.declared.kind.Operator.TheVariants as operator;
+ghost use Rattle.go_tree_nodes.specs.token_core.declared.kind.Operator.TheVariants as operator;
 ghost use Rattle.go_tree_nodes.specs.Shapes.{shape, items_of};
 ghost use Rattle.go_tree_nodes.specs.Heights.{height, items_height};
 ghost use Rattle.go_tree_nodes.specs.Rules as rules;
@@ -16,8 +16,8 @@ use crate::after::{After, next};
 use crate::literal::{key, literal_name, opens_body};
 use crate::operators::prefix;
 use go_parse_types::{Ahead, Stop, add, boxed, fitted, struct_type, type_height};
-use go_text_core::Span;
-use go_token_core::{Keyword, Operator};
+use go_tree_nodes::text_core::Span;
+use go_tree_nodes::token_core::{Keyword, Operator};
 use go_tree_nodes::{
     BinaryExpr, CallExpr, Expr, Ident, Item, LOWEST, LiteralExpr, SelectExpr, StructLiteralExpr,
     UNARY, rank,

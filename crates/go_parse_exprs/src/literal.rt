@@ -5,7 +5,7 @@ ghost use Rattle.go_parse_exprs.specs.mirrors.ExprReading as reading;
 ghost use Rattle.go_parse_exprs.specs.mirrors.CodeShapes as shapes;
 
 use go_parse_types::{Ahead, boxed};
-use go_token_core::Operator;
+use go_tree_nodes::token_core::Operator;
 use go_tree_nodes::{Ident, Key, TypeName};
 use std::alloc::{AllocError, Global};
 

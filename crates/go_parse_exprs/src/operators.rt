@@ -5,8 +5,8 @@ ghost use Rattle.go_parse_types.specs.mirrors.Marks.{mark_that};
 ghost use Rattle.go_parse_exprs.specs.mirrors.ExprReading.{has_rank};
 
 use go_parse_types::Ahead;
-use go_text_core::Span;
-use go_token_core::Operator;
+use go_tree_nodes::text_core::Span;
+use go_tree_nodes::token_core::Operator;
 use go_tree_nodes::{is_unary, rank};
 
 /// The binary operator in front if it has at least the rank `least`, and what is behind it. No operator has the rank 0.

@@ -1,13 +1,13 @@
 -- What reading the headers of `if` and `for` gives, in the words of the program.
 use Rattle.std.proofs.Common.{◌≡◌, ℕ, Bool, true, false, List, Option, Some, None, Ok, Err, refl, sym, ap, ◌∙◌, cond}
-use Rattle.go_text_core.specs.declared.span.Span.{Span}
-use Rattle.go_token_core.specs.declared.kind.Operator.TheVariants as operator
+use Rattle.go_tree_nodes.specs.text_core.declared.span.Span.{Span}
+use Rattle.go_tree_nodes.specs.token_core.declared.kind.Operator.TheVariants as operator
 use Rattle.go_tree_nodes.specs.Terminals.{Terminal}
 use Rattle.go_tree_nodes.specs.Trees.{Separated, ExprTree, SimpleTree, IfTree, ForTree, Clauses}
-use Rattle.go_parse_types.specs.declared.stop.Stop.{Stop}
-use Rattle.go_parse_types.specs.mirrors.Giving.{Fails}
-use Rattle.go_parse_types.specs.mirrors.Marks.{Grammar, ◌>>=◌, Reading, MarkAhead, need, mark_at}
-use Rattle.go_parse_types.proofs.CodeSteps.{fails_along}
+use Rattle.go_parse_exprs.specs.parse_types.declared.stop.Stop.{Stop}
+use Rattle.go_parse_exprs.specs.parse_types.mirrors.Giving.{Fails}
+use Rattle.go_parse_exprs.specs.parse_types.mirrors.Marks.{Grammar, ◌>>=◌, Reading, MarkAhead, need, mark_at}
+use Rattle.go_parse_exprs.specs.parse_types.CodeSteps.{fails_along}
 use Rattle.go_parse_exprs.specs.mirrors.ExprReading.{expr_at, exprs_at}
 use Rattle.go_parse_stmts.specs.mirrors.StmtReading as reading
 use Rattle.go_parse_stmts.specs.mirrors.StmtReading.{simple_from, if_init, if_from, if_first, if_at, is_define, post_first, for_post, for_second, for_test, for_clauses, for_from, for_begins, for_first, for_at}

@@ -1,17 +1,17 @@
 -- A turn of a loop over the lines of a list: an item, and the semicolon behind it where one stands.
 use Rattle.std.proofs.Common.{◌≡◌, ◌<◌, ◌≤◌, true, false, List, [], ◌∷◌, ◌++◌, length, Option, Some, None, Ok, Err, refl, sym, ap, ◌∙◌, subst}
 use Rattle.std.specs.Prelude.{is_some}
-use Rattle.go_text_core.specs.declared.span.Span.{Span}
-use Rattle.go_token_core.specs.declared.kind.Operator.{Operator}
-use Rattle.go_token_core.specs.declared.kind.Operator.TheVariants as operator
+use Rattle.go_tree_nodes.specs.text_core.declared.span.Span.{Span}
+use Rattle.go_tree_nodes.specs.token_core.declared.kind.Operator.{Operator}
+use Rattle.go_tree_nodes.specs.token_core.declared.kind.Operator.TheVariants as operator
 use Rattle.go_tree_nodes.specs.Terminals.{Terminal}
-use Rattle.go_parse_types.specs.declared.stop.Stop.{Stop}
-use Rattle.go_parse_types.specs.mirrors.EntryShapes.{list_all}
-use Rattle.go_parse_types.specs.mirrors.Giving.{Fails}
-use Rattle.go_parse_types.specs.mirrors.Marks.{Stuck, Grammar, Reading, MarkAhead, need, mark_at, some_mark}
-use Rattle.go_parse_types.proofs.Marks.{some_mark_none, some_mark_some, need_ok}
-use Rattle.go_parse_types.proofs.CodeLists.{ListSoFar, list_more, list_turn_shorter, list_missing, list_last}
-use Rattle.go_parse_types.proofs.CodeSteps.{fails_along}
+use Rattle.go_parse_exprs.specs.parse_types.declared.stop.Stop.{Stop}
+use Rattle.go_parse_exprs.specs.parse_types.mirrors.EntryShapes.{list_all}
+use Rattle.go_parse_exprs.specs.parse_types.mirrors.Giving.{Fails}
+use Rattle.go_parse_exprs.specs.parse_types.mirrors.Marks.{Stuck, Grammar, Reading, MarkAhead, need, mark_at, some_mark}
+use Rattle.go_parse_exprs.specs.parse_types.Marks.{some_mark_none, some_mark_some, need_ok}
+use Rattle.go_parse_exprs.specs.parse_types.CodeLists.{ListSoFar, list_more, list_turn_shorter, list_missing, list_last}
+use Rattle.go_parse_exprs.specs.parse_types.CodeSteps.{fails_along}
 
 -- a mark stands in front, or none does
 

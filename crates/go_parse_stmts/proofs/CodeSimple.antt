@@ -8,7 +8,7 @@ use Rattle.go_tree_nodes.specs.Terminals.{Terminal}
 use Rattle.go_tree_nodes.specs.Trees.{Separated, ExprTree}
 use Rattle.go_tree_nodes.specs.Heights.{exprs_height}
 use Rattle.go_tree_nodes.specs.Shapes.{exprs_from}
-use Rattle.go_parse_types.specs.mirrors.Marks.{Grammar, TooHigh, need}
+use Rattle.go_parse_exprs.specs.parse_types.mirrors.Marks.{Grammar, TooHigh, need}
 use Rattle.go_parse_stmts.specs.mirrors.StmtReading.{single, simple_by, simple_from}
 
 -- several expressions are no single one

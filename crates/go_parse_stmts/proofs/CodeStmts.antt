@@ -1,19 +1,19 @@
 -- What reading statements gives from the middle of a block on.
 use Rattle.std.proofs.Common.{◌≡◌, ℕ, zero, suc, ◌+◌, ◌-◌, ◌<◌, true, false, List, [], ◌∷◌, ◌++◌, length, Option, Some, None, Ok, Err, refl, sym, ap, ◌∙◌, subst, arith}
 use Rattle.std.specs.Prelude.{is_some}
-use Rattle.go_text_core.specs.declared.span.Span.{Span}
-use Rattle.go_token_core.specs.declared.kind.Keyword.TheVariants as keyword
-use Rattle.go_token_core.specs.declared.kind.Operator.TheVariants as operator
+use Rattle.go_tree_nodes.specs.text_core.declared.span.Span.{Span}
+use Rattle.go_tree_nodes.specs.token_core.declared.kind.Keyword.TheVariants as keyword
+use Rattle.go_tree_nodes.specs.token_core.declared.kind.Operator.TheVariants as operator
 use Rattle.go_tree_nodes.specs.declared.stmts.«Line» as declared_line
 use Rattle.go_tree_nodes.specs.declared.decls.ValueKind.{ValueKind}
 use Rattle.go_tree_nodes.specs.Terminals.{Terminal}
 use Rattle.go_tree_nodes.specs.Trees.{IfTree, ForTree, StmtTree, BranchTree, ElseTree, Lines, Empty, Break, Continue, Block, If, For, Branch, ElseBlock, ElseIf, NoLines, Line}
 use Rattle.go_tree_nodes.specs.Shapes.{shape_stmt, lines_front, lines_of}
-use Rattle.go_parse_types.specs.declared.stop.Stop.{Stop}
-use Rattle.go_parse_types.specs.mirrors.Giving.{Fails}
-use Rattle.go_parse_types.specs.mirrors.Marks.{Stuck, Grammar, TooHigh, ◌>>=◌, Reading, MarkAhead, need, mark_at, keyword_at, some_mark}
-use Rattle.go_parse_types.proofs.Marks.{mark_shorter, need_ok}
-use Rattle.go_parse_types.proofs.CodeSteps.{fails_along}
+use Rattle.go_parse_exprs.specs.parse_types.declared.stop.Stop.{Stop}
+use Rattle.go_parse_exprs.specs.parse_types.mirrors.Giving.{Fails}
+use Rattle.go_parse_exprs.specs.parse_types.mirrors.Marks.{Stuck, Grammar, TooHigh, ◌>>=◌, Reading, MarkAhead, need, mark_at, keyword_at, some_mark}
+use Rattle.go_parse_exprs.specs.parse_types.Marks.{mark_shorter, need_ok}
+use Rattle.go_parse_exprs.specs.parse_types.CodeSteps.{fails_along}
 use Rattle.go_parse_stmts.specs.mirrors.StmtReading.{value_word, return_at, if_at, for_at, by_for, by_if, by_continue, by_break, by_return, by_value, Braced, else_if, else_block, else_by, for_by, as_block, by_block, last_by, line_by, lines_by, lines_go, close_braces, braced, stmt_at, block_at, branch_at}
 use Rattle.go_parse_stmts.specs.mirrors.CodeShapes.{declare_at, lines_above, stmt_above, branches_above, branch_above}
 use Rattle.go_parse_stmts.proofs.StmtSound.{stmt_no_longer}

@@ -1,16 +1,16 @@
 -- What reading the specification of a value gives, where it is known before its values whether enough is declared.
 use Rattle.std.proofs.Common.{◌≡◌, ℕ, suc, true, false, List, length, Option, Some, None, Ok, Err, refl, ap, ◌∙◌, cond}
-use Rattle.go_text_core.specs.declared.span.Span.{Span}
-use Rattle.go_token_core.specs.declared.kind.Operator.TheVariants as operator
+use Rattle.go_tree_nodes.specs.text_core.declared.span.Span.{Span}
+use Rattle.go_tree_nodes.specs.token_core.declared.kind.Operator.TheVariants as operator
 use Rattle.go_tree_nodes.specs.declared.names.Ident.{Ident}
 use Rattle.go_tree_nodes.specs.declared.decls.ValueKind.{ValueKind}
 use Rattle.go_tree_nodes.specs.declared.decls.ValueKind.TheVariants as kinds
 use Rattle.go_tree_nodes.specs.Terminals.{Terminal}
 use Rattle.go_tree_nodes.specs.Trees.{Separated, TypeTree, ExprTree, ValueSpecTree}
-use Rattle.go_parse_types.specs.declared.stop.Stop.{Stop}
-use Rattle.go_parse_types.specs.mirrors.Giving.{Fails}
-use Rattle.go_parse_types.specs.mirrors.Marks.{Grammar, ◌>>=◌, Reading, MarkAhead, mark_at, idents_go}
-use Rattle.go_parse_types.proofs.CodeSteps.{fails_along}
+use Rattle.go_parse_exprs.specs.parse_types.declared.stop.Stop.{Stop}
+use Rattle.go_parse_exprs.specs.parse_types.mirrors.Giving.{Fails}
+use Rattle.go_parse_exprs.specs.parse_types.mirrors.Marks.{Grammar, ◌>>=◌, Reading, MarkAhead, mark_at, idents_go}
+use Rattle.go_parse_exprs.specs.parse_types.CodeSteps.{fails_along}
 use Rattle.go_parse_exprs.specs.mirrors.ExprReading.{exprs_at}
 use Rattle.go_parse_stmts.specs.mirrors.StmtReading.{some_type_at, values_by, enough, value_spec, value_spec_by, value_spec_at}
 

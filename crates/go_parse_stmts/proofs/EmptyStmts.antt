@@ -1,13 +1,13 @@
 -- An empty statement is read only before a semicolon.
 use Rattle.std.proofs.Common.{◌≡◌, ℕ, zero, suc, Bool, true, false, List, Option, Some, None, Ok, refl, ap, ◌∙◌, cond}
-use Rattle.go_text_core.specs.declared.span.Span.{Span}
-use Rattle.go_token_core.specs.declared.kind.Keyword.TheVariants as keyword
-use Rattle.go_token_core.specs.declared.kind.Operator.TheVariants as operator
+use Rattle.go_tree_nodes.specs.text_core.declared.span.Span.{Span}
+use Rattle.go_tree_nodes.specs.token_core.declared.kind.Keyword.TheVariants as keyword
+use Rattle.go_tree_nodes.specs.token_core.declared.kind.Operator.TheVariants as operator
 use Rattle.go_tree_nodes.specs.declared.decls.ValueKind.{ValueKind}
 use Rattle.go_tree_nodes.specs.Terminals.{Terminal}
 use Rattle.go_tree_nodes.specs.Trees.{ForTree, StmtTree, BranchTree, Lines, Empty, Declare, Simple, Return, Break, Continue, Block, If, For}
-use Rattle.go_parse_types.specs.mirrors.Marks.{◌>>=◌, Reading, MarkAhead, mark_at, keyword_at}
-use Rattle.go_parse_types.proofs.Marks.{bind_ok}
+use Rattle.go_parse_exprs.specs.parse_types.mirrors.Marks.{◌>>=◌, Reading, MarkAhead, mark_at, keyword_at}
+use Rattle.go_parse_exprs.specs.parse_types.Marks.{bind_ok}
 use Rattle.go_parse_exprs.specs.mirrors.ExprReading.{exprs_at}
 use Rattle.go_parse_stmts.specs.mirrors.StmtReading.{value_at, value_word, simple_at, for_at, ends_here, returned, Braced, braced, branch_by, by_simple, as_block, by_block, by_for, by_if, by_continue, by_break, by_return, by_value, stmt_at, block_at, branch_at}
 use Rattle.go_parse_stmts.specs.mirrors.CodeShapes.{lines_above}

@@ -1,18 +1,18 @@
 -- What stands behind a simple statement or a specification, and how an expression begins.
 use Rattle.std.proofs.Common.{◌≡◌, ℕ, Bool, true, false, List, [], ◌∷◌, ◌++◌, None, refl, sym, subst, append_assoc}
-use Rattle.go_text_core.specs.declared.span.Span.{Span}
-use Rattle.go_token_core.specs.declared.kind.Keyword.TheVariants as keyword
-use Rattle.go_token_core.specs.declared.kind.Operator.{Operator}
-use Rattle.go_token_core.specs.declared.kind.Operator.TheVariants as operator
+use Rattle.go_tree_nodes.specs.text_core.declared.span.Span.{Span}
+use Rattle.go_tree_nodes.specs.token_core.declared.kind.Keyword.TheVariants as keyword
+use Rattle.go_tree_nodes.specs.token_core.declared.kind.Operator.{Operator}
+use Rattle.go_tree_nodes.specs.token_core.declared.kind.Operator.TheVariants as operator
 use Rattle.go_tree_nodes.specs.declared.names.Ident.{Ident}
 use Rattle.go_tree_nodes.specs.declared.names.TextLiteral.{TextLiteral}
 use Rattle.go_tree_nodes.specs.Terminals.{Number, Terminal, terminal}
 use Rattle.go_tree_nodes.specs.Trees.{Separated, One, Then, ExprTree, SimpleTree, Alone, Step, Assign, Update, Define}
 use Rattle.go_tree_nodes.specs.Spelling.{mark, word, spell_ident, spell_text, spell, spell_exprs, spell_simple}
 use Rattle.go_tree_nodes.specs.Rules.{is_unary, is_step, is_update, Wf, Wf_exprs, Wf_simple}
-use Rattle.go_parse_types.specs.mirrors.Marks.{mark_at, keyword_at, mark_that}
-use Rattle.go_parse_types.specs.mirrors.TypeReading.{begins_type}
-use Rattle.go_parse_types.proofs.Marks.{mark_not}
+use Rattle.go_parse_exprs.specs.parse_types.mirrors.Marks.{mark_at, keyword_at, mark_that}
+use Rattle.go_parse_exprs.specs.parse_types.mirrors.TypeReading.{begins_type}
+use Rattle.go_parse_exprs.specs.parse_types.Marks.{mark_not}
 use Rattle.go_parse_exprs.proofs.Behind.{not_same, not_unary, Stops, stops_mark, stops_step, stops_update, stops_block}
 use Rattle.go_parse_exprs.proofs.Fronts.{first_of}
 use Rattle.go_parse_exprs.proofs.ExprLists.{StopsList, exprs_first_of}

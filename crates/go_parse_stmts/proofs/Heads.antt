@@ -1,17 +1,17 @@
 -- Reading finds the heads of `if` and `for` that are spelled, and no others.
 use Rattle.std.proofs.Common.{◌≡◌, ℕ, ◌≤◌, max, Bool, true, false, List, [], ◌∷◌, ◌++◌, Option, Some, None, Ok, Err, refl, sym, ap, ◌∙◌, subst, arith, cond, inl, inr, append_assoc}
-use Rattle.go_text_core.specs.declared.span.Span.{Span}
-use Rattle.go_token_core.specs.declared.kind.Operator.TheVariants as operator
+use Rattle.go_tree_nodes.specs.text_core.declared.span.Span.{Span}
+use Rattle.go_tree_nodes.specs.token_core.declared.kind.Operator.TheVariants as operator
 use Rattle.go_tree_nodes.specs.Terminals.{Terminal}
 use Rattle.go_tree_nodes.specs.Trees.{Separated, One, ExprTree, SimpleTree, Alone, Step, Assign, Update, Define, IfTree, ForTree, Forever, While, Clauses}
 use Rattle.go_tree_nodes.specs.Spelling.{mark, spell, spell_simple, spell_some_simple, spell_some_expr, spell_init, spell_if, spell_for}
 use Rattle.go_tree_nodes.specs.Rules.{Wf, Wf_some_simple, Wf_some_expr, Wf_init, Wf_if, IsPost, Wf_for}
 use Rattle.go_tree_nodes.specs.Heights.{height, exprs_height, simple_height, some_simple_height, some_expr_height, init_height, if_height, for_height}
-use Rattle.go_parse_types.specs.mirrors.Marks.{Grammar, Reading, MarkAhead, need, mark_at}
+use Rattle.go_parse_exprs.specs.parse_types.mirrors.Marks.{Grammar, Reading, MarkAhead, need, mark_at}
 use Rattle.go_parse_exprs.specs.mirrors.ExprReading.{expr_at, exprs_at}
 use Rattle.go_parse_stmts.specs.mirrors.StmtReading.{single, simple_from, if_tree, if_init, if_from, if_first, if_at, is_define, post_by, post_first, for_post, for_second, for_test, for_clauses, for_from, for_begins, for_first, for_at}
-use Rattle.go_parse_types.proofs.Marks.{mark_was, bind_ok, need_ok, AgreesAt, bind_agrees, agrees_along}
-use Rattle.go_parse_types.proofs.Lists.{ReadsItem}
+use Rattle.go_parse_exprs.specs.parse_types.Marks.{mark_was, bind_ok, need_ok, AgreesAt, bind_agrees, agrees_along}
+use Rattle.go_parse_exprs.specs.parse_types.Lists.{ReadsItem}
 use Rattle.go_parse_exprs.proofs.ExprFound.{expr_complete}
 use Rattle.go_parse_exprs.proofs.ExprSound.{expr_sound}
 use Rattle.go_parse_exprs.proofs.ExprLists.{exprs_complete}

@@ -2,21 +2,21 @@
 use Rattle.std.proofs.Common.{◌≡◌, ℕ, zero, suc, ◌<◌, Bool, true, false, List, [], ◌∷◌, ◌++◌, Option, Some, None, Ok, Err, refl, sym, ap, ◌∙◌, subst, arith, cond, inl, inr, append_assoc}
 use Rattle.std.proofs.lemmas.Bool.{lt-ltb, le-ltb, ltb-true, cases_lt}
 use Rattle.std.specs.Prelude.{nat_lt}
-use Rattle.go_text_core.specs.declared.span.Span.{Span}
-use Rattle.go_token_core.specs.declared.kind.Operator.{Operator}
-use Rattle.go_token_core.specs.declared.kind.Operator.TheVariants as operator
+use Rattle.go_tree_nodes.specs.text_core.declared.span.Span.{Span}
+use Rattle.go_tree_nodes.specs.token_core.declared.kind.Operator.{Operator}
+use Rattle.go_tree_nodes.specs.token_core.declared.kind.Operator.TheVariants as operator
 use Rattle.go_tree_nodes.specs.declared.names.Ident.{Ident}
 use Rattle.go_tree_nodes.specs.Terminals.{Terminal}
 use Rattle.go_tree_nodes.specs.Trees.{Separated, One, Then, ExprTree, Named, SimpleTree, Alone, Step, Assign, Update, Define}
 use Rattle.go_tree_nodes.specs.Spelling.{mark, spell_idents, spell, spell_exprs, spell_simple}
 use Rattle.go_tree_nodes.specs.Rules.{is_step, is_update, Wf, Wf_exprs, Wf_simple}
 use Rattle.go_tree_nodes.specs.Heights.{height, exprs_height, simple_height}
-use Rattle.go_parse_types.specs.mirrors.Marks.{TooHigh, ◌>>=◌, MarkAhead, need, mark_at, mark_that}
+use Rattle.go_parse_exprs.specs.parse_types.mirrors.Marks.{TooHigh, ◌>>=◌, MarkAhead, need, mark_at, mark_that}
 use Rattle.go_parse_exprs.specs.mirrors.ExprReading.{expr_at, exprs_at}
 use Rattle.go_tree_nodes.specs.Naming.{name_of}
 use Rattle.go_parse_stmts.specs.mirrors.StmtReading.{single, names_then, names_one, names_more, names_of, alone_by, update_by, step_by, assign_by, define_by, simple_by, simple_at, simple_from}
-use Rattle.go_parse_types.proofs.Marks.{mark_was, mark_that_was, bind_ok, need_ok, AgreesAt, bind_agrees, agrees_along}
-use Rattle.go_parse_types.proofs.Lists.{ReadsItem}
+use Rattle.go_parse_exprs.specs.parse_types.Marks.{mark_was, mark_that_was, bind_ok, need_ok, AgreesAt, bind_agrees, agrees_along}
+use Rattle.go_parse_exprs.specs.parse_types.Lists.{ReadsItem}
 use Rattle.go_parse_exprs.proofs.ExprFound.{expr_complete}
 use Rattle.go_parse_exprs.proofs.ExprSound.{expr_sound}
 use Rattle.go_parse_exprs.proofs.ExprLists.{StopsList, exprs_complete, exprs_sound, exprs_height_some, names_as_exprs, names_spelled, names_wf, names_height}

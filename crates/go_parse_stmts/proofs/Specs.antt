@@ -1,16 +1,16 @@
 -- Reading finds the specifications that are spelled, one or a group, and no others, given that it does so for each.
 use Rattle.std.proofs.Common.{◌≡◌, ℕ, suc, ◌<◌, List, [], ◌∷◌, ◌++◌, length, Option, Some, None, Ok, refl, sym, ap, ◌∙◌, subst, inl, append_assoc, ◌≤◌, arith, length-append}
-use Rattle.go_text_core.specs.declared.span.Span.{Span}
-use Rattle.go_token_core.specs.declared.kind.Operator.TheVariants as operator
+use Rattle.go_tree_nodes.specs.text_core.declared.span.Span.{Span}
+use Rattle.go_tree_nodes.specs.token_core.declared.kind.Operator.TheVariants as operator
 use Rattle.go_tree_nodes.specs.Terminals.{Terminal}
 use Rattle.go_tree_nodes.specs.Trees.{Specs, Single, Group}
 use Rattle.go_tree_nodes.specs.Spelling.{mark, spell_specs_of, spell_specs}
 use Rattle.go_tree_nodes.specs.Rules.{Wf_specs}
 use Rattle.go_tree_nodes.specs.Heights.{specs_height, group_height}
-use Rattle.go_parse_types.specs.mirrors.Marks.{◌>>=◌, Reading, MarkAhead, mark_at, list_go}
+use Rattle.go_parse_exprs.specs.parse_types.mirrors.Marks.{◌>>=◌, Reading, MarkAhead, mark_at, list_go}
 use Rattle.go_parse_stmts.specs.mirrors.StmtReading.{group_by, specs_by, specs_at}
-use Rattle.go_parse_types.proofs.Marks.{mark_was, bind_ok, AgreesAt, bind_agrees, agrees_along}
-use Rattle.go_parse_types.proofs.Lists.{spell_list, list_spelled, FoundItem, list_complete, ReadsItem, ItemsRead, ReadsList, list_sound}
+use Rattle.go_parse_exprs.specs.parse_types.Marks.{mark_was, bind_ok, AgreesAt, bind_agrees, agrees_along}
+use Rattle.go_parse_exprs.specs.parse_types.Lists.{spell_list, list_spelled, FoundItem, list_complete, ReadsItem, ItemsRead, ReadsList, list_sound}
 
 -- a specification is found, alone and in a group
 pub record FoundSpec (A : Type 0) (spec : List Terminal → Reading A) (spelled : A → List Terminal) (b : ℕ) (high : A → ℕ) (P : A → Type 0) (rest : List Terminal) : Type 0 where

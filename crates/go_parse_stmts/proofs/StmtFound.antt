@@ -1,18 +1,18 @@
 -- Reading finds each statement that is spelled.
 use Rattle.std.proofs.Common.{◌≡◌, ℕ, zero, suc, ◌+◌, ◌<◌, ◌≤◌, true, false, List, [], ◌∷◌, ◌++◌, length, Option, Some, None, Ok, refl, sym, ap, ◌∙◌, subst, arith, cond, inl, inr, append_assoc, length-append}
 use Rattle.std.specs.Prelude.{◌||◌, is_some}
-use Rattle.go_text_core.specs.declared.span.Span.{Span}
-use Rattle.go_token_core.specs.declared.kind.Keyword.TheVariants as keyword
-use Rattle.go_token_core.specs.declared.kind.Operator.TheVariants as operator
+use Rattle.go_tree_nodes.specs.text_core.declared.span.Span.{Span}
+use Rattle.go_tree_nodes.specs.token_core.declared.kind.Keyword.TheVariants as keyword
+use Rattle.go_tree_nodes.specs.token_core.declared.kind.Operator.TheVariants as operator
 use Rattle.go_tree_nodes.specs.Terminals.{Terminal}
 use Rattle.go_tree_nodes.specs.Trees.{Separated, ExprTree, ValueTree, SimpleTree, IfTree, ForTree, StmtTree, BranchTree, ElseTree, Lines, Empty, Declare, Simple, Return, Break, Continue, Block, If, For, Branch, NoElse, ElseBlock, ElseIf, NoLines, Line}
 use Rattle.go_tree_nodes.specs.Spelling.{mark, spell_some, spell_value_spec, spell_specs, spell_exprs, spell_value, spell_simple, spell_if, spell_for, spell_stmt, spell_else, spell_lines}
 use Rattle.go_tree_nodes.specs.Rules.{MayEnd, Wf_stmt, Wf_branch, Wf_else, Wf_lines}
 use Rattle.go_tree_nodes.specs.Heights.{exprs_height, value_height, simple_height, if_height, for_height, stmt_height, branch_height, else_height, lines_height}
-use Rattle.go_parse_types.specs.mirrors.Marks.{◌>>=◌, Reading, MarkAhead, mark_at, keyword_at}
+use Rattle.go_parse_exprs.specs.parse_types.mirrors.Marks.{◌>>=◌, Reading, MarkAhead, mark_at, keyword_at}
 use Rattle.go_parse_exprs.specs.mirrors.ExprReading.{exprs_at}
 use Rattle.go_parse_stmts.specs.mirrors.StmtReading.{value_at, simple_at, if_at, for_at, ends_here, returned, Braced, close_braces, braced, else_by, by_simple, as_block, by_block, by_for, by_if, by_continue, by_break, by_return, by_value, last_by, line_by, lines_by, lines_go, stmt_at, block_at, branch_at}
-use Rattle.go_parse_types.proofs.Marks.{mark_was, AgreesAt, bind_agrees, agrees_along}
+use Rattle.go_parse_exprs.specs.parse_types.Marks.{mark_was, AgreesAt, bind_agrees, agrees_along}
 use Rattle.go_parse_exprs.proofs.ExprLists.{exprs_complete}
 use Rattle.go_parse_stmts.proofs.Ends.{Ends, ends_semicolon, ends_brace, exprs_begin, simple_begins}
 use Rattle.go_parse_stmts.proofs.Values.{value_complete, value_word_here}

@@ -1,19 +1,19 @@
 -- Reading finds no other statements than those that are spelled.
 use Rattle.std.proofs.Common.{◌≡◌, ℕ, zero, suc, ◌+◌, ◌≤◌, Bool, true, false, List, [], ◌∷◌, ◌++◌, length, Option, Some, None, Ok, refl, sym, ap, ◌∙◌, subst, arith, cond, append_assoc}
-use Rattle.go_text_core.specs.declared.span.Span.{Span}
-use Rattle.go_token_core.specs.declared.kind.Keyword.TheVariants as keyword
-use Rattle.go_token_core.specs.declared.kind.Operator.TheVariants as operator
+use Rattle.go_tree_nodes.specs.text_core.declared.span.Span.{Span}
+use Rattle.go_tree_nodes.specs.token_core.declared.kind.Keyword.TheVariants as keyword
+use Rattle.go_tree_nodes.specs.token_core.declared.kind.Operator.TheVariants as operator
 use Rattle.go_tree_nodes.specs.declared.decls.ValueKind.{ValueKind}
 use Rattle.go_tree_nodes.specs.Terminals.{Terminal}
 use Rattle.go_tree_nodes.specs.Trees.{IfTree, ForTree, StmtTree, BranchTree, ElseTree, Lines, Empty, Declare, Simple, Return, Break, Continue, Block, If, For, Branch, NoElse, ElseBlock, ElseIf, NoLines, Line}
 use Rattle.go_tree_nodes.specs.Spelling.{mark, word, spell_if, spell_for, spell_stmt, spell_branch, spell_else, spell_lines}
 use Rattle.go_tree_nodes.specs.Rules.{MayEnd, Wf_stmt, Wf_branch, Wf_else, Wf_lines}
 use Rattle.go_tree_nodes.specs.Heights.{stmt_height, branch_height, else_height, lines_height}
-use Rattle.go_parse_types.specs.mirrors.Marks.{◌>>=◌, Reading, MarkAhead, need, mark_at, keyword_at}
+use Rattle.go_parse_exprs.specs.parse_types.mirrors.Marks.{◌>>=◌, Reading, MarkAhead, need, mark_at, keyword_at}
 use Rattle.go_parse_exprs.specs.mirrors.ExprReading.{exprs_at}
 use Rattle.go_parse_stmts.specs.mirrors.StmtReading.{value_at, value_word, simple_at, if_at, for_at, ends_here, returned, Braced, close_braces, braced, else_if, else_block, else_by, branch_by, for_by, by_simple, as_block, by_block, by_for, by_if, by_continue, by_break, by_return, by_value, last_by, line_by, lines_by, lines_go, stmt_at, block_at, branch_at}
-use Rattle.go_parse_types.proofs.Marks.{mark_was, word_was, bind_ok, need_ok}
-use Rattle.go_parse_types.proofs.Lists.{ReadsItem}
+use Rattle.go_parse_exprs.specs.parse_types.Marks.{mark_was, word_was, bind_ok, need_ok}
+use Rattle.go_parse_exprs.specs.parse_types.Lists.{ReadsItem}
 use Rattle.go_parse_exprs.proofs.ExprLists.{exprs_sound}
 use Rattle.go_parse_stmts.proofs.Specs.{reads_no_longer}
 use Rattle.go_parse_stmts.proofs.Values.{value_sound, value_word_was}

@@ -1,9 +1,9 @@
 -- Reading finds the declarations of values and types that are spelled, and no others.
 use Rattle.std.proofs.Common.{◌≡◌, ℕ, suc, ◌<◌, Bool, true, false, List, ◌∷◌, ◌++◌, length, Option, Some, None, Ok, Err, refl, sym, ap, ◌∙◌, subst, arith, cond, inl, append_assoc, length-append}
-use Rattle.go_text_core.specs.declared.span.Span.{Span}
-use Rattle.go_token_core.specs.declared.kind.Keyword.TheVariants as keyword
-use Rattle.go_token_core.specs.declared.kind.Operator.{Operator}
-use Rattle.go_token_core.specs.declared.kind.Operator.TheVariants as operator
+use Rattle.go_tree_nodes.specs.text_core.declared.span.Span.{Span}
+use Rattle.go_tree_nodes.specs.token_core.declared.kind.Keyword.TheVariants as keyword
+use Rattle.go_tree_nodes.specs.token_core.declared.kind.Operator.{Operator}
+use Rattle.go_tree_nodes.specs.token_core.declared.kind.Operator.TheVariants as operator
 use Rattle.go_tree_nodes.specs.declared.names.Ident.{Ident}
 use Rattle.go_tree_nodes.specs.declared.decls.ValueKind.{ValueKind}
 use Rattle.go_tree_nodes.specs.declared.decls.ValueKind.TheVariants as kinds
@@ -12,14 +12,14 @@ use Rattle.go_tree_nodes.specs.Trees.{Separated, One, Then, TypeTree, ExprTree, 
 use Rattle.go_tree_nodes.specs.Spelling.{mark, word, spell_ident, spell_idents, spell_type, spell_exprs, spell_some_type, spell_values, spell_value_spec, spell_specs, keyword_of, spell_value, spell_type_spec, spell_types}
 use Rattle.go_tree_nodes.specs.Rules.{Wf_type, Wf_some_type, Wf_values, HasEnough, Wf_value_spec, Wf_value, Wf_types}
 use Rattle.go_tree_nodes.specs.Heights.{type_height, exprs_height, some_type_height, values_height, value_spec_height, specs_height, value_height, types_height}
-use Rattle.go_parse_types.specs.mirrors.Marks.{Grammar, ◌>>=◌, Reading, MarkAhead, need, mark_at, keyword_at, name_at, idents_go}
-use Rattle.go_parse_types.specs.mirrors.TypeReading.{begins_type, type_at}
+use Rattle.go_parse_exprs.specs.parse_types.mirrors.Marks.{Grammar, ◌>>=◌, Reading, MarkAhead, need, mark_at, keyword_at, name_at, idents_go}
+use Rattle.go_parse_exprs.specs.parse_types.mirrors.TypeReading.{begins_type, type_at}
 use Rattle.go_parse_exprs.specs.mirrors.ExprReading.{exprs_at}
 use Rattle.go_parse_stmts.specs.mirrors.StmtReading.{specs_at, type_if, some_type_at, values_by, enough, value_spec, value_spec_by, value_spec_at, value_decl, value_at, value_var, value_const, value_word, type_spec, type_spec_at, type_decl, types_at}
-use Rattle.go_parse_types.proofs.Marks.{mark_was, word_was, name_was, bind_ok, need_ok, AgreesAt, bind_agrees, agrees_along}
-use Rattle.go_parse_types.proofs.Lists.{ReadsItem, ItemsRead, idents_some, idents_complete, idents_sound}
-use Rattle.go_parse_types.proofs.TypeFacts.{type_no_mark, type_begins}
-use Rattle.go_parse_types.proofs.Types.{type_complete, type_sound}
+use Rattle.go_parse_exprs.specs.parse_types.Marks.{mark_was, word_was, name_was, bind_ok, need_ok, AgreesAt, bind_agrees, agrees_along}
+use Rattle.go_parse_exprs.specs.parse_types.Lists.{ReadsItem, ItemsRead, idents_some, idents_complete, idents_sound}
+use Rattle.go_parse_exprs.specs.parse_types.TypeFacts.{type_no_mark, type_begins}
+use Rattle.go_parse_exprs.specs.parse_types.Types.{type_complete, type_sound}
 use Rattle.go_parse_exprs.proofs.ExprLists.{exprs_complete, exprs_sound}
 use Rattle.go_parse_stmts.proofs.Ends.{Ends, ends_semicolon, ends_paren}
 use Rattle.go_parse_stmts.proofs.Specs.{FoundSpec, specs_complete, specs_sound}

@@ -4,18 +4,18 @@
 ghost use Rattle.std.specs.Prelude.{◌≡◌, ◌<◌, ◌^◌};
 ghost use Rattle.go_tree_nodes.specs.Heights.{exprs_height};
 ghost use Rattle.go_tree_nodes.specs.Shapes.{shape_exprs, shape_some_expr, shape_some_simple, shape_if, shape_for};
-ghost use Rattle.go_parse_types.specs.mirrors.Giving.{Gives};
-ghost use Rattle.go_parse_types.specs.mirrors.Marks.{mark_at};
+ghost use Rattle.go_parse_exprs.specs.parse_types.mirrors.Giving.{Gives};
+ghost use Rattle.go_parse_exprs.specs.parse_types.mirrors.Marks.{mark_at};
 ghost use Rattle.go_parse_stmts.specs.mirrors.CodeShapes.{init_at, condition_at, test_at, post_at, clauses_at};
 ghost use Rattle.go_parse_stmts.specs.mirrors.StmtReading.{if_at, for_at};
 ghost use Rattle.go_parse_stmts.specs.mirrors.StmtReading as reading;
-ghost use Rattle.go_token_core.specs.declared.kind.Operator.TheVariants as operator;
+ghost use Rattle.go_tree_nodes.specs.token_core.declared.kind.Operator.TheVariants as operator;
 
 use crate::simple_stmts::{header_simple, single};
+use go_parse_exprs::parse_types::{Ahead, Stop};
 use go_parse_exprs::{expr, exprs};
-use go_parse_types::{Ahead, Stop};
-use go_text_core::Span;
-use go_token_core::Operator;
+use go_tree_nodes::text_core::Span;
+use go_tree_nodes::token_core::Operator;
 use go_tree_nodes::{Expr, Exprs, ForHead, IfHead, InitPart, Simple};
 use std::alloc::Global;
 

@@ -11,3 +11,8 @@ mod value_decls;
 pub use stmts::block;
 pub use type_decls::type_decl;
 pub use value_decls::{value_decl, value_keyword};
+
+/// What the crates above name of `go_parse_types`.
+pub mod parse_types {
+    pub use go_parse_exprs::parse_types::{Ahead, Stop, add, fitted, signature, type_name};
+}

@@ -7,17 +7,17 @@ ghost use Rattle.go_tree_nodes.specs.Heights.{exprs_height};
 ghost use Rattle.go_tree_nodes.specs.Rules as rules;
 ghost use Rattle.go_tree_nodes.specs.Shapes.{shape, shape_exprs, shape_simple};
 ghost use Rattle.go_tree_nodes.specs.TypeShapes.{shape_idents};
-ghost use Rattle.go_parse_types.specs.mirrors.Giving.{Gives, NeverMemory};
-ghost use Rattle.go_parse_types.specs.mirrors.Marks as marks;
-ghost use Rattle.go_parse_types.specs.mirrors.Marks.{mark_that};
+ghost use Rattle.go_parse_exprs.specs.parse_types.mirrors.Giving.{Gives, NeverMemory};
+ghost use Rattle.go_parse_exprs.specs.parse_types.mirrors.Marks as marks;
+ghost use Rattle.go_parse_exprs.specs.parse_types.mirrors.Marks.{mark_that};
 ghost use Rattle.go_parse_stmts.specs.mirrors.StmtReading as reading;
 ghost use Rattle.go_tree_nodes.specs.Naming.{name_of};
 ghost use Rattle.go_parse_stmts.specs.mirrors.StmtReading.{names_of, step_by, simple_by, simple_at, simple_from};
 
+use go_parse_exprs::parse_types::{Ahead, Stop, add, boxed, fitted};
 use go_parse_exprs::{expr, exprs};
-use go_parse_types::{Ahead, Stop, add, boxed, fitted};
-use go_text_core::Span;
-use go_token_core::Operator;
+use go_tree_nodes::text_core::Span;
+use go_tree_nodes::token_core::Operator;
 use go_tree_nodes::{
     Assignment, Definition, Expr, Exprs, Ident, Idents, NextExpr, NextIdent, Simple, Update,
 };

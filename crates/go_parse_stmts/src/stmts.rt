@@ -2,11 +2,11 @@
 //!
 //! What was read is dropped by name where reading stops behind it. That is one call; a `?` writes out the tree's drop.
 ghost use Rattle.std.specs.Prelude.{◌≡◌, ◌<◌, ◌+◌, ◌^◌};
-ghost use Rattle.go_token_core.specs.declared.kind.Keyword.TheVariants as keyword;
-ghost use Rattle.go_token_core.specs.declared.kind.Operator.TheVariants as operator;
+ghost use Rattle.go_tree_nodes.specs.token_core.declared.kind.Keyword.TheVariants as keyword;
+ghost use Rattle.go_tree_nodes.specs.token_core.declared.kind.Operator.TheVariants as operator;
 ghost use Rattle.go_tree_nodes.specs.Shapes.{shape_stmt, shape_branch, shape_else, lines_of};
-ghost use Rattle.go_parse_types.specs.mirrors.Giving.{Gives};
-ghost use Rattle.go_parse_types.specs.mirrors.Marks.{mark_at, keyword_at};
+ghost use Rattle.go_parse_exprs.specs.parse_types.mirrors.Giving.{Gives};
+ghost use Rattle.go_parse_exprs.specs.parse_types.mirrors.Marks.{mark_at, keyword_at};
 ghost use Rattle.go_parse_stmts.specs.mirrors.CodeShapes.{declare_at, lines_above, stmt_above, branches_above, branch_above};
 ghost use Rattle.go_parse_stmts.specs.mirrors.StmtReading as reading;
 ghost use Rattle.go_parse_stmts.specs.mirrors.StmtReading.{braced, return_at, stmt_at, block_at, branch_at};
@@ -15,9 +15,9 @@ use crate::headers::{for_head, if_head};
 use crate::simple_stmts::simple;
 use crate::value_decls::{value_decl, value_keyword};
 use go_parse_exprs::exprs;
-use go_parse_types::{Ahead, Stop, add, boxed, fitted};
-use go_text_core::Span;
-use go_token_core::{Keyword, Operator};
+use go_parse_exprs::parse_types::{Ahead, Stop, add, boxed, fitted};
+use go_tree_nodes::text_core::Span;
+use go_tree_nodes::token_core::{Keyword, Operator};
 use go_tree_nodes::{Branch, Line, Loop, Otherwise, Stmt, ValueKind};
 use std::alloc::Global;
 

@@ -1,14 +1,14 @@
 //! Declarations of types.
 ghost use Rattle.std.specs.Prelude.{◌≡◌, map};
-ghost use Rattle.go_token_core.specs.declared.kind.Operator.TheVariants as operator;
+ghost use Rattle.go_tree_nodes.specs.token_core.declared.kind.Operator.TheVariants as operator;
 ghost use Rattle.go_tree_nodes.specs.Shapes.{shape_type_spec, shape_type_line, shape_type_decl};
-ghost use Rattle.go_parse_types.specs.mirrors.EntryShapes.{list_all};
-ghost use Rattle.go_parse_types.specs.mirrors.Giving.{Gives};
+ghost use Rattle.go_parse_exprs.specs.parse_types.mirrors.EntryShapes.{list_all};
+ghost use Rattle.go_parse_exprs.specs.parse_types.mirrors.Giving.{Gives};
 ghost use Rattle.go_parse_stmts.specs.mirrors.StmtReading.{type_spec_at, types_at};
 
-use go_parse_types::{Ahead, Stop, add, fitted, type_expr};
-use go_text_core::Span;
-use go_token_core::Operator;
+use go_parse_exprs::parse_types::{Ahead, Stop, add, fitted, type_expr};
+use go_tree_nodes::text_core::Span;
+use go_tree_nodes::token_core::Operator;
 use go_tree_nodes::{TypeDecl, TypeLine, TypeSpec, TypeSpecs};
 use std::alloc::Global;
 

@@ -2,17 +2,17 @@
 //!
 //! What was read is dropped by name where reading stops behind it. That is one call; a `?` writes out the tree's drop.
 ghost use Rattle.std.specs.Prelude.{◌≡◌, ◌<◌, ◌^◌, map};
-ghost use Rattle.go_token_core.specs.declared.kind.Operator.TheVariants as operator;
+ghost use Rattle.go_tree_nodes.specs.token_core.declared.kind.Operator.TheVariants as operator;
 ghost use Rattle.go_tree_nodes.specs.Shapes.{shape_some_type, shape_values, shape_value_spec, shape_value_line, shape_value};
-ghost use Rattle.go_parse_types.specs.mirrors.EntryShapes.{list_all};
-ghost use Rattle.go_parse_types.specs.mirrors.Giving.{Gives};
-ghost use Rattle.go_parse_types.specs.mirrors.Marks.{mark_at};
+ghost use Rattle.go_parse_exprs.specs.parse_types.mirrors.EntryShapes.{list_all};
+ghost use Rattle.go_parse_exprs.specs.parse_types.mirrors.Giving.{Gives};
+ghost use Rattle.go_parse_exprs.specs.parse_types.mirrors.Marks.{mark_at};
 ghost use Rattle.go_parse_stmts.specs.mirrors.StmtReading.{some_type_at, values_by, enough, value_spec_at, value_at, value_word};
 
 use go_parse_exprs::exprs;
-use go_parse_types::{Ahead, Stop, add, fitted, idents, type_expr};
-use go_text_core::Span;
-use go_token_core::{Keyword, Operator};
+use go_parse_exprs::parse_types::{Ahead, Stop, add, fitted, idents, type_expr};
+use go_tree_nodes::text_core::Span;
+use go_tree_nodes::token_core::{Keyword, Operator};
 use go_tree_nodes::{TypeExpr, ValueDecl, ValueKind, ValueLine, ValueSpec, ValueSpecs, Values};
 use std::alloc::Global;
 

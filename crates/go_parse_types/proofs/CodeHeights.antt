@@ -1,7 +1,7 @@
 -- How high types are, by the fields of the program's values.
 use Rattle.std.proofs.Common.{◌≡◌, ◌+◌, max, Vec, ap, ◌∙◌}
 use Rattle.std.specs.Global.{Global}
-use Rattle.go_text_core.specs.declared.span.Span.{Span}
+use Rattle.go_tree_nodes.specs.text_core.declared.span.Span.{Span}
 use Rattle.go_tree_nodes.specs.declared.types.TypeExpr.{TypeExpr}
 use Rattle.go_tree_nodes.specs.declared.types.TypeExpr.TheVariants as types
 use Rattle.go_tree_nodes.specs.declared.types.FieldLine.{FieldLine}

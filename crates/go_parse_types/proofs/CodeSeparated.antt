@@ -1,6 +1,6 @@
 -- Items with commas between them, as far as they are read.
 use Rattle.std.proofs.Common.{◌≡◌, List, [], ◌∷◌, ◌++◌, Ok, Err, refl, ap}
-use Rattle.go_text_core.specs.declared.span.Span.{Span}
+use Rattle.go_tree_nodes.specs.text_core.declared.span.Span.{Span}
 use Rattle.go_tree_nodes.specs.Trees.{Separated, Then}
 use Rattle.go_parse_types.specs.mirrors.Marks.{Stuck, ◌>>=◌, Reading}
 

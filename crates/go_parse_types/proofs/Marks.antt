@@ -1,11 +1,11 @@
 -- What stands in front: a mark, a keyword, a name or a string literal; and how readings go on.
 use Rattle.std.proofs.Common.{◌≡◌, ℕ, ◌<◌, Bool, true, false, List, ◌∷◌, ◌++◌, [], length, Option, Some, None, Result, Ok, Err, refl, sym, ap, ◌∙◌, subst, arith, rules, cond, ◌⊎◌, inl, inr}
 use denote.Enum.Bare.{same_true, true_same}
-use Rattle.go_text_core.specs.declared.span.Span.{Span}
-use Rattle.go_token_core.specs.contracts.kind.Keyword as keyword_contracts
-use Rattle.go_token_core.specs.contracts.kind.Operator as operator_contracts
-use Rattle.go_token_core.specs.declared.kind.Keyword.{Keyword}
-use Rattle.go_token_core.specs.declared.kind.Operator.{Operator}
+use Rattle.go_tree_nodes.specs.text_core.declared.span.Span.{Span}
+use Rattle.go_tree_nodes.specs.token_core.contracts.kind.Keyword as keyword_contracts
+use Rattle.go_tree_nodes.specs.token_core.contracts.kind.Operator as operator_contracts
+use Rattle.go_tree_nodes.specs.token_core.declared.kind.Keyword.{Keyword}
+use Rattle.go_tree_nodes.specs.token_core.declared.kind.Operator.{Operator}
 use Rattle.go_tree_nodes.specs.declared.names.Ident.{Ident}
 use Rattle.go_tree_nodes.specs.declared.names.TextLiteral.{TextLiteral}
 use Rattle.go_tree_nodes.specs.Terminals.{TerminalKind, Spelled, Quoted, Word, Mark, Terminal, terminal}

@@ -1,7 +1,7 @@
 -- Reading finds the parameters that are spelled, and no others.
 use Rattle.std.proofs.Common.{◌≡◌, ℕ, suc, ◌<◌, ◌≤◌, max, Bool, true, false, List, [], ◌∷◌, ◌++◌, length, Option, Some, None, Ok, refl, sym, ap, ◌∙◌, subst, arith, cond, inl}
-use Rattle.go_text_core.specs.declared.span.Span.{Span}
-use Rattle.go_token_core.specs.declared.kind.Operator.TheVariants as operator
+use Rattle.go_tree_nodes.specs.text_core.declared.span.Span.{Span}
+use Rattle.go_tree_nodes.specs.token_core.declared.kind.Operator.TheVariants as operator
 use Rattle.go_tree_nodes.specs.declared.names.Ident.{Ident}
 use Rattle.go_tree_nodes.specs.declared.types.TypeName.TheVariants as type_name
 use Rattle.go_tree_nodes.specs.Terminals.{Terminal}

@@ -1,7 +1,7 @@
 -- Reading finds the results and signatures that are spelled, and no others.
 use Rattle.std.proofs.Common.{◌≡◌, ℕ, ◌<◌, ◌≤◌, max, Bool, true, false, List, [], ◌∷◌, ◌++◌, length, Some, None, Ok, refl, sym, ap, ◌∙◌, subst, arith, inl, append_assoc}
-use Rattle.go_text_core.specs.declared.span.Span.{Span}
-use Rattle.go_token_core.specs.declared.kind.Operator.TheVariants as operator
+use Rattle.go_tree_nodes.specs.text_core.declared.span.Span.{Span}
+use Rattle.go_tree_nodes.specs.token_core.declared.kind.Operator.TheVariants as operator
 use Rattle.go_tree_nodes.specs.Terminals.{Terminal}
 use Rattle.go_tree_nodes.specs.Trees.{TypeTree, SignatureTree, ResultTree, ParamTrees, Signed, NoResult, OneResult, Results}
 use Rattle.go_tree_nodes.specs.Spelling.{mark, spell_type, spell_signature, spell_result, spell_params}

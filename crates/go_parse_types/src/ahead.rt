@@ -1,7 +1,7 @@
 //! The tokens ahead of the parser.
 ghost use Rattle.std.specs.Prelude.{◌≡◌, ◌==◌, IfOk, length, true, is_some};
 ghost use Rattle.std.specs.Option.{option_map};
-ghost use Rattle.go_text_core.specs.Slices.{slice_of};
+ghost use Rattle.go_tree_nodes.specs.text_core.Slices.{slice_of};
 ghost use Rattle.go_parse_types.specs.mirrors.Giving.{Gives, IsOffset, NeverMemory};
 ghost use Rattle.go_parse_types.specs.mirrors.Marks as marks;
 ghost use Rattle.go_parse_types.specs.mirrors.Marks.{need, mark_at, keyword_at, name_at, number_at, text_at};
@@ -9,8 +9,8 @@ ghost use Rattle.go_tree_nodes.specs.Terminals.{terminals};
 ghost use Rattle.go_parse_types.specs.mirrors.TypeReading as reading;
 
 use crate::stop::Stop;
-use go_text_core::{Name, Span};
-use go_token_core::{Keyword, Operator, Token, TokenKind, integer_value};
+use go_tree_nodes::text_core::{Name, Span};
+use go_tree_nodes::token_core::{Keyword, Operator, Token, TokenKind, integer_value};
 use go_tree_nodes::{Ident, TextLiteral};
 use std::alloc::{AllocError, Global};
 use std::marker::Model;

@@ -6,7 +6,7 @@ ghost use Rattle.go_parse_types.specs.mirrors.EntryShapes.{entry_of, with_last};
 ghost use Rattle.go_tree_nodes.specs.Naming.{plain_name};
 ghost use Rattle.go_parse_types.specs.mirrors.TypeReading.{has_name, as_types, as_groups, as_params};
 
-use go_text_core::{Span, add, fitted};
+use go_tree_nodes::text_core::{Span, add, fitted};
 use go_tree_nodes::{Ident, Idents, NextIdent, Param, TypeExpr};
 use std::alloc::{AllocError, Global};
 

@@ -9,7 +9,7 @@ mod stop;
 mod type_reader;
 
 pub use ahead::Ahead;
-pub use go_text_core::{add, boxed, fitted};
+pub use go_tree_nodes::text_core::{add, boxed, fitted};
 pub use heights::type_height;
 pub use names::{idents, type_name};
 pub use stop::Stop;

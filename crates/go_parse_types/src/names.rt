@@ -8,8 +8,8 @@ ghost use Rattle.go_parse_types.specs.mirrors.TypeReading.{type_name_at};
 
 use crate::ahead::Ahead;
 use crate::stop::Stop;
-use go_text_core::{add, fitted};
-use go_token_core::Operator;
+use go_tree_nodes::text_core::{add, fitted};
+use go_tree_nodes::token_core::Operator;
 use go_tree_nodes::{Idents, NextIdent, TypeExpr, TypeName};
 use std::alloc::Global;
 

@@ -1,6 +1,6 @@
 //! Types, parameters and signatures.
 ghost use Rattle.std.specs.Prelude.{◌≡◌, map, Ok};
-ghost use Rattle.go_token_core.specs.declared.kind.Operator.TheVariants as operator;
+ghost use Rattle.go_tree_nodes.specs.token_core.declared.kind.Operator.TheVariants as operator;
 ghost use Rattle.go_tree_nodes.specs.TypeShapes.{shape_type, shape_signature, shape_results, params_of};
 ghost use Rattle.go_parse_types.specs.mirrors.EntryShapes.{list_all, then_mark, typed_at, paren_at, listed_at, entry_of, line_tree, line_of, method_of};
 ghost use Rattle.go_parse_types.specs.mirrors.Giving.{Gives};
@@ -12,8 +12,8 @@ use crate::ahead::Ahead;
 use crate::entries::{Entry, params_from};
 use crate::names::{idents, name_of, type_name};
 use crate::stop::Stop;
-use go_text_core::{Span, add, boxed, fitted};
-use go_token_core::{Keyword, Operator};
+use go_tree_nodes::text_core::{Span, add, boxed, fitted};
+use go_tree_nodes::token_core::{Keyword, Operator};
 use go_tree_nodes::{
     FieldLine, Fields, Ident, MethodLine, Param, Params, Results, Signature, TextLiteral, TypeExpr,
 };

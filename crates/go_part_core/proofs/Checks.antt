@@ -3,18 +3,18 @@ use Rattle.std.proofs.Common.{◌≡◌, List, length, sym, ap, subst, ◌∙◌
 use Rattle.std.specs.List.{enumerate_from}
 use Rattle.std.proofs.lemmas.List.{length-map}
 use Rattle.std.proofs.lemmas.List.FromFn.{length-enumerate_from}
-use Rattle.go_summary_core.specs.graph_core.Packages.{trees_of}
-use Rattle.go_summary_core.specs.graph_core.Workspaces.{PackageModel}
-use Rattle.go_summary_core.specs.graph_core.Zips.{zip_length}
-use Rattle.go_summary_core.specs.block_core.declared.imports.Imported.{Imported}
-use Rattle.go_summary_core.specs.block_core.declared.imports.NamedImport.{NamedImport}
-use Rattle.go_summary_core.specs.block_core.Blocks.{AreBlocks, BlocksModel}
-use Rattle.go_summary_core.specs.block_core.Naming.{HaveOneEach, package_named}
-use Rattle.go_summary_core.specs.block_core.Exports.{ExportsModel}
-use Rattle.go_summary_core.specs.table_core.Entries.{Entry}
-use Rattle.go_summary_core.specs.table_core.Tables.{AreOthers}
+use Rattle.go_package_core.specs.graph_core.Packages.{trees_of}
+use Rattle.go_package_core.specs.graph_core.Workspaces.{PackageModel}
+use Rattle.go_package_core.specs.graph_core.Zips.{zip_length}
+use Rattle.go_package_core.specs.block_core.declared.imports.Imported.{Imported}
+use Rattle.go_package_core.specs.block_core.declared.imports.NamedImport.{NamedImport}
+use Rattle.go_package_core.specs.block_core.Blocks.{AreBlocks, BlocksModel}
+use Rattle.go_package_core.specs.block_core.Naming.{HaveOneEach, package_named}
+use Rattle.go_package_core.specs.block_core.Exports.{ExportsModel}
+use Rattle.go_package_core.specs.table_core.Entries.{Entry}
+use Rattle.go_package_core.specs.table_core.Tables.{AreOthers}
 use Rattle.go_package_core.specs.entry_core.Showing.{shown_in}
-use Rattle.go_summary_core.specs.face_core.Packages.{PackageFacesModel}
+use Rattle.go_package_core.specs.face_core.Packages.{PackageFacesModel}
 use Rattle.go_package_core.specs.ready_core.Packages.{PackageIn, trees_in}
 use Rattle.go_package_core.specs.Checked.{CheckedOf, IsChecked, answers_shown, checked_shown}
 use Rattle.go_package_core.specs.declared.checked.CheckedPackage.{CheckedPackage}

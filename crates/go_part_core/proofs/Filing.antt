@@ -4,10 +4,10 @@ use Rattle.std.specs.Global.{Global}
 use Rattle.std.specs.Vec.{with_items}
 use Rattle.std.proofs.lemmas.List.{length-map, with_items_is}
 use Rattle.go_tree_nodes.specs.Trees.{FileTree}
-use Rattle.go_package_core.specs.tree_core.Occurrences.{file_occs}
-use Rattle.go_summary_core.specs.block_core.Blocks.{BlocksModel}
+use Rattle.go_tree_core.specs.Occurrences.{file_occs}
+use Rattle.go_package_core.specs.block_core.Blocks.{BlocksModel}
 use Rattle.go_package_core.specs.handle_core.Declarations.{Declaration}
-use Rattle.go_package_core.specs.local_core.declared.Fault.{Fault}
+use Rattle.go_local_core.specs.declared.Fault.{Fault}
 use Rattle.go_package_core.specs.report_core.Faults.{IsSettled}
 use Rattle.go_package_core.specs.used_core.Reported.{IsReported}
 use Rattle.go_package_core.specs.used_core.Used.{FileUse, blank_places, judged_import, used_places, without_unused}

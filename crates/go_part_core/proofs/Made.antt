@@ -1,12 +1,12 @@
 -- What a package has, put together.
 use Rattle.std.proofs.Common.{◌≡◌, ℕ, List, sym, ap, subst, ◌∙◌}
-use Rattle.go_summary_core.specs.graph_core.Packages.{trees_of}
-use Rattle.go_summary_core.specs.block_core.Blocks.{BlocksModel, AreBlocks}
-use Rattle.go_summary_core.specs.block_core.Naming.{package_named}
-use Rattle.go_summary_core.specs.table_core.Tables.{PackageTypesModel, package_types}
+use Rattle.go_package_core.specs.graph_core.Packages.{trees_of}
+use Rattle.go_package_core.specs.block_core.Blocks.{BlocksModel, AreBlocks}
+use Rattle.go_package_core.specs.block_core.Naming.{package_named}
+use Rattle.go_package_core.specs.table_core.Tables.{PackageTypesModel, package_types}
 use Rattle.go_package_core.specs.ready_core.Packages.{trees_in}
 use Rattle.go_package_core.specs.Checked.{CheckedOf, IsChecked}
-use Rattle.go_summary_core.specs.Summaries.{summary_of}
+use Rattle.go_package_core.specs.summary_core.Summaries.{summary_of}
 use Rattle.go_part_core.specs.Inputs.{InputModel, path_in}
 use Rattle.go_part_core.specs.Parts.{AreFilesMade, ContentOf, IsMade, SeenOf, package_seen}
 

@@ -5,11 +5,11 @@ use Rattle.std.specs.Global.{Global}
 use Rattle.std.proofs.lemmas.List.{length-map, map-append, take_all}
 use Rattle.go_tree_nodes.specs.Trees.{FileTree}
 use Rattle.go_package_core.proofs.Steps.{trees_within}
-use Rattle.go_summary_core.specs.graph_core.Lists.{AllNumbered}
-use Rattle.go_summary_core.specs.graph_core.Packages.{trees_of, tree_shown}
-use Rattle.go_summary_core.specs.graph_core.Workspaces.{PackageModel}
-use Rattle.go_summary_core.specs.block_core.Blocks.{BlocksModel}
-use Rattle.go_summary_core.specs.block_core.GivenSteps.{numbered_next}
+use Rattle.go_package_core.specs.graph_core.Lists.{AllNumbered}
+use Rattle.go_package_core.specs.graph_core.Packages.{trees_of, tree_shown}
+use Rattle.go_package_core.specs.graph_core.Workspaces.{PackageModel}
+use Rattle.go_package_core.specs.block_core.Blocks.{BlocksModel}
+use Rattle.go_package_core.specs.block_core.GivenSteps.{numbered_next}
 use Rattle.go_package_core.specs.ready_core.Packages.{trees_in}
 use Rattle.go_package_core.specs.Checked.{AnswersOf, answers_shown}
 use Rattle.go_package_core.specs.declared.checked.FileAnswers.{FileAnswers}

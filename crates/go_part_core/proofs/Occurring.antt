@@ -4,12 +4,12 @@ use Rattle.std.specs.Prelude.{◌&&◌, not, nat_eq, if◌then◌else◌, slice_
 use Rattle.std.specs.List.{list_any}
 use Rattle.go_tree_nodes.specs.Trees.{FileTree}
 use Rattle.go_tree_nodes.specs.Rules.{Wf_file}
-use Rattle.go_package_core.specs.tree_core.Occurrences.{file_occs}
-use Rattle.go_summary_core.specs.graph_core.Packages.{Trees, tree_shown, trees_of}
-use Rattle.go_summary_core.specs.graph_core.Zips.{numbered_at}
-use Rattle.go_summary_core.specs.block_core.declared.imports.Imported.{Imported}
-use Rattle.go_summary_core.specs.block_core.Blocks.{BlocksModel}
-use Rattle.go_summary_core.specs.block_core.Naming.{HaveOneEach, file_specs}
+use Rattle.go_tree_core.specs.Occurrences.{file_occs}
+use Rattle.go_package_core.specs.graph_core.Packages.{Trees, tree_shown, trees_of}
+use Rattle.go_package_core.specs.graph_core.Zips.{numbered_at}
+use Rattle.go_package_core.specs.block_core.declared.imports.Imported.{Imported}
+use Rattle.go_package_core.specs.block_core.Blocks.{BlocksModel}
+use Rattle.go_package_core.specs.block_core.Naming.{HaveOneEach, file_specs}
 use Rattle.go_package_core.specs.expr_core.Laws.{use_place, occurrence_place}
 use Rattle.go_package_core.specs.used_core.Used.{FileUse, blank_places, is_import, judged_import, refused_use, used_places, without_unused}
 use Rattle.go_package_core.specs.ready_core.Packages.{trees_in}

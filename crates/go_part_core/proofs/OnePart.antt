@@ -2,13 +2,13 @@
 use Rattle.std.proofs.Common.{◌≡◌, ℕ, suc, List, [], ◌∷◌, Some, refl, sym, ap, subst, ◌∙◌}
 use Rattle.std.specs.Prelude.{AllPairs}
 use Rattle.go_tree_nodes.specs.Trees.{FileTree}
-use Rattle.go_summary_core.specs.graph_core.Lists.{AllNumbered}
-use Rattle.go_summary_core.specs.graph_core.Packages.{trees_of}
-use Rattle.go_summary_core.specs.block_core.Blocks.{BlocksModel}
-use Rattle.go_summary_core.specs.block_core.Naming.{package_named}
-use Rattle.go_summary_core.specs.block_core.OneBlocks.{one_blocks_alone}
+use Rattle.go_package_core.specs.graph_core.Lists.{AllNumbered}
+use Rattle.go_package_core.specs.graph_core.Packages.{trees_of}
+use Rattle.go_package_core.specs.block_core.Blocks.{BlocksModel}
+use Rattle.go_package_core.specs.block_core.Naming.{package_named}
+use Rattle.go_package_core.specs.block_core.OneBlocks.{one_blocks_alone}
 use Rattle.go_package_core.specs.handle_core.Declarations.{Declaration}
-use Rattle.go_package_core.specs.local_core.declared.Fault.{Fault}
+use Rattle.go_local_core.specs.declared.Fault.{Fault}
 use Rattle.go_package_core.specs.report_core.Faults.{ComesBefore, IsSettled}
 use Rattle.go_package_core.specs.report_core.Settled.{settled_are_one}
 use Rattle.go_package_core.specs.used_core.Reported.{IsReported}

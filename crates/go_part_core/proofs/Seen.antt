@@ -1,14 +1,14 @@
 -- What is seen by an input alone.
 use Rattle.std.proofs.Common.{◌≡◌, ℕ, suc, List, [], ◌∷◌, All, sym, subst, arith}
-use Rattle.go_summary_core.specs.block_core.Exports.{ExportsModel}
-use Rattle.go_summary_core.specs.table_core.Entries.{Entry}
+use Rattle.go_package_core.specs.block_core.Exports.{ExportsModel}
+use Rattle.go_package_core.specs.table_core.Entries.{Entry}
 use Rattle.go_package_core.specs.entry_core.Showing.{shown_in}
-use Rattle.go_summary_core.specs.face_core.Packages.{PackageFacesModel}
-use Rattle.go_summary_core.specs.table_core.Tables.{AreOthers}
-use Rattle.go_summary_core.specs.Summaries.{SummaryModel, path_of}
-use Rattle.go_summary_core.specs.Views.{exports_told, faces_told, types_told}
-use Rattle.go_summary_core.proofs.Telling.{of_one}
-use Rattle.go_summary_core.proofs.Viewed.{AreElsewhere, types_apart}
+use Rattle.go_package_core.specs.face_core.Packages.{PackageFacesModel}
+use Rattle.go_package_core.specs.table_core.Tables.{AreOthers}
+use Rattle.go_package_core.specs.summary_core.Summaries.{SummaryModel, path_of}
+use Rattle.go_package_core.specs.summary_core.Views.{exports_told, faces_told, types_told}
+use Rattle.go_package_core.specs.summary_core.Telling.{of_one}
+use Rattle.go_package_core.specs.summary_core.Viewed.{AreElsewhere, types_apart}
 use Rattle.go_part_core.specs.Inputs.{InputModel, IsInput, path_in}
 use Rattle.go_part_core.specs.Parts.{ContentOf, IsMade, IsPart, seen_with}
 

@@ -1,14 +1,14 @@
 -- What a package's part is made from.
 use Rattle.std.specs.Prelude.{◌≡◌, refl, ℕ, List, All}
 use Rattle.std.specs.Coded.{Coded, code_by, coded×, coded_list}
-use Rattle.go_summary_core.specs.graph_core.Packages.{trees_of}
-use Rattle.go_summary_core.specs.graph_core.Workspaces.{PackageModel, coded_package}
-use Rattle.go_summary_core.specs.block_core.declared.imports.Imported.{Imported}
-use Rattle.go_summary_core.specs.block_core.contracts.imports.Imported as imported
-use Rattle.go_summary_core.specs.block_core.Naming.{HaveOneEach}
-use Rattle.go_summary_core.specs.Summaries.{SummaryModel, IsOfOne, path_of}
-use Rattle.go_summary_core.specs.Views.{PathsAreApart}
-use Rattle.go_summary_core.specs.codes.SummaryCodes.{coded_summary}
+use Rattle.go_package_core.specs.graph_core.Packages.{trees_of}
+use Rattle.go_package_core.specs.graph_core.Workspaces.{PackageModel, coded_package}
+use Rattle.go_package_core.specs.block_core.declared.imports.Imported.{Imported}
+use Rattle.go_package_core.specs.block_core.contracts.imports.Imported as imported
+use Rattle.go_package_core.specs.block_core.Naming.{HaveOneEach}
+use Rattle.go_package_core.specs.summary_core.Summaries.{SummaryModel, IsOfOne, path_of}
+use Rattle.go_package_core.specs.summary_core.Views.{PathsAreApart}
+use Rattle.go_package_core.specs.summary_core.codes.SummaryCodes.{coded_summary}
 
 -- the package, what the imports of each of its files come to, and what the packages tell that it reaches
 pub record InputModel : Type 0 where

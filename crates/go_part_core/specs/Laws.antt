@@ -2,10 +2,10 @@
 use Rattle.std.specs.Prelude.{◌≡◌, ℕ, Some, All, map, slice_get}
 use Rattle.go_tree_nodes.specs.Trees.{FileTree}
 use Rattle.go_tree_nodes.specs.Rules.{Wf_file}
-use Rattle.go_package_core.specs.tree_core.Occurrences.{file_occs}
+use Rattle.go_tree_core.specs.Occurrences.{file_occs}
 use Rattle.go_package_core.specs.expr_core.Laws.{use_place, occurrence_place}
 use Rattle.go_package_core.specs.ready_core.Packages.{trees_in}
-use Rattle.go_summary_core.specs.Summaries.{path_of}
+use Rattle.go_package_core.specs.summary_core.Summaries.{path_of}
 use Rattle.go_part_core.specs.Inputs.{InputModel, IsInput, path_in}
 use Rattle.go_part_core.specs.Parts.{ContentOf, FileOf, IsPart}
 use Rattle.go_tree_nodes.specs.Spelling.{IsPlaced}

@@ -16,12 +16,15 @@ pub mod face_core
 pub mod fault_core
 pub mod file_core
 pub mod func_core
+pub mod graph_core
 pub mod handle_core
 pub mod inline_core
 pub mod level_core
 pub mod literal_core
 pub mod names_core
+pub mod operand_core
 pub mod package_core
+pub mod parse_core
 pub mod piece_core
 pub mod ready_core
 pub mod report_core
@@ -32,9 +35,7 @@ pub mod statement_core
 pub mod summary_core
 pub mod table_core
 pub mod top_core
-pub mod tree_core
 pub mod type_core
 pub mod used_core
 pub mod value_core
-pub mod walk_core
 pub mod written_core

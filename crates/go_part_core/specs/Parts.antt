@@ -4,25 +4,25 @@
 use Rattle.std.specs.Prelude.{◌≡◌, ℕ, List, Option, Some, map, slice_get}
 use Rattle.std.specs.Option.{option_map}
 use Rattle.go_tree_nodes.specs.Trees.{FileTree}
-use Rattle.go_summary_core.specs.graph_core.Lists.{AllNumbered}
-use Rattle.go_summary_core.specs.graph_core.Packages.{trees_of}
-use Rattle.go_summary_core.specs.block_core.Blocks.{BlocksModel, AreBlocks}
-use Rattle.go_summary_core.specs.block_core.Naming.{package_named}
-use Rattle.go_summary_core.specs.table_core.Entries.{Entry}
-use Rattle.go_summary_core.specs.table_core.Tables.{package_types}
+use Rattle.go_package_core.specs.graph_core.Lists.{AllNumbered}
+use Rattle.go_package_core.specs.graph_core.Packages.{trees_of}
+use Rattle.go_package_core.specs.block_core.Blocks.{BlocksModel, AreBlocks}
+use Rattle.go_package_core.specs.block_core.Naming.{package_named}
+use Rattle.go_package_core.specs.table_core.Entries.{Entry}
+use Rattle.go_package_core.specs.table_core.Tables.{package_types}
 use Rattle.go_package_core.specs.entry_core.Meanings.{Shows}
 use Rattle.go_package_core.specs.entry_core.Showing.{shown_in}
 use Rattle.go_package_core.specs.handle_core.Declarations.{Declaration}
-use Rattle.go_package_core.specs.local_core.declared.Fault.{Fault}
+use Rattle.go_local_core.specs.declared.Fault.{Fault}
 use Rattle.go_package_core.specs.report_core.Faults.{IsSettled}
-use Rattle.go_summary_core.specs.face_core.Faces.{TheFace, face_shown}
-use Rattle.go_summary_core.specs.face_core.Packages.{PackageFacesModel}
+use Rattle.go_package_core.specs.face_core.Faces.{TheFace, face_shown}
+use Rattle.go_package_core.specs.face_core.Packages.{PackageFacesModel}
 use Rattle.go_package_core.specs.used_core.Used.{without_unused}
 use Rattle.go_package_core.specs.used_core.Reported.{IsReported}
 use Rattle.go_package_core.specs.ready_core.Packages.{PackageIn, trees_in}
 use Rattle.go_package_core.specs.Checked.{AnswersOf, CheckedOf, IsChecked, answers_shown}
-use Rattle.go_summary_core.specs.Summaries.{SummaryModel, summary_of}
-use Rattle.go_summary_core.specs.Views.{exports_told, faces_told, types_told}
+use Rattle.go_package_core.specs.summary_core.Summaries.{SummaryModel, summary_of}
+use Rattle.go_package_core.specs.summary_core.Views.{exports_told, faces_told, types_told}
 use Rattle.go_part_core.specs.declared.content.PackageContent.{PackageContent}
 use Rattle.go_part_core.specs.declared.files.PartFile.{PartFile}
 use Rattle.go_part_core.specs.Inputs.{InputModel, path_in}

@@ -1,11 +1,11 @@
 //! What a package has by its input.
 ghost use Rattle.std.specs.Prelude.{◌≡◌, ◌++◌, IfOk, length, map};
-ghost use Rattle.go_summary_core.specs.graph_core.Packages.{trees_of};
-ghost use Rattle.go_summary_core.specs.block_core.Blocks.{AreBlocks};
-ghost use Rattle.go_summary_core.specs.block_core.Naming.{package_named};
+ghost use Rattle.go_package_core.specs.graph_core.Packages.{trees_of};
+ghost use Rattle.go_package_core.specs.block_core.Blocks.{AreBlocks};
+ghost use Rattle.go_package_core.specs.block_core.Naming.{package_named};
 ghost use Rattle.go_package_core.specs.entry_core.Showing.{shown_in};
-ghost use Rattle.go_summary_core.specs.table_core.Tables.{AreOthers};
-ghost use Rattle.go_summary_core.specs.Summaries.{summary_of};
+ghost use Rattle.go_package_core.specs.table_core.Tables.{AreOthers};
+ghost use Rattle.go_package_core.specs.summary_core.Summaries.{summary_of};
 ghost use Rattle.go_package_core.specs.ready_core.Packages.{trees_in};
 ghost use Rattle.go_package_core.specs.Checked.{IsChecked, answers_shown, checked_shown};
 ghost use Rattle.go_part_core.specs.Inputs.{path_in};
@@ -13,10 +13,10 @@ ghost use Rattle.go_part_core.specs.Parts.{AreFilesMade, IsMade, part_content_sh
 
 use crate::files::{PartFile, files_made};
 use crate::input::PartInput;
+use go_package_core::block_core::{Blocks, blocks, import_names};
+use go_package_core::face_core::Face;
+use go_package_core::summary_core::{Summary, View, summarize};
 use go_package_core::{CheckedPackage, PackageAt, check_package};
-use go_summary_core::block_core::{Blocks, blocks, import_names};
-use go_summary_core::face_core::Face;
-use go_summary_core::{Summary, View, summarize};
 use go_term_core::{Signature, TypeTerm};
 use std::alloc::{AllocError, Global};
 

@@ -5,12 +5,12 @@ ghost use Rattle.go_package_core.specs.ready_core.Packages.{trees_in};
 ghost use Rattle.go_package_core.specs.Checked.{answers_shown};
 ghost use Rattle.go_part_core.specs.Parts.{AreFilesMade, IsFileMade, file_shown};
 
+use go_local_core::Fault;
 use go_package_core::FileAnswers;
-use go_package_core::local_core::Fault;
+use go_package_core::block_core::Blocks;
+use go_package_core::graph_core::Package;
 use go_package_core::report_core::settle_faults;
 use go_package_core::used_core::{refuse_unused, report};
-use go_summary_core::block_core::Blocks;
-use go_summary_core::graph_core::Package;
 use go_text_core::add;
 use go_tree_nodes::File;
 use std::alloc::{AllocError, Global};

@@ -1,16 +1,16 @@
 //! What a package's part is made from.
 ghost use Rattle.std.specs.Prelude.{◌≡◌, ◌↔◌, IfOk, IsTrue, map};
-ghost use Rattle.go_summary_core.specs.graph_core.Packages.{trees_of};
-ghost use Rattle.go_summary_core.specs.graph_core.Workspaces.{AreAllRead};
-ghost use Rattle.go_summary_core.specs.block_core.Naming.{HaveOneEach, imported_in};
+ghost use Rattle.go_package_core.specs.graph_core.Packages.{trees_of};
+ghost use Rattle.go_package_core.specs.graph_core.Workspaces.{AreAllRead};
+ghost use Rattle.go_package_core.specs.block_core.Naming.{HaveOneEach, imported_in};
 ghost use Rattle.go_part_core.specs.Inputs.{AreOfOthers, IsInput, input_with, path_in};
 
 use crate::same::same_imports;
 use crate::shared::shared_imports;
+use go_package_core::block_core::Imported;
+use go_package_core::graph_core::Package;
+use go_package_core::summary_core::ReachedSummaries;
 use go_path_core::ImportPath;
-use go_summary_core::ReachedSummaries;
-use go_summary_core::block_core::Imported;
-use go_summary_core::graph_core::Package;
 use std::alloc::{AllocError, Global};
 use std::marker::Model;
 use std::sync::Arc;
@@ -40,7 +40,7 @@ impl Drop for PartInput {
 impl Model for PartInput {
     ghost use Rattle.std.specs.Prelude.{map};
     ghost use Rattle.std.specs.Arc.{arc_value};
-    ghost use Rattle.go_summary_core.specs.block_core.Naming.{imported_in};
+    ghost use Rattle.go_package_core.specs.block_core.Naming.{imported_in};
     ghost use Rattle.go_part_core.specs.Inputs.{InputModel, IsInput, coded_input, input_with};
 
     ghost Value = { InputModel };

@@ -26,9 +26,17 @@ pub mod answer_core {
     pub use go_package_core::answer_core::{Answer, HeldLocal, Site};
 }
 
+/// What the crates above name of `go_block_core`.
+pub mod block_core {
+    pub use go_package_core::block_core::{
+        Blocks, DeclKind, DeclRef, Imported, Target, import_specs, one_blocks_alone,
+        workspace_blocks,
+    };
+}
+
 /// What the crates above name of `go_denote_core`.
 pub mod denote_core {
-    pub use go_summary_core::denote_core::Outcome;
+    pub use go_package_core::denote_core::Outcome;
 }
 
 /// What the crates above name of `go_entry_core`.
@@ -38,7 +46,7 @@ pub mod entry_core {
 
 /// What the crates above name of `go_face_core`.
 pub mod face_core {
-    pub use go_summary_core::face_core::{Face, FaceTable, lend};
+    pub use go_package_core::face_core::{Face, FaceTable, lend};
 }
 
 /// What the crates above name of `go_file_core`.
@@ -51,9 +59,27 @@ pub mod func_core {
     pub use go_package_core::func_core::{functions_have_one_table, locals_are_declarations};
 }
 
+/// What the crates above name of `go_graph_core`.
+pub mod graph_core {
+    pub use go_package_core::graph_core::{
+        ImportAt, ImportOutcome, Package, PackageSource, Plan, SourceFile, Workspace, assemble,
+        one_outcome, plan_imports,
+    };
+}
+
 /// What the crates above name of `go_handle_core`.
 pub mod handle_core {
     pub use go_package_core::handle_core::{Decl, DeclSite, SignatureRef, TypeRef};
+}
+
+/// What the crates above name of `go_names_core`.
+pub mod names_core {
+    pub use go_package_core::names_core::{Denoted, Outside, function_names};
+}
+
+/// What the crates above name of `go_operand_core`.
+pub mod operand_core {
+    pub use go_package_core::operand_core::{Operand, TypeForm, ValueType};
 }
 
 /// What the crates above name of `go_package_core`.
@@ -61,24 +87,38 @@ pub mod package_core {
     pub use go_package_core::{FileAnswers, one_check};
 }
 
+/// What the crates above name of `go_parse_core`.
+pub mod parse_core {
+    pub use go_package_core::parse_core::{ParseError, Parsed, one_rule, one_tree, parse, tree_of};
+}
+
 /// What the crates above name of `go_ready_core`.
 pub mod ready_core {
     pub use go_package_core::ready_core::{PackageAt, package_outlines};
 }
 
+/// What the crates above name of `go_scope_core`.
+pub mod scope_core {
+    pub use go_package_core::scope_core::{DeclId, InScope, Scopes, ShortDecl, ShortName};
+}
+
 /// What the crates above name of `go_select_core`.
 pub mod select_core {
-    pub use go_summary_core::select_core::EmbedPath;
+    pub use go_package_core::select_core::EmbedPath;
 }
 
 /// What the crates above name of `go_summary_core`.
 pub mod summary_core {
-    pub use go_summary_core::{ReachedSummaries, Summary, SummaryList, View, import_view, view_of};
+    pub use go_package_core::summary_core::{
+        ReachedSummaries, Summary, SummaryList, View, import_view, view_of,
+    };
 }
 
 /// What the crates above name of `go_table_core`.
 pub mod table_core {
-    pub use go_summary_core::table_core::{DeclaredMethod, DefinedType, TypeTable};
+    pub use go_package_core::table_core::{
+        DeclaredMethod, DefinedType, PackageTypes, StructField, TypeTable,
+    };
 }
 
 /// What the crates above name of `go_used_core`.

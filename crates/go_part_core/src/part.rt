@@ -1,14 +1,14 @@
 //! The part of a package.
 ghost use Rattle.std.specs.Prelude.{◌≡◌, ◌++◌, ◌∷◌, [], IfOk, OnOk};
-ghost use Rattle.go_summary_core.specs.Views.{types_told};
+ghost use Rattle.go_package_core.specs.summary_core.Views.{types_told};
 ghost use Rattle.go_part_core.specs.Inputs.{path_in};
 ghost use Rattle.go_part_core.specs.Parts.{IsPart, part_content_shown, part_with};
 
 use crate::content::{PackageContent, compile_over};
 use crate::input::PartInput;
+use go_package_core::summary_core::{Summary, view_of};
+use go_package_core::table_core::TypeTable;
 use go_path_core::ImportPath;
-use go_summary_core::table_core::TypeTable;
-use go_summary_core::{Summary, view_of};
 use go_text_core::add;
 use std::alloc::{AllocError, Global};
 use std::marker::Model;
@@ -34,9 +34,9 @@ impl Drop for Part {
 impl Model for Part {
     ghost use Rattle.std.specs.Arc.{arc_value};
     ghost use Rattle.std.specs.Coded.{codes};
-    ghost use Rattle.go_summary_core.specs.block_core.Blocks.{coded_blocks};
-    ghost use Rattle.go_summary_core.specs.face_core.codes.FaceCodes.{coded_face, coded_operand};
-    ghost use Rattle.go_summary_core.specs.codes.SummaryCodes.{coded_summary};
+    ghost use Rattle.go_package_core.specs.block_core.Blocks.{coded_blocks};
+    ghost use Rattle.go_package_core.specs.face_core.codes.FaceCodes.{coded_face, coded_operand};
+    ghost use Rattle.go_package_core.specs.summary_core.codes.SummaryCodes.{coded_summary};
     ghost use Rattle.go_part_core.specs.Inputs.{coded_input};
     ghost use Rattle.go_part_core.specs.Parts.{IsPart, PartModel, part_content_shown, part_with};
 

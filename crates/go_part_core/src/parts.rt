@@ -16,9 +16,9 @@ pub struct Parts {
 impl Model for Parts {
     ghost use Rattle.std.specs.Prelude.{List, Option};
     ghost use Rattle.std.specs.Coded.{codes};
-    ghost use Rattle.go_summary_core.specs.block_core.Blocks.{coded_blocks};
-    ghost use Rattle.go_summary_core.specs.face_core.codes.FaceCodes.{coded_face, coded_operand};
-    ghost use Rattle.go_summary_core.specs.codes.SummaryCodes.{coded_summary};
+    ghost use Rattle.go_package_core.specs.block_core.Blocks.{coded_blocks};
+    ghost use Rattle.go_package_core.specs.face_core.codes.FaceCodes.{coded_face, coded_operand};
+    ghost use Rattle.go_package_core.specs.summary_core.codes.SummaryCodes.{coded_summary};
     ghost use Rattle.go_part_core.specs.Inputs.{coded_input};
     ghost use Rattle.go_part_core.specs.Parts.{PartModel};
 

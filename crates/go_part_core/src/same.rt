@@ -1,9 +1,9 @@
 //! Equality of what inputs hold.
 ghost use Rattle.std.specs.Prelude.{◌≡◌, ◌↔◌, IsTrue, map};
-ghost use Rattle.go_summary_core.specs.block_core.Naming.{imported_in};
+ghost use Rattle.go_package_core.specs.block_core.Naming.{imported_in};
 
-use go_summary_core::alike_core::same_exports;
-use go_summary_core::block_core::Imported;
+use go_package_core::alike_core::same_exports;
+use go_package_core::block_core::Imported;
 use go_text_core::Rule;
 
 // Whether two rules are the same.

@@ -1,8 +1,8 @@
 //! What imports come to, once more.
 ghost use Rattle.std.specs.Prelude.{◌≡◌, IfOk, map};
-ghost use Rattle.go_summary_core.specs.block_core.Naming.{imported_in};
+ghost use Rattle.go_package_core.specs.block_core.Naming.{imported_in};
 
-use go_summary_core::block_core::Imported;
+use go_package_core::block_core::Imported;
 use go_text_core::add;
 use std::alloc::{AllocError, Global};
 

@@ -18,7 +18,7 @@ use Rattle.go_statement_core.specs.denote_core.declared.things.Argument.TheVaria
 use Rattle.go_statement_core.specs.declared.targets.Target.{Target}
 use Rattle.go_statement_core.specs.Declarations.{declared_types, type_after, paired_types, short_types}
 use Rattle.go_statement_core.proofs.Typing.{declared_count, paired_count}
-use Rattle.go_expr_core.specs.Looks.{Looks}
+use Rattle.go_statement_core.specs.expr_core.Looks.{Looks}
 use Rattle.go_piece_core.specs.Values.{variable}
 use Rattle.go_piece_core.specs.Targets.{flags_behind, short_targets}
 use Rattle.go_piece_core.specs.Specifications.{constant_value, constant_values, names_values}

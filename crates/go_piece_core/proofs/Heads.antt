@@ -7,7 +7,7 @@ use Rattle.go_tree_nodes.specs.declared.types.Params.{Params, out-Params}
 use Rattle.go_tree_nodes.specs.TypeShapes.{shape_signature, shape_results, params_of}
 use Rattle.go_tree_nodes.specs.Rules.{is_grouped}
 use Rattle.go_tree_nodes.proofs.TypeShapes.{listed_parts, signature_parts}
-use Rattle.go_expr_core.specs.Looks.{Looks}
+use Rattle.go_statement_core.specs.expr_core.Looks.{Looks}
 use Rattle.go_piece_core.specs.Headers.{entry_types, types_of_result, types_of_signature, returned_types, params_faults, result_faults, signature_faults, has_result_names, returned_names}
 
 pub listed_types : {T S D P : Type 0} (looks : Looks T S D P) (b : Bool) (r : declared_results.Results) (p : Params) → r ≡ results.Listed p → entry_types looks b (params_of (out-Params p).entries.items) ≡ types_of_result looks b (shape_results r)

@@ -7,8 +7,8 @@ use Rattle.go_tree_nodes.specs.declared.exprs.NextExpr.{NextExpr}
 use Rattle.go_tree_nodes.specs.Shapes.{shape, exprs_from}
 use Rattle.go_tree_nodes.specs.TypeShapes.{idents_from}
 use Rattle.go_walk_core.specs.local_core.Outline.{idents}
-use Rattle.go_expr_core.specs.Looks.{Looks}
-use Rattle.go_expr_core.specs.Places.{is_call, start}
+use Rattle.go_statement_core.specs.expr_core.Looks.{Looks}
+use Rattle.go_statement_core.specs.expr_core.Places.{is_call, start}
 use Rattle.go_piece_core.specs.Values.{is_call_alone, list_start, behind}
 use Rattle.go_piece_core.specs.Targets.{target, target_uses, target_faults, targets, targets_uses, targets_faults}
 use Rattle.go_piece_core.specs.Specifications.{names_start}

@@ -22,7 +22,7 @@ use Rattle.go_statement_core.specs.denote_core.declared.things.Denoted.TheVarian
 use Rattle.go_statement_core.specs.denote_core.declared.things.Argument.{Argument}
 use Rattle.go_statement_core.specs.denote_core.declared.things.Found.{Found}
 use Rattle.go_statement_core.specs.denote_core.Arguments.{argument_of, arguments_of, is_free, single_rule}
-use Rattle.go_expr_core.specs.literal_core.Literals.{literal_type}
+use Rattle.go_statement_core.specs.literal_core.Literals.{literal_type}
 use Rattle.go_statement_core.specs.declared.targets.Target.TheVariants as targets_are
 use Rattle.go_statement_core.specs.Targets.{target_of}
 use Rattle.go_statement_core.specs.Assignments.{assignment_rule}
@@ -31,17 +31,17 @@ use Rattle.go_statement_core.specs.Constants.{constants_rule}
 use Rattle.go_statement_core.specs.Returns.{return_rule}
 use Rattle.go_statement_core.specs.Statements.{statement_rule, condition_rule}
 use Rattle.go_statement_core.specs.Updates.{update_rule, increment_rule}
-use Rattle.go_expr_core.specs.Looks.{Looks, WrittenRules, look_of_place}
-use Rattle.go_expr_core.specs.Places.{start}
-use Rattle.go_expr_core.specs.Denoting.{denoted, named_type, written_type}
-use Rattle.go_expr_core.specs.Uses.{uses, type_name_uses, params_spots, result_spots, type_spots, use_of}
-use Rattle.go_expr_core.specs.TypeUses.{type_uses, signature_uses, result_uses, params_uses}
-use Rattle.go_expr_core.specs.Faults.{fault_at, listed_rule, operand_faults, member_faults}
-use Rattle.go_expr_core.specs.Lists.{is_list, denoted_exprs, exprs_uses, exprs_faults}
-use Rattle.go_expr_core.specs.Laws as expressions
-use Rattle.go_expr_core.specs.Laws.{AgreeOnIdents, Same}
-use Rattle.go_expr_core.specs.Locality.{SameType, SameWritten, seeing}
-use Rattle.go_expr_core.proofs.Alike.{agree_left, agree_right, pieces, expressions_seen}
+use Rattle.go_statement_core.specs.expr_core.Looks.{Looks, WrittenRules, look_of_place}
+use Rattle.go_statement_core.specs.expr_core.Places.{start}
+use Rattle.go_statement_core.specs.expr_core.Denoting.{denoted, named_type, written_type}
+use Rattle.go_statement_core.specs.expr_core.Uses.{uses, type_name_uses, params_spots, result_spots, type_spots, use_of}
+use Rattle.go_statement_core.specs.expr_core.TypeUses.{type_uses, signature_uses, result_uses, params_uses}
+use Rattle.go_statement_core.specs.expr_core.Faults.{fault_at, listed_rule, operand_faults, member_faults}
+use Rattle.go_statement_core.specs.expr_core.Lists.{is_list, denoted_exprs, exprs_uses, exprs_faults}
+use Rattle.go_statement_core.specs.expr_core.Laws as expressions
+use Rattle.go_statement_core.specs.expr_core.Laws.{AgreeOnIdents, Same}
+use Rattle.go_statement_core.specs.expr_core.Locality.{SameType, SameWritten, seeing}
+use Rattle.go_statement_core.specs.expr_core.Alike.{agree_left, agree_right, pieces, expressions_seen}
 use Rattle.std.proofs.lemmas.List.{map-append}
 use Rattle.std.proofs.Common.{append-nil}
 use Rattle.go_piece_core.specs.Values.{variable, is_call_alone, list_start, given, is_unknown}

@@ -7,8 +7,8 @@ use Rattle.go_statement_core.specs.denote_core.declared.things.Argument.{Argumen
 use Rattle.go_statement_core.specs.declared.targets.Target.{Target}
 use Rattle.go_statement_core.specs.Assignments.{assignment_rule}
 use Rattle.go_walk_core.specs.local_core.declared.Fault.{Fault}
-use Rattle.go_expr_core.specs.Faults.{fault_at}
-use Rattle.go_expr_core.proofs.Steps.{both}
+use Rattle.go_statement_core.specs.expr_core.Faults.{fault_at}
+use Rattle.go_statement_core.specs.expr_core.Steps.{both}
 
 pub noted_behind : (f0 f1 f2 a : List Fault) (offset offset' : ℕ) (rule rule' : Option Rule) → f1 ≡ f0 ++ a → f2 ≡ f1 ++ fault_at offset rule → offset ≡ offset' → rule ≡ rule' → f2 ≡ f0 ++ (a ++ fault_at offset' rule')
 noted_behind f0 f1 f2 a offset offset' rule rule' first second p q =

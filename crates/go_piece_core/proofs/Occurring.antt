@@ -13,20 +13,20 @@ use Rattle.go_tree_nodes.specs.Trees as tree
 use Rattle.go_tree_nodes.specs.Trees.{Separated, One, Then, TypeTree, SignatureTree, Interface, NoMethods, Method, ExprTree, Integer, Text, Named, Paren, Unary, Binary, Select, Call, Literal, StructLiteral, ValueSpecTree, Specs, Single, Group, SimpleTree, Alone, Step, Assign, Update, Define, IfTree, ForTree, Forever, While, Clauses, StmtTree, BranchTree, ElseTree, Lines, Empty, Simple, Return, Break, Continue, Block, If, For, Branch, NoElse, ElseBlock, ElseIf, NoLines, Line, FuncTree}
 use Rattle.go_tree_nodes.specs.Rules.{Wf, Wf_exprs, Wf_values, Wf_simple}
 use Rattle.go_tree_nodes.specs.Spelling.{spell_value_spec, spell_simple, spell_branch}
-use Rattle.go_expr_core.specs.tree_core.declared.occurrence.Context.TheVariants as contexts
-use Rattle.go_expr_core.specs.tree_core.declared.occurrence.Occ.{Occ}
-use Rattle.go_expr_core.specs.tree_core.Occurrences.{under, expr_occs, exprs_occs, type_occs, signature_occs, receiver_occs, some_type_occs, values_occs, value_spec_occs, group_occs, specs_occs, simple_occs, some_simple_occs, some_expr_occs, init_occs, if_occs, for_occs, stmt_occs, branch_occs, else_occs, lines_occs, func_occs}
+use Rattle.go_statement_core.specs.tree_core.declared.occurrence.Context.TheVariants as contexts
+use Rattle.go_statement_core.specs.tree_core.declared.occurrence.Occ.{Occ}
+use Rattle.go_statement_core.specs.tree_core.Occurrences.{under, expr_occs, exprs_occs, type_occs, signature_occs, receiver_occs, some_type_occs, values_occs, value_spec_occs, group_occs, specs_occs, simple_occs, some_simple_occs, some_expr_occs, init_occs, if_occs, for_occs, stmt_occs, branch_occs, else_occs, lines_occs, func_occs}
 use Rattle.go_walk_core.specs.Ends.{is_blank_target}
 use Rattle.go_walk_core.specs.local_core.Steps.{Piece, Header, Spec, Act, Condition, Given, Newness, EachFirst, OneNew, Steps, Done, Check, Declare, Inner}
 use Rattle.go_walk_core.specs.local_core.Outline.{idents, end_of, spec_steps, group_steps, specs_steps, simple_steps, some_simple_steps, init_steps, some_condition_steps, if_steps, for_steps, stmt_steps, branch_steps, else_steps, lines_steps, func_steps}
 use Rattle.go_statement_core.specs.denote_core.declared.things.Stand.TheVariants as stands
-use Rattle.go_expr_core.specs.declared.things.Use.{Use}
-use Rattle.go_expr_core.specs.Looks.{Looks}
-use Rattle.go_expr_core.specs.Uses.{uses, type_name_uses, use_of, signature_spots}
-use Rattle.go_expr_core.specs.TypeUses.{type_uses, signature_uses}
-use Rattle.go_expr_core.specs.Lists.{exprs_uses}
-use Rattle.go_expr_core.specs.Laws.{use_place, occurrence_place}
-use Rattle.go_expr_core.proofs.Occurring.{uses_occur}
+use Rattle.go_statement_core.specs.expr_core.declared.things.Use.{Use}
+use Rattle.go_statement_core.specs.expr_core.Looks.{Looks}
+use Rattle.go_statement_core.specs.expr_core.Uses.{uses, type_name_uses, use_of, signature_spots}
+use Rattle.go_statement_core.specs.expr_core.TypeUses.{type_uses, signature_uses}
+use Rattle.go_statement_core.specs.expr_core.Lists.{exprs_uses}
+use Rattle.go_statement_core.specs.expr_core.Laws.{use_place, occurrence_place}
+use Rattle.go_statement_core.specs.expr_core.Occurring.{uses_occur}
 use Rattle.go_piece_core.specs.Types.{some_type_uses}
 use Rattle.go_piece_core.specs.Targets.{target_uses, targets_uses}
 use Rattle.go_piece_core.specs.Specifications.{values_uses}

@@ -15,9 +15,9 @@ use Rattle.go_walk_core.specs.local_core.Outline as outline
 use Rattle.go_walk_core.specs.local_core.Binding.{NameLook}
 use Rattle.go_walk_core.specs.local_core.Alike.{Alike}
 use Rattle.go_walk_core.specs.Ends.{is_blank_target}
-use Rattle.go_expr_core.specs.Looks.{Looks}
-use Rattle.go_expr_core.specs.Laws.{AgreeOnIdents}
-use Rattle.go_expr_core.specs.Locality.{SameWritten, seeing}
+use Rattle.go_statement_core.specs.expr_core.Looks.{Looks}
+use Rattle.go_statement_core.specs.expr_core.Laws.{AgreeOnIdents}
+use Rattle.go_statement_core.specs.expr_core.Locality.{SameWritten, seeing}
 use Rattle.go_piece_core.specs.Pieces.{piece_uses, piece_faults}
 use Rattle.go_piece_core.specs.Laws.{simple_idents, piece_idents, SamePiece, FindByNames, PiecesLookAtNames}
 use Rattle.go_walk_core.specs.local_core.Pieces.{piece_types}

@@ -10,7 +10,7 @@ use Rattle.go_statement_core.specs.denote_core.declared.things.Argument.{Argumen
 use Rattle.go_statement_core.specs.declared.targets.Target.{Target}
 use Rattle.go_statement_core.specs.Constants.{constant_answer}
 use Rattle.go_walk_core.specs.local_core.declared.Fault.{Fault}
-use Rattle.go_expr_core.specs.Looks.{Looks}
+use Rattle.go_statement_core.specs.expr_core.Looks.{Looks}
 use Rattle.go_piece_core.specs.Values.{list_start, behind}
 use Rattle.go_piece_core.specs.Targets.{short_target, flag_of, flags_behind, short_targets}
 use Rattle.go_piece_core.specs.Specifications.{constant_fault, each_constant_faults}

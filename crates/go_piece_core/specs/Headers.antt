@@ -10,12 +10,12 @@ use Rattle.go_tree_nodes.specs.Trees.{Separated, SignatureTree, ResultTree, Para
 use Rattle.go_tree_nodes.specs.Rules.{is_grouped}
 use Rattle.go_walk_core.specs.local_core.Outline.{idents}
 use Rattle.go_statement_core.specs.operand_core.TypeRules.{TypeRules}
-use Rattle.go_expr_core.specs.declared.things.Use.{Use}
+use Rattle.go_statement_core.specs.expr_core.declared.things.Use.{Use}
 use Rattle.go_walk_core.specs.local_core.declared.Fault.{Fault}
-use Rattle.go_expr_core.specs.Looks.{Looks}
-use Rattle.go_expr_core.specs.Denoting.{named_type, written_type}
-use Rattle.go_expr_core.specs.Uses.{type_name_uses}
-use Rattle.go_expr_core.specs.TypeUses.{signature_uses}
+use Rattle.go_statement_core.specs.expr_core.Looks.{Looks}
+use Rattle.go_statement_core.specs.expr_core.Denoting.{named_type, written_type}
+use Rattle.go_statement_core.specs.expr_core.Uses.{type_name_uses}
+use Rattle.go_statement_core.specs.expr_core.TypeUses.{signature_uses}
 use Rattle.go_piece_core.specs.Types.{type_faults}
 
 -- receivers

@@ -7,9 +7,9 @@ use Rattle.go_tree_nodes.specs.declared.names.Ident.{Ident}
 use Rattle.go_tree_nodes.specs.declared.decls.ValueKind.{ValueKind}
 use Rattle.go_tree_nodes.specs.Trees.{ValueSpecTree, SimpleTree, Alone, Step, Assign, Update, Define, FuncTree}
 use Rattle.go_tree_nodes.specs.Rules.{Wf, Wf_values, Wf_simple, Wf_some_exprs}
-use Rattle.go_expr_core.specs.tree_core.declared.occurrence.Context.TheVariants as contexts
-use Rattle.go_expr_core.specs.tree_core.declared.occurrence.Occ.{Occ}
-use Rattle.go_expr_core.specs.tree_core.Occurrences.{receiver_occs, signature_occs, value_spec_occs, simple_occs, expr_occs, some_exprs_occs, func_occs}
+use Rattle.go_statement_core.specs.tree_core.declared.occurrence.Context.TheVariants as contexts
+use Rattle.go_statement_core.specs.tree_core.declared.occurrence.Occ.{Occ}
+use Rattle.go_statement_core.specs.tree_core.Occurrences.{receiver_occs, signature_occs, value_spec_occs, simple_occs, expr_occs, some_exprs_occs, func_occs}
 use Rattle.go_walk_core.specs.local_core.Steps.{Piece, Header, Spec, Act, Condition, Given, Steps, Done, Check, Declare, Inner, spell_piece}
 use Rattle.go_walk_core.specs.local_core.Outline.{func_steps}
 use Rattle.go_walk_core.specs.local_core.Outline as outline
@@ -18,11 +18,11 @@ use Rattle.go_walk_core.specs.local_core.Law.{Rules}
 use Rattle.go_walk_core.specs.local_core.Alike.{Alike, LookAtNames}
 use Rattle.go_statement_core.specs.operand_core.declared.types.Operand.{Operand}
 use Rattle.go_statement_core.specs.denote_core.declared.things.Found.{Found}
-use Rattle.go_expr_core.specs.declared.things.Use.{Use}
+use Rattle.go_statement_core.specs.expr_core.declared.things.Use.{Use}
 use Rattle.go_walk_core.specs.local_core.declared.Fault.{Fault}
-use Rattle.go_expr_core.specs.Looks.{Looks, WrittenRules}
-use Rattle.go_expr_core.specs.Laws as expressions
-use Rattle.go_expr_core.specs.Locality.{SameWritten, seeing}
+use Rattle.go_statement_core.specs.expr_core.Looks.{Looks, WrittenRules}
+use Rattle.go_statement_core.specs.expr_core.Laws as expressions
+use Rattle.go_statement_core.specs.expr_core.Locality.{SameWritten, seeing}
 use Rattle.go_piece_core.specs.Pieces.{piece_uses, piece_faults, piece_values}
 use Rattle.go_piece_core.specs.Specifications.{outer_faults, outer_values}
 use Rattle.go_walk_core.specs.local_core.Pieces.{piece_declares, piece_types}

@@ -11,8 +11,7 @@ pub mod mirrors
 pub mod constant_core
 pub mod denote_core
 pub mod expr_core
+pub mod literal_core
 pub mod local_core
-pub mod operand_core
 pub mod statement_core
-pub mod tree_core
 pub mod walk_core

@@ -7,10 +7,10 @@ use Rattle.go_tree_nodes.specs.Trees.{SimpleTree, Alone, Step, Assign, Update, D
 use Rattle.go_walk_core.specs.local_core.Steps.{Piece, Header, Spec, Act, Condition, Given}
 use Rattle.go_statement_core.specs.operand_core.declared.types.Operand.{Operand}
 use Rattle.go_statement_core.specs.denote_core.declared.things.Stand.TheVariants as stands
-use Rattle.go_expr_core.specs.declared.things.Use.{Use}
+use Rattle.go_statement_core.specs.expr_core.declared.things.Use.{Use}
 use Rattle.go_walk_core.specs.local_core.declared.Fault.{Fault}
-use Rattle.go_expr_core.specs.Looks.{Looks}
-use Rattle.go_expr_core.specs.Uses.{uses}
+use Rattle.go_statement_core.specs.expr_core.Looks.{Looks}
+use Rattle.go_statement_core.specs.expr_core.Uses.{uses}
 use Rattle.go_piece_core.specs.Values.{variable}
 use Rattle.go_piece_core.specs.Specifications.{spec_uses, spec_faults, spec_values}
 use Rattle.go_piece_core.specs.Headers.{header_uses, signature_faults, header_types}

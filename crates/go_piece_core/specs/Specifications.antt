@@ -16,10 +16,10 @@ use Rattle.go_statement_core.specs.denote_core.declared.things.Argument.{Argumen
 use Rattle.go_statement_core.specs.denote_core.declared.things.Argument.TheVariants as arguments
 use Rattle.go_statement_core.specs.Declarations.{declared_types, variables_rule, initials_rule, initial_types}
 use Rattle.go_statement_core.specs.Constants.{constants_rule, constant_answer}
-use Rattle.go_expr_core.specs.declared.things.Use.{Use}
+use Rattle.go_statement_core.specs.expr_core.declared.things.Use.{Use}
 use Rattle.go_walk_core.specs.local_core.declared.Fault.{Fault}
-use Rattle.go_expr_core.specs.Looks.{Looks}
-use Rattle.go_expr_core.specs.Faults.{fault_at}
+use Rattle.go_statement_core.specs.expr_core.Looks.{Looks}
+use Rattle.go_statement_core.specs.expr_core.Faults.{fault_at}
 use Rattle.go_piece_core.specs.Values.{variable, is_call_alone, list_start, behind, given, is_unknown, list_uses, list_faults}
 use Rattle.go_piece_core.specs.Types.{some_written_type, some_type_uses, some_type_faults}
 

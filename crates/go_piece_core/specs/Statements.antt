@@ -17,14 +17,14 @@ use Rattle.go_statement_core.specs.Declarations.{short_types}
 use Rattle.go_statement_core.specs.Returns.{return_rule}
 use Rattle.go_statement_core.specs.Statements.{statement_rule, condition_rule}
 use Rattle.go_statement_core.specs.Updates.{update_rule, increment_rule}
-use Rattle.go_expr_core.specs.declared.things.Use.{Use}
+use Rattle.go_statement_core.specs.expr_core.declared.things.Use.{Use}
 use Rattle.go_walk_core.specs.local_core.declared.Fault.{Fault}
-use Rattle.go_expr_core.specs.Looks.{Looks}
-use Rattle.go_expr_core.specs.Places.{start}
-use Rattle.go_expr_core.specs.Lists.{is_list}
-use Rattle.go_expr_core.specs.Denoting.{denoted}
-use Rattle.go_expr_core.specs.Uses.{uses}
-use Rattle.go_expr_core.specs.Faults.{faults, fault_at, operand_faults}
+use Rattle.go_statement_core.specs.expr_core.Looks.{Looks}
+use Rattle.go_statement_core.specs.expr_core.Places.{start}
+use Rattle.go_statement_core.specs.expr_core.Lists.{is_list}
+use Rattle.go_statement_core.specs.expr_core.Denoting.{denoted}
+use Rattle.go_statement_core.specs.expr_core.Uses.{uses}
+use Rattle.go_statement_core.specs.expr_core.Faults.{faults, fault_at, operand_faults}
 use Rattle.go_piece_core.specs.Values.{list_start, given, is_unknown, list_uses, list_faults}
 use Rattle.go_piece_core.specs.Targets.{targets, targets_uses, targets_faults, short_targets}
 use Rattle.go_piece_core.specs.Specifications.{names_start}

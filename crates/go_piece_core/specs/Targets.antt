@@ -12,12 +12,12 @@ use Rattle.go_statement_core.specs.denote_core.declared.things.Stand.TheVariants
 use Rattle.go_statement_core.specs.declared.targets.Target.{Target}
 use Rattle.go_statement_core.specs.declared.targets.Target.TheVariants as kinds
 use Rattle.go_statement_core.specs.Targets.{target_of}
-use Rattle.go_expr_core.specs.declared.things.Use.{Use}
+use Rattle.go_statement_core.specs.expr_core.declared.things.Use.{Use}
 use Rattle.go_walk_core.specs.local_core.declared.Fault.{Fault}
-use Rattle.go_expr_core.specs.Looks.{Looks}
-use Rattle.go_expr_core.specs.Denoting.{ident_answer, denoted}
-use Rattle.go_expr_core.specs.Uses.{uses}
-use Rattle.go_expr_core.specs.Faults.{member_faults}
+use Rattle.go_statement_core.specs.expr_core.Looks.{Looks}
+use Rattle.go_statement_core.specs.expr_core.Denoting.{ident_answer, denoted}
+use Rattle.go_statement_core.specs.expr_core.Uses.{uses}
+use Rattle.go_statement_core.specs.expr_core.Faults.{member_faults}
 
 -- left of `=`: `_`, in parentheses too, is no occurrence; anything else is an operand
 

@@ -3,11 +3,11 @@
 -- docs/RULES.md, "Types", "Expressions: roles, order, faults of parts". The Go specification, "Types", "Variable declarations".
 use Rattle.std.specs.Prelude.{List, [], Option, Some, None}
 use Rattle.go_tree_nodes.specs.Trees.{TypeTree}
-use Rattle.go_expr_core.specs.declared.things.Use.{Use}
+use Rattle.go_statement_core.specs.expr_core.declared.things.Use.{Use}
 use Rattle.go_walk_core.specs.local_core.declared.Fault.{Fault}
-use Rattle.go_expr_core.specs.Looks.{Looks}
-use Rattle.go_expr_core.specs.Denoting.{named_type, written_type}
-use Rattle.go_expr_core.specs.TypeUses.{type_uses}
+use Rattle.go_statement_core.specs.expr_core.Looks.{Looks}
+use Rattle.go_statement_core.specs.expr_core.Denoting.{named_type, written_type}
+use Rattle.go_statement_core.specs.expr_core.TypeUses.{type_uses}
 
 -- the faults of a type, beside those that its names have
 abbrev pub type_faults : {T S D P : Type 0} → Looks T S D P → TypeTree → List Fault

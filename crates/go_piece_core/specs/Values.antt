@@ -8,11 +8,11 @@ use Rattle.go_statement_core.specs.operand_core.declared.types.ValueType.TheVari
 use Rattle.go_statement_core.specs.operand_core.declared.types.Operand.{Operand}
 use Rattle.go_statement_core.specs.denote_core.declared.things.Argument.{Argument}
 use Rattle.go_statement_core.specs.denote_core.Arguments.{arguments_of, is_free}
-use Rattle.go_expr_core.specs.declared.things.Use.{Use}
+use Rattle.go_statement_core.specs.expr_core.declared.things.Use.{Use}
 use Rattle.go_walk_core.specs.local_core.declared.Fault.{Fault}
-use Rattle.go_expr_core.specs.Looks.{Looks, look_of_place}
-use Rattle.go_expr_core.specs.Places.{is_call, start}
-use Rattle.go_expr_core.specs.Lists.{is_list, denoted_exprs, exprs_uses, exprs_faults}
+use Rattle.go_statement_core.specs.expr_core.Looks.{Looks, look_of_place}
+use Rattle.go_statement_core.specs.expr_core.Places.{is_call, start}
+use Rattle.go_statement_core.specs.expr_core.Lists.{is_list, denoted_exprs, exprs_uses, exprs_faults}
 
 -- a variable stands for an addressable operand of its type, if it has one
 abbrev pub variable : {T : Type 0} → Option T → Option (Operand T)

@@ -12,7 +12,7 @@ use Rattle.go_tree_nodes.specs.declared.decls.ValueKind.{ValueKind}
 use Rattle.go_tree_nodes.specs.declared.decls.ValueKind.TheVariants as kinds
 use Rattle.go_tree_nodes.specs.Trees.{Separated, One, Then, TypeTree, NamedType, Pointer, ParenType, Struct, Interface, NoFields, ExprTree, Paren, Binary, NoItems, SignatureTree, ResultTree, Signed, OneResult, Results, NoParams, Param, Alone, Step, Assign, Update, Define}
 use Rattle.go_tree_nodes.specs.Samples.{type_at, at, called, name_at}
-use Rattle.go_expr_core.specs.tree_core.declared.occurrence.Role.TheVariants as roles
+use Rattle.go_statement_core.specs.tree_core.declared.occurrence.Role.TheVariants as roles
 use Rattle.go_walk_core.specs.local_core.Steps.{Piece, Header, Spec, Act, Condition, Given}
 use Rattle.go_statement_core.specs.constant_core.declared.values.Constant.TheVariants as constant
 use Rattle.go_statement_core.specs.operand_core.declared.types.ValueType.TheVariants as value_types
@@ -21,10 +21,10 @@ use Rattle.go_statement_core.specs.denote_core.declared.things.Builtin.TheVarian
 use Rattle.go_statement_core.specs.denote_core.declared.things.Found.{Found}
 use Rattle.go_statement_core.specs.denote_core.declared.things.Found.TheVariants as founds
 use Rattle.go_walk_core.specs.local_core.declared.Fault.{Fault}
-use Rattle.go_expr_core.specs.Looks.{Looks}
-use Rattle.go_expr_core.specs.Locality.{seeing}
-use Rattle.go_expr_core.specs.Samples as samples
-use Rattle.go_expr_core.specs.Samples.{Ty, Sig, IntT, StringT, TypeA, Ptr, pick, integer_expr_at, call, one_item, declared_at, refused_at, sample_fault}
+use Rattle.go_statement_core.specs.expr_core.Looks.{Looks}
+use Rattle.go_statement_core.specs.expr_core.Locality.{seeing}
+use Rattle.go_statement_core.specs.expr_core.Samples as samples
+use Rattle.go_statement_core.specs.expr_core.Samples.{Ty, Sig, IntT, StringT, TypeA, Ptr, pick, integer_expr_at, call, one_item, declared_at, refused_at, sample_fault}
 use Rattle.go_piece_core.specs.Pieces.{piece_uses, piece_faults, piece_values}
 use Rattle.go_piece_core.specs.Headers.{returned_types, returned_names}
 use Rattle.go_statement_core.specs.operand_core.Variables.{operand}

@@ -5,7 +5,7 @@ ghost use Rattle.go_tree_nodes.specs.Shapes.{exprs_from, shape_exprs, shape_valu
 ghost use Rattle.go_tree_nodes.specs.TypeShapes.{shape_idents};
 ghost use Rattle.go_statement_core.specs.denote_core.declared.things.Argument.TheVariants as arguments;
 ghost use Rattle.go_statement_core.specs.Constants.{constant_answer as answer_of};
-ghost use Rattle.go_expr_core.specs.Looks.{everywhere};
+ghost use Rattle.go_statement_core.specs.expr_core.Looks.{everywhere};
 ghost use Rattle.go_piece_core.specs.Values as lists;
 ghost use Rattle.go_piece_core.specs.Specifications as specifications;
 
@@ -13,8 +13,8 @@ use crate::given::check_list;
 use crate::starts::{is_lone_call, names_start};
 use crate::types::check_some_type;
 use crate::variables::count_names;
-use go_expr_core::{Exprs, Notes, note_fault, start};
 use go_statement_core::denote_core::Argument;
+use go_statement_core::expr_core::{Exprs, Notes, note_fault, start};
 use go_statement_core::operand_core::{Operand, TypeLooks};
 use go_statement_core::{constant_answer, constants_rule};
 use go_text_core::Rule;

@@ -1,12 +1,12 @@
 //! The values that a list of expressions gives.
 ghost use Rattle.std.specs.Prelude.{◌≡◌, ◌++◌, IfOk, OnOk};
 ghost use Rattle.go_tree_nodes.specs.Shapes.{shape_exprs};
-ghost use Rattle.go_expr_core.specs.Looks.{everywhere};
+ghost use Rattle.go_statement_core.specs.expr_core.Looks.{everywhere};
 ghost use Rattle.go_piece_core.specs.Values as values;
 
 use crate::starts::is_lone_call;
-use go_expr_core::{Exprs, Notes, check_exprs};
 use go_statement_core::denote_core::{Argument, arguments_of, is_free};
+use go_statement_core::expr_core::{Exprs, Notes, check_exprs};
 use std::alloc::{AllocError, Global};
 
 /// What a list of expressions gives.

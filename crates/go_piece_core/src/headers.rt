@@ -2,13 +2,13 @@
 ghost use Rattle.std.specs.Prelude.{◌≡◌, ◌++◌, IfOk, OnOk, map, replicate};
 ghost use Rattle.go_tree_nodes.specs.TypeShapes.{shape_names, shape_results, shape_signature, params_of};
 ghost use Rattle.go_tree_nodes.specs.Rules.{is_grouped};
-ghost use Rattle.go_expr_core.specs.Looks.{everywhere};
+ghost use Rattle.go_statement_core.specs.expr_core.Looks.{everywhere};
 ghost use Rattle.go_piece_core.specs.Values as values;
 ghost use Rattle.go_piece_core.specs.Headers as headers;
 
 use crate::types::{make_type, variables};
 use crate::variables::count_names;
-use go_expr_core::{Exprs, Notes, check_signature, check_type_name};
+use go_statement_core::expr_core::{Exprs, Notes, check_signature, check_type_name};
 use go_statement_core::operand_core::{Operand, TypeLooks};
 use go_statement_core::some_type_again;
 use go_text_core::Span;

@@ -31,13 +31,19 @@ pub use types::variable;
 /// What the crates above name of `go_denote_core`.
 pub mod denote_core {
     pub use go_statement_core::denote_core::{
-        Argument, Denoted, Outcome, Stand, argument_of, arguments_of,
+        Argument, Builtin, Denoted, Exported, Found, Names, Outcome, Selection, Stand, argument_of,
+        arguments_of,
     };
 }
 
 /// What the crates above name of `go_expr_core`.
 pub mod expr_core {
-    pub use go_expr_core::{Exprs, Notes, Use, check_expr, check_type, start};
+    pub use go_statement_core::expr_core::{Exprs, Notes, Use, check_expr, check_type, start};
+}
+
+/// What the crates above name of `go_literal_core`.
+pub mod literal_core {
+    pub use go_statement_core::literal_core::{LiteralField, Literals};
 }
 
 /// What the crates above name of `go_local_core`.
@@ -45,19 +51,9 @@ pub mod local_core {
     pub use go_walk_core::local_core::Fault;
 }
 
-/// What the crates above name of `go_operand_core`.
-pub mod operand_core {
-    pub use go_statement_core::operand_core::Operand;
-}
-
 /// What the crates above name of `go_statement_core`.
 pub mod statement_core {
     pub use go_statement_core::{constant_answer, declared_types, initial_argument};
-}
-
-/// What the crates above name of `go_tree_core`.
-pub mod tree_core {
-    pub use go_expr_core::tree_core::Role;
 }
 
 /// What the crates above name of `go_walk_core`.

@@ -1,7 +1,7 @@
 //! Specifications, and statements that may stand in a header, of any form.
 ghost use Rattle.std.specs.Prelude.{◌≡◌, ◌++◌, [], IfOk, OnOk};
 ghost use Rattle.go_tree_nodes.specs.Shapes.{shape_simple, shape_value_spec};
-ghost use Rattle.go_expr_core.specs.Looks.{everywhere};
+ghost use Rattle.go_statement_core.specs.expr_core.Looks.{everywhere};
 ghost use Rattle.go_piece_core.specs.Specifications as specifications;
 ghost use Rattle.go_piece_core.specs.Statements as statements;
 
@@ -9,7 +9,7 @@ use crate::constants::check_constants;
 use crate::shorts::check_short;
 use crate::statements::{check_alone, check_assign, check_step, check_update};
 use crate::variables::{check_initials, check_variables};
-use go_expr_core::{Exprs, Notes};
+use go_statement_core::expr_core::{Exprs, Notes};
 use go_statement_core::operand_core::Operand;
 use go_tree_nodes::{Simple, ValueKind, ValueSpec};
 use std::alloc::{AllocError, Global};

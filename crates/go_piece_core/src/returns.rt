@@ -1,11 +1,11 @@
 //! What is returned.
 ghost use Rattle.std.specs.Prelude.{◌≡◌, ◌++◌, OnOk};
 ghost use Rattle.go_tree_nodes.specs.Shapes.{shape_some_exprs};
-ghost use Rattle.go_expr_core.specs.Looks.{everywhere};
+ghost use Rattle.go_statement_core.specs.expr_core.Looks.{everywhere};
 ghost use Rattle.go_piece_core.specs.Statements as statements;
 
 use crate::given::check_list;
-use go_expr_core::{Exprs, Notes, note_fault};
+use go_statement_core::expr_core::{Exprs, Notes, note_fault};
 use go_statement_core::return_rule;
 use go_text_core::Span;
 use std::alloc::{AllocError, Global};

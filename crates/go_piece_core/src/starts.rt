@@ -5,7 +5,7 @@ ghost use Rattle.go_tree_nodes.specs.TypeShapes.{shape_idents};
 ghost use Rattle.go_piece_core.specs.Values as values;
 ghost use Rattle.go_piece_core.specs.Specifications as specifications;
 
-use go_expr_core::{is_call, start};
+use go_statement_core::expr_core::{is_call, start};
 use go_tree_nodes::{Exprs, Idents};
 
 /// Whether the only expression of a list is a call, in parentheses or not.

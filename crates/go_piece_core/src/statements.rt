@@ -2,10 +2,10 @@
 ghost use Rattle.std.specs.Prelude.{◌≡◌, ◌++◌, None, IfOk, OnOk};
 ghost use Rattle.go_tree_nodes.specs.Shapes.{shape, shape_exprs};
 ghost use Rattle.go_statement_core.specs.denote_core.declared.things.Stand.TheVariants as stands;
-ghost use Rattle.go_expr_core.specs.Looks.{everywhere};
-ghost use Rattle.go_expr_core.specs.Denoting.{denoted};
-ghost use Rattle.go_expr_core.specs.Uses.{uses};
-ghost use Rattle.go_expr_core.specs.Faults.{faults};
+ghost use Rattle.go_statement_core.specs.expr_core.Looks.{everywhere};
+ghost use Rattle.go_statement_core.specs.expr_core.Denoting.{denoted};
+ghost use Rattle.go_statement_core.specs.expr_core.Uses.{uses};
+ghost use Rattle.go_statement_core.specs.expr_core.Faults.{faults};
 ghost use Rattle.go_piece_core.specs.Values as values;
 ghost use Rattle.go_piece_core.specs.Targets as targets;
 ghost use Rattle.go_piece_core.specs.Statements as statements;
@@ -13,8 +13,10 @@ ghost use Rattle.go_piece_core.specs.Statements as statements;
 use crate::given::check_list;
 use crate::starts::list_start;
 use crate::targets::check_targets;
-use go_expr_core::{Exprs, Notes, check_called, check_expr, check_operand, note_fault, start};
 use go_statement_core::denote_core::{Denoted, Stand, argument_of};
+use go_statement_core::expr_core::{
+    Exprs, Notes, check_called, check_expr, check_operand, note_fault, start,
+};
 use go_statement_core::{
     assignment_rule, condition_rule, increment_rule, statement_rule, update_rule,
 };

@@ -1,12 +1,12 @@
 //! What stands left of `=`.
 ghost use Rattle.std.specs.Prelude.{◌≡◌, ◌++◌, IfOk, OnOk};
 ghost use Rattle.go_tree_nodes.specs.Shapes.{shape, shape_exprs};
-ghost use Rattle.go_expr_core.specs.Looks.{everywhere};
-ghost use Rattle.go_expr_core.specs.Lists.{is_list};
+ghost use Rattle.go_statement_core.specs.expr_core.Looks.{everywhere};
+ghost use Rattle.go_statement_core.specs.expr_core.Lists.{is_list};
 ghost use Rattle.go_piece_core.specs.Targets as targets;
 
-use go_expr_core::{Exprs, Notes, check_expr, is_list, note_member, start};
 use go_statement_core::denote_core::Stand;
+use go_statement_core::expr_core::{Exprs, Notes, check_expr, is_list, note_member, start};
 use go_statement_core::{Target, target_of};
 use go_tree_nodes::Expr;
 use go_walk_core::is_blank_target;

@@ -2,12 +2,12 @@
 ghost use Rattle.std.specs.Prelude.{◌≡◌, ◌++◌, IfOk, OnOk, map};
 ghost use Rattle.go_tree_nodes.specs.Shapes.{shape_some_type};
 ghost use Rattle.go_tree_nodes.specs.TypeShapes.{shape_type};
-ghost use Rattle.go_expr_core.specs.Looks.{everywhere};
-ghost use Rattle.go_expr_core.specs.Denoting.{written_type};
+ghost use Rattle.go_statement_core.specs.expr_core.Looks.{everywhere};
+ghost use Rattle.go_statement_core.specs.expr_core.Denoting.{written_type};
 ghost use Rattle.go_piece_core.specs.Values as values;
 ghost use Rattle.go_piece_core.specs.Types as types;
 
-use go_expr_core::{Exprs, Notes, check_type};
+use go_statement_core::expr_core::{Exprs, Notes, check_type};
 use go_statement_core::operand_core::{Operand, ValueType};
 use go_tree_nodes::TypeExpr;
 use go_walk_core::local_core::Fault;

@@ -4,13 +4,13 @@ ghost use Rattle.go_tree_nodes.specs.declared.decls.ValueKind.TheVariants as kin
 ghost use Rattle.go_tree_nodes.specs.Shapes.{shape_value_spec, shape_values};
 ghost use Rattle.go_tree_nodes.specs.TypeShapes.{shape_idents};
 ghost use Rattle.go_walk_core.specs.local_core.Outline.{idents};
-ghost use Rattle.go_expr_core.specs.Looks.{everywhere};
+ghost use Rattle.go_statement_core.specs.expr_core.Looks.{everywhere};
 ghost use Rattle.go_piece_core.specs.Specifications as specifications;
 
 use crate::given::check_list;
 use crate::starts::{is_lone_call, names_start};
 use crate::types::{check_some_type, variables};
-use go_expr_core::{Exprs, Notes, note_fault};
+use go_statement_core::expr_core::{Exprs, Notes, note_fault};
 use go_statement_core::operand_core::Operand;
 use go_statement_core::{declared_types, initials_rule, variables_rule};
 use go_tree_nodes::{Idents, ValueSpec, Values};

@@ -27,7 +27,7 @@ pub mod snap_core {
     pub use go_spelling_core::snap_core::{FileIn, PlacedFault, Snapshot};
 }
 
-/// What the crates above name of `go_summary_core`.
-pub mod summary_core {
-    pub use go_spelling_core::summary_core::view_of;
+/// What the crates above name of `go_spot_core`.
+pub mod spot_core {
+    pub use go_spot_core::{FoundSpot, Spot};
 }

@@ -12,21 +12,21 @@ use Rattle.std.proofs.lemmas.List.{drop_all, drop_more, length-map}
 use Rattle.std.proofs.lemmas.Option.{get_or_from_slice_get, slice_get-get_or, slice_get-map, slice_get_within}
 use Rattle.go_tree_nodes.specs.Trees.{FileTree}
 use Rattle.go_tree_core.specs.Occurrences.{CoversAt, NoneCovers, file_occs}
-use Rattle.go_denote_core.specs.declared.things.Outcome.TheVariants as outcomes
-use Rattle.go_complete_core.specs.handle_core.Declarations.{Declaration}
-use Rattle.go_spot_core.specs.expr_core.Laws.{occurrence_place, use_place}
-use Rattle.go_graph_core.specs.parse_core.Parsing.{IsParse}
-use Rattle.go_graph_core.specs.Packages.{tree_shown, trees_of}
-use Rattle.go_graph_core.specs.Sources.{IsContent, IsRead, SourceModel}
-use Rattle.go_graph_core.specs.Workspaces.{IsWorkspace}
-use Rattle.go_graph_core.proofs.Assemblies.{tree_at}
-use Rattle.go_complete_core.specs.ready_core.Packages.{trees_in}
-use Rattle.go_complete_core.specs.used_core.Used.{FileUse}
-use Rattle.go_complete_core.specs.part_core.Inputs.{IsInput}
-use Rattle.go_complete_core.specs.whole_core.PartsWhole.{all_right}
-use Rattle.go_complete_core.specs.part_core.Laws.{PartHasOccurrences}
-use Rattle.go_complete_core.specs.snap_core.Snapshots.{FoundFile, HasNoFile, IsFileAt, IsSnapshot, SnapshotModel}
-use Rattle.go_complete_core.specs.snap_core.Faulty.{read_there}
+use Rattle.go_hint_core.specs.denote_core.declared.things.Outcome.TheVariants as outcomes
+use Rattle.go_hint_core.specs.handle_core.Declarations.{Declaration}
+use Rattle.go_hint_core.specs.expr_core.Laws.{occurrence_place, use_place}
+use Rattle.go_symbol_core.specs.parse_core.Parsing.{IsParse}
+use Rattle.go_list_core.specs.graph_core.Packages.{tree_shown, trees_of}
+use Rattle.go_list_core.specs.graph_core.Sources.{IsContent, IsRead, SourceModel}
+use Rattle.go_list_core.specs.graph_core.Workspaces.{IsWorkspace}
+use Rattle.go_list_core.specs.graph_core.Assemblies.{tree_at}
+use Rattle.go_hint_core.specs.ready_core.Packages.{trees_in}
+use Rattle.go_hint_core.specs.used_core.Used.{FileUse}
+use Rattle.go_hint_core.specs.part_core.Inputs.{IsInput}
+use Rattle.go_hint_core.specs.whole_core.PartsWhole.{all_right}
+use Rattle.go_hint_core.specs.part_core.Laws.{PartHasOccurrences}
+use Rattle.go_hint_core.specs.snap_core.Snapshots.{FoundFile, HasNoFile, IsFileAt, IsSnapshot, SnapshotModel}
+use Rattle.go_hint_core.specs.snap_core.Faulty.{read_there}
 use Rattle.go_query_core.specs.Defining.{Declares, IsDefinition, IsDefinitionIn, IsIdentifierAt, IsLacking, IsRefusal, IsRefusalIn, IsUnused, IsUseIn, is_over}
 use Rattle.go_query_core.specs.mirrors.Uses.{HasOccurrences}
 

@@ -10,11 +10,11 @@ use Rattle.go_token_core.specs.declared.kind.TokenKind.TheVariants as kinds
 use Rattle.go_token_core.specs.declared.token.Token.{Token}
 use Rattle.go_scan_core.specs.Cutting.{tokens_of}
 use Rattle.go_tree_core.specs.Occurrences.{CoversAt, NoneCovers, file_occs}
-use Rattle.go_denote_core.specs.declared.things.Outcome.TheVariants as outcomes
-use Rattle.go_complete_core.specs.used_core.Used.{FileUse, TheOutcome}
-use Rattle.go_complete_core.specs.handle_core.Declarations.{Declaration}
-use Rattle.go_complete_core.specs.part_core.Parts.{PartModel}
-use Rattle.go_complete_core.specs.snap_core.Snapshots.{FoundFile, HasNoFile, IsFileAt, IsPartAt, SnapshotModel}
+use Rattle.go_hint_core.specs.denote_core.declared.things.Outcome.TheVariants as outcomes
+use Rattle.go_hint_core.specs.used_core.Used.{FileUse, TheOutcome}
+use Rattle.go_hint_core.specs.handle_core.Declarations.{Declaration}
+use Rattle.go_hint_core.specs.part_core.Parts.{PartModel}
+use Rattle.go_hint_core.specs.snap_core.Snapshots.{FoundFile, HasNoFile, IsFileAt, IsPartAt, SnapshotModel}
 
 abbrev pub is_identifier : TokenKind → Bool
 is_identifier kinds.Identifier = true

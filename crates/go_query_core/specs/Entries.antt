@@ -4,14 +4,14 @@
 use Rattle.std.specs.Prelude.{◌≡◌, ◌↔◌, ℕ, List, Some, Contains, slice_get}
 use Rattle.std.specs.List.Sorted.{IsStrictlySortedBy}
 use Rattle.go_path_core.specs.Path.{MayImport, elements}
-use Rattle.go_graph_core.specs.declared.imports.ImportAt.{ImportAt}
-use Rattle.go_graph_core.specs.declared.imports.ImportOutcome.TheVariants.{Package}
-use Rattle.go_graph_core.specs.Imports.{IsNumbered, IsOutcome}
-use Rattle.go_graph_core.specs.Sources.{SourceModel}
-use Rattle.go_graph_core.specs.Workspaces.{IsWorkspace, PackageModel, by_bytes}
-use Rattle.go_complete_core.specs.part_core.Parts.{PartModel}
-use Rattle.go_complete_core.specs.whole_core.Inputs.{ReachesPackage}
-use Rattle.go_complete_core.specs.snap_core.Snapshots.{IsSnapshot, SnapshotModel}
+use Rattle.go_list_core.specs.graph_core.declared.imports.ImportAt.{ImportAt}
+use Rattle.go_list_core.specs.graph_core.declared.imports.ImportOutcome.TheVariants.{Package}
+use Rattle.go_list_core.specs.graph_core.Imports.{IsNumbered, IsOutcome}
+use Rattle.go_list_core.specs.graph_core.Sources.{SourceModel}
+use Rattle.go_list_core.specs.graph_core.Workspaces.{IsWorkspace, PackageModel, by_bytes}
+use Rattle.go_hint_core.specs.part_core.Parts.{PartModel}
+use Rattle.go_hint_core.specs.whole_core.Inputs.{ReachesPackage}
+use Rattle.go_hint_core.specs.snap_core.Snapshots.{IsSnapshot, SnapshotModel}
 
 -- a package of a snapshot by its number and its part, as the package of a path sees it
 pub record EntryOf : Type 0 where

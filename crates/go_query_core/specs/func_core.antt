@@ -1,2 +1,2 @@
 -- What the crates above name of go_func_core.
-pub use Rattle.go_complete_core.specs.func_core.Stands as Stands
+pub use Rattle.go_hint_core.specs.func_core.Stands as Stands

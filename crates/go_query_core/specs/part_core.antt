@@ -1,3 +1,3 @@
 -- What the crates above name of go_part_core.
-pub use Rattle.go_complete_core.specs.part_core.Inputs as Inputs
-pub use Rattle.go_complete_core.specs.part_core.Parts as Parts
+pub use Rattle.go_hint_core.specs.part_core.Inputs as Inputs
+pub use Rattle.go_hint_core.specs.part_core.Parts as Parts

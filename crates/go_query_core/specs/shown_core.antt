@@ -1,2 +1,2 @@
 -- What the crates above name of go_shown_core.
-pub use Rattle.go_complete_core.specs.shown_core.Shown as Shown
+pub use Rattle.go_hint_core.specs.shown_core.Shown as Shown

@@ -2,15 +2,15 @@
 ghost use Rattle.std.specs.Prelude.{◌≡◌, ◌↔◌, ◌⊎◌, IfErr, IfOk, IsTrue, MatchOption};
 ghost use Rattle.std.specs.List.{list_any};
 ghost use Rattle.go_tree_core.specs.Occurrences.{NoneCovers, file_occs};
-ghost use Rattle.go_denote_core.specs.declared.things.Outcome.TheVariants as outcomes;
-ghost use Rattle.go_complete_core.specs.snap_core.Snapshots.{file_in_shown};
+ghost use Rattle.go_hint_core.specs.denote_core.declared.things.Outcome.TheVariants as outcomes;
+ghost use Rattle.go_hint_core.specs.snap_core.Snapshots.{file_in_shown};
 ghost use Rattle.go_query_core.specs.Defining.{Declares, IsDefinition, IsDefinitionIn, IsIdentifierAt, IsLacking, IsRefusal, IsRefusalIn, IsUnused, IsUseIn, is_identifier, is_over};
 ghost use Rattle.go_query_core.specs.mirrors.Uses.{HasOccurrences};
 
-use go_complete_core::answer_core::{Answer, Site};
-use go_complete_core::part_core::part_has_occurrences;
-use go_complete_core::snap_core::{FileIn, Snapshot};
-use go_denote_core::Outcome;
+use go_hint_core::answer_core::{Answer, Site};
+use go_hint_core::denote_core::Outcome;
+use go_hint_core::part_core::part_has_occurrences;
+use go_hint_core::snap_core::{FileIn, Snapshot};
 use go_path_core::ImportPath;
 use go_scan_core::scan;
 use go_text_core::Rule;

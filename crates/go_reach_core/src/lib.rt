@@ -12,5 +12,5 @@ pub use numbers::NumberSet;
 
 /// What the crates above name of `go_cycle_core`.
 pub mod cycle_core {
-    pub use go_cycle_core::{Edge, Ranked, rank_and_order};
+    pub use go_cycle_core::{Edge, Ranked, leading_to, rank_and_order};
 }

@@ -6,8 +6,8 @@ use Rattle.go_text_core.specs.declared.span.Span.{Span}
 use Rattle.go_tree_nodes.specs.declared.names.Ident.{Ident}
 use Rattle.go_tree_nodes.specs.declared.decls.ValueKind.{ValueKind}
 use Rattle.go_tree_nodes.specs.Trees.{Separated, One, Then, ValueSpecTree, TypeSpecTree, Specs, Single, Group, DeclTree, Value, Types, Func, TopTree, FileTree}
-use Rattle.go_fault_core.specs.decl_core.Outer.{Outer, value_spec_outers, type_spec_outers, decl_outers}
-use Rattle.go_fault_core.specs.decl_core.TopDecls.{TopDeclTree, FormTree, ValueForm, TypeForm, FuncForm, numbered, named_decls, value_spec_decls, type_spec_decls, specs_decls, decl_decls, top_decls}
+use Rattle.go_term_core.specs.decl_core.Outer.{Outer, value_spec_outers, type_spec_outers, decl_outers}
+use Rattle.go_term_core.specs.decl_core.TopDecls.{TopDeclTree, FormTree, ValueForm, TypeForm, FuncForm, numbered, named_decls, value_spec_decls, type_spec_decls, specs_decls, decl_decls, top_decls}
 
 -- it holds of each specification
 abbrev pub SpecsHold : {A : Type 0} → (A → Type 0) → Specs A → Type 0

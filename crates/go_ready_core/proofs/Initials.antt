@@ -6,14 +6,14 @@ use Rattle.go_tree_nodes.specs.declared.names.Ident.{Ident}
 use Rattle.go_tree_nodes.specs.declared.decls.ValueKind.{ValueKind}
 use Rattle.go_tree_nodes.specs.Trees.{Separated, One, Then, TypeTree, ExprTree, ValueSpecTree}
 use Rattle.go_tree_nodes.specs.WrittenTypes.{expr_types, exprs_types, values_types, spec_types, some_type}
-use Rattle.go_func_core.specs.denote_core.declared.things.Stand.TheVariants as stands
-use Rattle.go_func_core.specs.denote_core.Arguments.{arguments_of}
-use Rattle.go_func_core.specs.expr_core.Looks.{Looks, WrittenRules, look_of_place}
-use Rattle.go_func_core.specs.expr_core.Denoting.{denoted}
-use Rattle.go_func_core.specs.expr_core.Lists.{denoted_exprs}
-use Rattle.go_func_core.specs.expr_core.Laws.{AgreeOnIdents}
-use Rattle.go_func_core.specs.expr_core.Locality.{SameWritten, seeing}
-use Rattle.go_func_core.specs.expr_core.Alike.{expressions_seen}
+use Rattle.go_used_core.specs.denote_core.declared.things.Stand.TheVariants as stands
+use Rattle.go_used_core.specs.denote_core.Arguments.{arguments_of}
+use Rattle.go_used_core.specs.expr_core.Looks.{Looks, WrittenRules, look_of_place}
+use Rattle.go_used_core.specs.expr_core.Denoting.{denoted}
+use Rattle.go_used_core.specs.expr_core.Lists.{denoted_exprs}
+use Rattle.go_used_core.specs.expr_core.Laws.{AgreeOnIdents}
+use Rattle.go_used_core.specs.expr_core.Locality.{SameWritten, seeing}
+use Rattle.go_used_core.specs.expr_core.Alike.{expressions_seen}
 use Rattle.go_known_core.specs.value_core.Initial.{spec_name_count, initial, list_start, some_written_type, values_given, values_of}
 use Rattle.go_tree_nodes.specs.Idents.{expr_idents}
 

@@ -5,26 +5,26 @@ use Rattle.std.specs.List.{AllByRecursion, AllZip}
 use Rattle.std.proofs.lemmas.List.{take_all}
 use Rattle.std.proofs.lemmas.List.Elements.{All-map}
 use Rattle.go_tree_nodes.specs.Trees.{FuncTree, FileTree}
-use Rattle.go_fault_core.specs.parse_core.declared.error.SynFault.{SynFault}
-use Rattle.go_fault_core.specs.graph_core.Packages.{trees_of, tree_shown}
-use Rattle.go_fault_core.specs.graph_core.Sources.{SourceModel, source, IsPlacedContent, IsPlacedSource}
-use Rattle.go_fault_core.specs.decl_core.declared.places.Place.{Place}
-use Rattle.go_fault_core.specs.decl_core.declared.tops.TopDecl.{TopDecl}
-use Rattle.go_fault_core.specs.decl_core.Shown.{decl_shown, form_shown}
-use Rattle.go_fault_core.specs.block_core.Blocks.{BlocksModel}
-use Rattle.go_func_core.specs.settle_core.Settled.{kind_of_term}
-use Rattle.go_fault_core.specs.table_core.Entries.{Entry, find_entry, term_in}
-use Rattle.go_fault_core.specs.type_core.declared.build.TypeFault.{TypeFault}
-use Rattle.go_fault_core.specs.type_core.Built.{IsBuilt}
-use Rattle.go_fault_core.specs.entry_core.Meanings.{Shows, file_meaning}
-use Rattle.go_fault_core.specs.entry_core.Entries.{declared_entries, package_meanings}
-use Rattle.go_fault_core.specs.entry_core.Outlines.{FileOutline, IsOutline, outline_of}
-use Rattle.go_fault_core.specs.entry_core.Numbered.{flat_item}
-use Rattle.go_fault_core.specs.declared.places.PackageFault.{PackageFault}
-use Rattle.go_fault_core.specs.TypeFaults.{faults_of_types}
-use Rattle.go_func_core.specs.names_core.Scope.{beyond_in}
-use Rattle.go_func_core.specs.inline_core.Types.{InlineOf}
-use Rattle.go_func_core.specs.inline_core.Functions.{AreInlines, scoped_outside}
+use Rattle.go_used_core.specs.parse_core.declared.error.SynFault.{SynFault}
+use Rattle.go_used_core.specs.graph_core.Packages.{trees_of, tree_shown}
+use Rattle.go_used_core.specs.graph_core.Sources.{SourceModel, source, IsPlacedContent, IsPlacedSource}
+use Rattle.go_term_core.specs.decl_core.declared.places.Place.{Place}
+use Rattle.go_term_core.specs.decl_core.declared.tops.TopDecl.{TopDecl}
+use Rattle.go_term_core.specs.decl_core.Shown.{decl_shown, form_shown}
+use Rattle.go_used_core.specs.block_core.Blocks.{BlocksModel}
+use Rattle.go_used_core.specs.settle_core.Settled.{kind_of_term}
+use Rattle.go_known_core.specs.table_core.Entries.{Entry, find_entry, term_in}
+use Rattle.go_used_core.specs.type_core.declared.build.TypeFault.{TypeFault}
+use Rattle.go_used_core.specs.type_core.Built.{IsBuilt}
+use Rattle.go_known_core.specs.entry_core.Meanings.{Shows, file_meaning}
+use Rattle.go_known_core.specs.entry_core.Entries.{declared_entries, package_meanings}
+use Rattle.go_known_core.specs.entry_core.Outlines.{FileOutline, IsOutline, outline_of}
+use Rattle.go_known_core.specs.entry_core.Numbered.{flat_item}
+use Rattle.go_used_core.specs.fault_core.declared.places.PackageFault.{PackageFault}
+use Rattle.go_used_core.specs.fault_core.TypeFaults.{faults_of_types}
+use Rattle.go_known_core.specs.names_core.Scope.{beyond_in}
+use Rattle.go_known_core.specs.inline_core.Types.{InlineOf}
+use Rattle.go_known_core.specs.inline_core.Functions.{AreInlines, scoped_outside}
 use Rattle.go_ready_core.specs.Inlines.{form_funcs, outline_funcs}
 use Rattle.go_ready_core.specs.Packages.{PackageIn, entries_in, outlines_in}
 use Rattle.go_ready_core.specs.Types.{AreTypes}

@@ -5,9 +5,9 @@ use Rattle.go_tree_nodes.specs.Terminals.{InOrder}
 use Rattle.go_tree_nodes.specs.Trees.{DeclTree, Value, Types, Func, FuncTree, TopTree, FileTree}
 use Rattle.go_tree_nodes.specs.Spelling.{spell_decl, spell_tops, spell_imports, IsPlaced}
 use Rattle.go_tree_nodes.proofs.InOrder.{in_order_split}
-use Rattle.go_fault_core.specs.decl_core.TopDecls.{TopDeclTree, FormTree, ValueForm, TypeForm, top_decls}
-use Rattle.go_func_core.specs.local_core.Tables.{IsFuncPlaced}
-use Rattle.go_fault_core.specs.entry_core.Outlines.{FileOutline, outline_of}
+use Rattle.go_term_core.specs.decl_core.TopDecls.{TopDeclTree, FormTree, ValueForm, TypeForm, top_decls}
+use Rattle.go_local_core.specs.Tables.{IsFuncPlaced}
+use Rattle.go_known_core.specs.entry_core.Outlines.{FileOutline, outline_of}
 use Rattle.go_ready_core.specs.Inlines.{IsPlacedOutline, form_funcs, outline_funcs}
 use Rattle.go_ready_core.proofs.Forms.{DeclHolds, Forms, file_holds, specs_all}
 

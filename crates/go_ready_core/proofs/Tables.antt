@@ -4,11 +4,11 @@ use Rattle.std.specs.Prelude.{◌↔◌, Option, Some, None, Contains, slice_get
 use Rattle.std.proofs.lemmas.Bool.{true≢false}
 use Rattle.std.specs.Option.{option_map}
 use Rattle.std.proofs.lemmas.List.{length-map}
-use Rattle.go_fault_core.specs.table_core.Entries.{Entry}
+use Rattle.go_known_core.specs.table_core.Entries.{Entry}
 use Rattle.go_needs_core.specs.Needs.{AreValues, EndsWithin, IsEndless, LooksAtNeeds, known_in, needed}
 use Rattle.go_needs_core.proofs.Needed.{one_table}
-use Rattle.go_func_core.specs.face_core.Faces.{TheFace}
-use Rattle.go_func_core.specs.face_core.Laws.{FileDecl}
+use Rattle.go_used_core.specs.face_core.Faces.{TheFace}
+use Rattle.go_used_core.specs.face_core.Laws.{FileDecl}
 use Rattle.go_known_core.specs.value_core.Around.{LeadsBack}
 use Rattle.go_known_core.specs.value_core.Laws.{AreFaces}
 use Rattle.go_known_core.specs.value_core.Package as values

@@ -7,23 +7,23 @@ use Rattle.go_tree_nodes.specs.declared.decls.ValueKind.TheVariants as kinds
 use Rattle.go_tree_nodes.specs.Starts.{type_start}
 use Rattle.go_tree_nodes.specs.Trees.{TypeTree, ValueSpecTree, Specs, Single, Group, DeclTree, Value, Types, Func, TopTree, FileTree}
 use Rattle.go_text_core.specs.declared.span.Span.{Span}
-use Rattle.go_fault_core.specs.decl_core.TopDecls.{TopDeclTree, FormTree, ValueForm, TypeForm, FuncForm, top_decls}
-use Rattle.go_fault_core.specs.term_core.Terms.{Term, Sign}
-use Rattle.go_func_core.specs.handle_core.Declarations.{Declaration}
-use Rattle.go_func_core.specs.expr_core.Looks.{WrittenRules}
-use Rattle.go_func_core.specs.expr_core.Locality.{SameType, SameWritten}
-use Rattle.go_fault_core.specs.entry_core.Among.{Among, among_to}
-use Rattle.go_func_core.specs.inline_core.Types.{InlineOf, inline_at}
-use Rattle.go_func_core.specs.inline_core.Trees.{decl_types, file_types}
-use Rattle.go_func_core.specs.inline_core.Inline.{inline_of, inlines}
-use Rattle.go_func_core.specs.inline_core.Found.{types_are_found}
-use Rattle.go_func_core.specs.face_core.Faces.{TheFace}
-use Rattle.go_func_core.specs.face_core.declared.face.Face.TheVariants as faces
-use Rattle.go_func_core.specs.env_core.Looks.{TheLooks, looks_in, inline_rules, inline_type, inline_faults}
+use Rattle.go_term_core.specs.decl_core.TopDecls.{TopDeclTree, FormTree, ValueForm, TypeForm, FuncForm, top_decls}
+use Rattle.go_term_core.specs.Terms.{Term, Sign}
+use Rattle.go_used_core.specs.handle_core.Declarations.{Declaration}
+use Rattle.go_used_core.specs.expr_core.Looks.{WrittenRules}
+use Rattle.go_used_core.specs.expr_core.Locality.{SameType, SameWritten}
+use Rattle.go_known_core.specs.entry_core.Among.{Among, among_to}
+use Rattle.go_known_core.specs.inline_core.Types.{InlineOf, inline_at}
+use Rattle.go_known_core.specs.inline_core.Trees.{decl_types, file_types}
+use Rattle.go_known_core.specs.inline_core.Inline.{inline_of, inlines}
+use Rattle.go_known_core.specs.inline_core.Found.{types_are_found}
+use Rattle.go_used_core.specs.face_core.Faces.{TheFace}
+use Rattle.go_used_core.specs.face_core.declared.face.Face.TheVariants as faces
+use Rattle.go_known_core.specs.env_core.Looks.{TheLooks, looks_in, inline_rules, inline_type, inline_faults}
 use Rattle.go_known_core.specs.value_core.Package.{value_face, form_face}
-use Rattle.go_func_core.specs.Types.{named_where}
-use Rattle.go_func_core.specs.Stands.{FileStand, kinds_in_scene, types_where, outer_look, outer_looks}
-use Rattle.go_func_core.proofs.Seen.{outside}
+use Rattle.go_file_core.specs.func_core.Types.{named_where}
+use Rattle.go_file_core.specs.func_core.Stands.{FileStand, kinds_in_scene, types_where, outer_look, outer_looks}
+use Rattle.go_file_core.specs.func_core.Seen.{outside}
 use Rattle.go_ready_core.proofs.Forms.{DeclHolds, Forms, SpecsHold, file_holds, specs_all}
 use Rattle.go_ready_core.proofs.Initials.{initial_seen, makes_left, makes_right}
 use Rattle.go_tree_nodes.specs.Spelling.{IsPlaced}

@@ -8,22 +8,22 @@ use Rattle.std.proofs.lemmas.List.FromFn.{length-enumerate_from, get_or-enumerat
 use Rattle.std.proofs.lemmas.List.Elements.{recursion_from_All}
 use Rattle.std.proofs.lemmas.Option.{slice_get-map, get_or_from_slice_get, slice_get_within}
 use Rattle.go_tree_nodes.specs.Trees.{FileTree}
-use Rattle.go_fault_core.specs.decl_core.TopDecls.{TopDeclTree, top_decls}
-use Rattle.go_fault_core.specs.table_core.Entries.{Entry}
-use Rattle.go_fault_core.specs.entry_core.Outlines.{FileOutline, outline_of}
-use Rattle.go_fault_core.specs.entry_core.Among.{Among, among_flat, among_map, among_numbered}
-use Rattle.go_fault_core.specs.entry_core.Numbered.{map-flat_map}
-use Rattle.go_func_core.specs.inline_core.Types.{InlineOf}
-use Rattle.go_func_core.specs.inline_core.Inline.{inlines}
-use Rattle.go_func_core.specs.inline_core.Trees.{file_types, outline_types}
-use Rattle.go_func_core.specs.inline_core.Outlines.{outline_all}
-use Rattle.go_func_core.specs.face_core.Faces.{TheFace}
-use Rattle.go_func_core.specs.face_core.Laws.{FileDecl, file_decl, package_decls}
-use Rattle.go_func_core.specs.face_core.Written.{written_at}
-use Rattle.go_func_core.specs.face_core.Places.{among_at}
+use Rattle.go_term_core.specs.decl_core.TopDecls.{TopDeclTree, top_decls}
+use Rattle.go_known_core.specs.table_core.Entries.{Entry}
+use Rattle.go_known_core.specs.entry_core.Outlines.{FileOutline, outline_of}
+use Rattle.go_known_core.specs.entry_core.Among.{Among, among_flat, among_map, among_numbered}
+use Rattle.go_known_core.specs.entry_core.Numbered.{map-flat_map}
+use Rattle.go_known_core.specs.inline_core.Types.{InlineOf}
+use Rattle.go_known_core.specs.inline_core.Inline.{inlines}
+use Rattle.go_known_core.specs.inline_core.Trees.{file_types, outline_types}
+use Rattle.go_known_core.specs.inline_core.Outlines.{outline_all}
+use Rattle.go_used_core.specs.face_core.Faces.{TheFace}
+use Rattle.go_used_core.specs.face_core.Laws.{FileDecl, file_decl, package_decls}
+use Rattle.go_used_core.specs.face_core.Written.{written_at}
+use Rattle.go_used_core.specs.face_core.Places.{among_at}
 use Rattle.go_known_core.specs.value_core.Package as values
 use Rattle.go_known_core.specs.value_core.Package.{PlacedOf, placed, placed_decls, package_needs, top_looks, first_values, form_face}
-use Rattle.go_func_core.specs.Stands.{kinds_in_scene}
+use Rattle.go_file_core.specs.func_core.Stands.{kinds_in_scene}
 use Rattle.go_ready_core.specs.Inlines.{initial_in, initial_types, types_stand}
 use Rattle.go_ready_core.specs.Laws.{package_placed}
 use Rattle.go_ready_core.specs.Packages.{PackageIn, outlines_in, scene_in, stand_in}

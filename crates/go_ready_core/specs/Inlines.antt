@@ -4,14 +4,14 @@
 use Rattle.std.specs.Prelude.{◌≡◌, ℕ, List, [], ◌∷◌, map}
 use Rattle.std.specs.List.{AllZip, flat_map, enumerate_from}
 use Rattle.go_tree_nodes.specs.Trees.{FuncTree, FileTree}
-use Rattle.go_fault_core.specs.decl_core.TopDecls.{TopDeclTree, FormTree, ValueForm, TypeForm, FuncForm}
-use Rattle.go_fault_core.specs.table_core.Entries.{Entry}
-use Rattle.go_fault_core.specs.entry_core.Outlines.{FileOutline, outline_of}
-use Rattle.go_func_core.specs.inline_core.Types.{InlineOf}
-use Rattle.go_func_core.specs.inline_core.Trees.{outline_types}
-use Rattle.go_func_core.specs.inline_core.Inline.{inlines}
-use Rattle.go_func_core.specs.Stands.{FileStand, kinds_in_scene}
-use Rattle.go_func_core.specs.Laws.{AreFuncTypes}
+use Rattle.go_term_core.specs.decl_core.TopDecls.{TopDeclTree, FormTree, ValueForm, TypeForm, FuncForm}
+use Rattle.go_known_core.specs.table_core.Entries.{Entry}
+use Rattle.go_known_core.specs.entry_core.Outlines.{FileOutline, outline_of}
+use Rattle.go_known_core.specs.inline_core.Types.{InlineOf}
+use Rattle.go_known_core.specs.inline_core.Trees.{outline_types}
+use Rattle.go_known_core.specs.inline_core.Inline.{inlines}
+use Rattle.go_file_core.specs.func_core.Stands.{FileStand, kinds_in_scene}
+use Rattle.go_file_core.specs.func_core.Laws.{AreFuncTypes}
 use Rattle.go_ready_core.specs.Packages.{PackageIn, outlines_in, stand_in}
 use Rattle.go_tree_nodes.specs.Spelling.{IsPlaced}
 

@@ -1,7 +1,7 @@
 -- Laws of what is made of a package before its files are checked.
 use Rattle.std.specs.Prelude.{◌≡◌, ◌↔◌, Bool, List, Option, All}
-use Rattle.go_fault_core.specs.table_core.Entries.{Entry}
-use Rattle.go_func_core.specs.face_core.Faces.{TheFace}
+use Rattle.go_known_core.specs.table_core.Entries.{Entry}
+use Rattle.go_used_core.specs.face_core.Faces.{TheFace}
 use Rattle.go_known_core.specs.value_core.Laws.{AreFaces}
 use Rattle.go_known_core.specs.value_core.Package.{PlacedOf, placed_decls, AreThroughThemselves}
 use Rattle.go_ready_core.specs.Packages.{PackageIn, outlines_in, scene_in}

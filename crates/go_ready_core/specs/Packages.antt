@@ -3,19 +3,19 @@
 -- The Go specification, "Packages", "Declarations and scope".
 use Rattle.std.specs.Prelude.{ℕ, List, Option, map}
 use Rattle.go_tree_nodes.specs.Trees.{FileTree}
-use Rattle.go_fault_core.specs.graph_core.Packages.{trees_of, tree_shown}
-use Rattle.go_fault_core.specs.graph_core.Workspaces.{PackageModel}
-use Rattle.go_fault_core.specs.block_core.declared.imports.Imported.{Imported}
-use Rattle.go_fault_core.specs.block_core.Blocks.{BlocksModel}
-use Rattle.go_fault_core.specs.table_core.Entries.{Entry}
-use Rattle.go_fault_core.specs.entry_core.Meanings.{Shows, file_meaning}
-use Rattle.go_fault_core.specs.entry_core.Outlines.{FileOutline, outline_of}
-use Rattle.go_fault_core.specs.entry_core.Entries.{declared_entries, file_at}
-use Rattle.go_func_core.specs.face_core.Faces.{TheFace}
-use Rattle.go_func_core.specs.face_core.Packages.{PackageFacesModel}
-use Rattle.go_func_core.specs.face_core.Written.{package_written}
-use Rattle.go_func_core.specs.env_core.Scenes.{SceneModel}
-use Rattle.go_func_core.specs.Stands.{FileStand}
+use Rattle.go_used_core.specs.graph_core.Packages.{trees_of, tree_shown}
+use Rattle.go_used_core.specs.graph_core.Workspaces.{PackageModel}
+use Rattle.go_used_core.specs.block_core.declared.imports.Imported.{Imported}
+use Rattle.go_used_core.specs.block_core.Blocks.{BlocksModel}
+use Rattle.go_known_core.specs.table_core.Entries.{Entry}
+use Rattle.go_known_core.specs.entry_core.Meanings.{Shows, file_meaning}
+use Rattle.go_known_core.specs.entry_core.Outlines.{FileOutline, outline_of}
+use Rattle.go_known_core.specs.entry_core.Entries.{declared_entries, file_at}
+use Rattle.go_used_core.specs.face_core.Faces.{TheFace}
+use Rattle.go_used_core.specs.face_core.Packages.{PackageFacesModel}
+use Rattle.go_used_core.specs.face_core.Written.{package_written}
+use Rattle.go_known_core.specs.env_core.Scenes.{SceneModel}
+use Rattle.go_file_core.specs.func_core.Stands.{FileStand}
 use Rattle.go_ready_core.specs.declared.package_at.PackageAt.{PackageAt}
 
 pub record PackageIn : Type 0 where

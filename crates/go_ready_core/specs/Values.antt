@@ -3,15 +3,15 @@
 -- docs/RULES.md, "Constants and variables of a package". The Go specification, "Constant declarations", "Variable declarations", "Package
 -- initialization".
 use Rattle.std.specs.Prelude.{◌≡◌, ◌↔◌, ℕ, Bool, true, false, List, Option, Some, None, length, map, slice_get, slice_index_or}
-use Rattle.go_fault_core.specs.table_core.Entries.{Entry}
+use Rattle.go_known_core.specs.table_core.Entries.{Entry}
 use Rattle.go_needs_core.specs.Needs.{AreValues}
-use Rattle.go_func_core.specs.face_core.Faces.{TheFace}
-use Rattle.go_func_core.specs.face_core.Written.{written_at}
-use Rattle.go_func_core.specs.face_core.Laws.{FileDecl, package_decls}
-use Rattle.go_func_core.specs.env_core.Scenes.{SceneModel}
+use Rattle.go_used_core.specs.face_core.Faces.{TheFace}
+use Rattle.go_used_core.specs.face_core.Written.{written_at}
+use Rattle.go_used_core.specs.face_core.Laws.{FileDecl, package_decls}
+use Rattle.go_known_core.specs.env_core.Scenes.{SceneModel}
 use Rattle.go_known_core.specs.value_core.Around.{LeadsBack}
 use Rattle.go_known_core.specs.value_core.Package.{first_values, form_face, form_idents, idents_need, declares_constant, written_face}
-use Rattle.go_func_core.specs.Stands.{outer_looks}
+use Rattle.go_file_core.specs.func_core.Stands.{outer_looks}
 use Rattle.go_ready_core.specs.Packages.{PackageIn, outlines_in, scene_in, stand_in}
 
 -- its declarations outside functions, in order of file and number

@@ -1,20 +1,20 @@
 //! The types that the files of a package write in initialisers and in functions.
 ghost use Rattle.std.specs.Prelude.{◌≡◌, [], IfOk, OnOk, map};
 ghost use Rattle.std.specs.List.{AllByRecursion, AllZip};
-ghost use Rattle.go_fault_core.specs.decl_core.Shown.{decl_shown, form_shown};
-ghost use Rattle.go_func_core.specs.local_core.Tables.{IsFuncPlaced};
-ghost use Rattle.go_fault_core.specs.entry_core.Outlines.{outline_shown};
-ghost use Rattle.go_func_core.specs.inline_core.Functions as functions;
+ghost use Rattle.go_term_core.specs.decl_core.Shown.{decl_shown, form_shown};
+ghost use Rattle.go_local_core.specs.Tables.{IsFuncPlaced};
+ghost use Rattle.go_known_core.specs.entry_core.Outlines.{outline_shown};
+ghost use Rattle.go_known_core.specs.inline_core.Functions as functions;
 ghost use Rattle.go_ready_core.specs.Inlines.{AreOutlinedTypes, AreFunctionsIn, IsPlacedOutline, form_funcs, initial_in, initial_types, outline_funcs};
 ghost use Rattle.go_ready_core.specs.Packages.{outlines_in, package_in_shown, stand_in};
 ghost use Rattle.go_ready_core.specs.mirrors.Adding.{Adds};
 
 use crate::package_at::PackageAt;
-use go_fault_core::decl_core::{DeclForm, Outline, TopDecl};
-use go_fault_core::entry_core::ImportedNames;
-use go_fault_core::type_core::TypeTable;
-use go_func_core::inline_core::{Ground, InlineTypes, function_types, initialiser_types};
+use go_known_core::entry_core::ImportedNames;
+use go_known_core::inline_core::{Ground, InlineTypes, function_types, initialiser_types};
+use go_term_core::decl_core::{DeclForm, Outline, TopDecl};
 use go_text_core::add;
+use go_used_core::type_core::TypeTable;
 use std::alloc::{AllocError, Global};
 
 // The types in the initialisers of a file.

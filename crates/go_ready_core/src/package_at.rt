@@ -1,16 +1,16 @@
 //! A package that is checked.
 ghost use Rattle.std.specs.Prelude.{◌≡◌, All, IfOk, map};
 ghost use Rattle.std.specs.List.{AllByRecursion};
-ghost use Rattle.go_fault_core.specs.entry_core.Outlines.{outline_shown};
+ghost use Rattle.go_known_core.specs.entry_core.Outlines.{outline_shown};
 ghost use Rattle.go_ready_core.specs.Inlines.{IsPlacedOutline};
 ghost use Rattle.go_ready_core.specs.Packages.{outlines_in, package_in_shown};
 ghost use Rattle.go_tree_nodes.specs.Spelling.{IsPlaced};
 
-use go_fault_core::block_core::{Blocks, Imported};
-use go_fault_core::decl_core::Outline;
-use go_fault_core::entry_core::{ImportedNames, outlines};
-use go_fault_core::graph_core::Package;
-use go_func_core::face_core::FaceTable;
+use go_known_core::entry_core::{ImportedNames, outlines};
+use go_term_core::decl_core::Outline;
+use go_used_core::block_core::{Blocks, Imported};
+use go_used_core::face_core::FaceTable;
+use go_used_core::graph_core::Package;
 use std::alloc::{AllocError, Global};
 
 /// A package, with what is known of it and of the packages that it imports before its check. All is lent.

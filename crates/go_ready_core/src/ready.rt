@@ -1,18 +1,18 @@
 //! What is made of a package before its files are checked.
 ghost use Rattle.std.specs.Prelude.{◌≡◌, IfOk, map};
 ghost use Rattle.std.specs.List.{AllByRecursion};
-ghost use Rattle.go_fault_core.specs.entry_core.Outlines.{outline_shown};
+ghost use Rattle.go_known_core.specs.entry_core.Outlines.{outline_shown};
 ghost use Rattle.go_ready_core.specs.Inlines.{AreFunctionsIn, IsPlacedOutline, initial_in};
 ghost use Rattle.go_ready_core.specs.Packages.{outlines_in, package_in_shown, scene_in};
 
 use crate::inlines::{package_functions, package_initial};
 use crate::package_at::PackageAt;
-use go_fault_core::decl_core::Outline;
-use go_fault_core::entry_core::ImportedNames;
-use go_fault_core::type_core::TypeTable;
-use go_func_core::face_core::{WrittenFaces, written_faces};
-use go_func_core::handle_core::Home;
-use go_func_core::inline_core::InlineTypes;
+use go_known_core::entry_core::ImportedNames;
+use go_known_core::inline_core::InlineTypes;
+use go_term_core::decl_core::Outline;
+use go_used_core::face_core::{WrittenFaces, written_faces};
+use go_used_core::handle_core::Home;
+use go_used_core::type_core::TypeTable;
 use std::alloc::{AllocError, Global};
 
 /// What is made of a package before its files are checked, beside its types.

@@ -1,15 +1,15 @@
 //! The types of a package, with the faults of their declarations.
 ghost use Rattle.std.specs.Prelude.{◌≡◌, ◌++◌, IfOk, map};
-ghost use Rattle.go_fault_core.specs.table_core.Tables.{AreOthers};
-ghost use Rattle.go_fault_core.specs.entry_core.Outlines.{outline_shown};
+ghost use Rattle.go_known_core.specs.table_core.Tables.{AreOthers};
+ghost use Rattle.go_known_core.specs.entry_core.Outlines.{outline_shown};
 ghost use Rattle.go_ready_core.specs.Packages.{outlines_in, package_in_shown};
 ghost use Rattle.go_ready_core.specs.Types.{AreTypes};
 
 use crate::package_at::PackageAt;
-use go_fault_core::decl_core::Outline;
-use go_fault_core::entry_core::{ImportedNames, type_entries};
-use go_fault_core::type_core::{PackageTypes, TypeTable, build_types};
-use go_fault_core::{PackageFault, WrittenTypes, type_faults};
+use go_known_core::entry_core::{ImportedNames, type_entries};
+use go_term_core::decl_core::Outline;
+use go_used_core::fault_core::{PackageFault, WrittenTypes, type_faults};
+use go_used_core::type_core::{PackageTypes, TypeTable, build_types};
 use std::alloc::{AllocError, Global};
 
 /// The types that a package declares, and what is amiss in their declarations.

@@ -5,4 +5,3 @@ pub mod denote_core
 pub mod expr_core
 pub mod literal_core
 pub mod local_core
-pub mod term_core

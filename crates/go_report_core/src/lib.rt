@@ -22,7 +22,7 @@ pub mod local_core {
     pub use go_expr_core::local_core::Fault;
 }
 
-/// What the crates above name of `go_term_core`.
-pub mod term_core {
-    pub use go_expr_core::term_core::{MemberPlace, Signature, TypeTerm};
+/// What the crates above name of `go_operand_core`.
+pub mod operand_core {
+    pub use go_expr_core::operand_core::Operand;
 }

@@ -4,7 +4,7 @@ use Rattle.std.specs.Prelude.{Contains, remove, replicate, slice_get, slice_inde
 use Rattle.std.specs.List.{position_from}
 use Rattle.std.proofs.lemmas.Bool.{true≢false}
 use Rattle.std.proofs.lemmas.List.Elements.{Contains-append_left, Contains-append_right}
-use Rattle.go_cycle_core.proofs.Marks.{marked_after}
+use Rattle.go_link_core.specs.cycle_core.Marks.{marked_after}
 use Rattle.go_link_core.specs.Packages.{PackageOf}
 use Rattle.go_link_core.specs.Order.{are_done, imports_in, in_turn, initialised, is_done, is_ready, marked_in, taken}
 use Rattle.go_run_core.specs.Laws.{ImportsComeFirst}

@@ -1,7 +1,7 @@
 -- No two answers hold of a program.
 use Rattle.std.proofs.Common.{◌≡◌, ℕ, zero, suc, ◌<◌, Bool, true, false, List, [], ◌∷◌, length, get_or, Option, Some, None, ⊎_elim, refl, sym, ap, ap₂, ◌∙◌, subst, arith}
 use Rattle.std.proofs.lemmas.Bool.{true≢false}
-use Rattle.go_machine_core.specs.Programs.{LinkedOf}
+use Rattle.go_link_core.specs.machine_core.Programs.{LinkedOf}
 use Rattle.go_link_core.specs.Reaching.{AreReached, ReachesMissing, ReachesOutside}
 use Rattle.go_link_core.specs.Order.{starts_of}
 use Rattle.go_link_core.specs.Linked.{HasNoMain, IsBegun, IsBeyond, IsCut, IsRunnable, ProgramOf, RunnableOf}

@@ -1,6 +1,6 @@
 -- What a program that can be run comes to.
 use Rattle.std.proofs.Common.{◌≡◌, ℕ, sym}
-use Rattle.go_machine_core.specs.Machine.{Run as MachineRun}
+use Rattle.go_link_core.specs.machine_core.Machine.{Run as MachineRun}
 use Rattle.go_link_core.specs.Linked.{IsRunnable, ProgramOf, RunnableOf}
 use Rattle.go_run_core.specs.Runs.{GetsStuck, Gives, IsStuck, comes_to}
 

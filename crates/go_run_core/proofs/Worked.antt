@@ -2,16 +2,16 @@
 use Rattle.std.proofs.Common.{◌≡◌, ◌↔◌, ℕ, zero, suc, true, false, List, [], ◌∷◌, get_or, inl, inr, refl, sym, ◌∙◌, arith}
 use Rattle.std.specs.Prelude.{codes}
 use Rattle.std.proofs.lemmas.Bool.{true≢false}
-use Rattle.go_cycle_core.specs.declared.edge.Edge.{Edge}
-use Rattle.go_cycle_core.specs.Cycle.{Leads, Reaches}
-use Rattle.go_instruction_core.specs.declared.instruction.Instruction.TheVariants as instructions
-use Rattle.go_object_core.specs.Objects.{ObjectOf}
+use Rattle.go_link_core.specs.cycle_core.declared.edge.Edge.{Edge}
+use Rattle.go_link_core.specs.cycle_core.Cycle.{Leads, Reaches}
+use Rattle.go_link_core.specs.instruction_core.declared.instruction.Instruction.TheVariants as instructions
+use Rattle.go_link_core.specs.object_core.Objects.{ObjectOf}
 use Rattle.go_link_core.specs.Functions.{PlaceModel}
 use Rattle.go_link_core.specs.Reaching.{ReachesOutside}
 use Rattle.go_link_core.specs.Linked.{IsBegun}
 use Rattle.std.specs.Int.{int_wrap}
 use Rattle.std.specs.Fmt.{digits}
-use Rattle.go_machine_core.specs.Words.{negated, inverted, sum, difference, product, quotient, remainder, equal, differs, less, at_most, greater, at_least}
+use Rattle.go_link_core.specs.machine_core.Words.{negated, inverted, sum, difference, product, quotient, remainder, equal, differs, less, at_most, greater, at_least}
 use Rattle.go_run_core.specs.Samples.{SamplesRun, alone, program}
 
 -- the package alone reaches itself

@@ -1,7 +1,7 @@
 -- Laws of runs.
 use Rattle.std.specs.Prelude.{◌≡◌, ℕ, Bool, List, ◌∷◌, ◌++◌, Some, Contains, slice_get}
-use Rattle.go_machine_core.specs.Machine.{Frame, Spent, At, started}
-use Rattle.go_machine_core.specs.Laws.{steps_on}
+use Rattle.go_link_core.specs.machine_core.Machine.{Frame, Spent, At, started}
+use Rattle.go_link_core.specs.machine_core.Laws.{steps_on}
 use Rattle.go_link_core.specs.Packages.{PackageOf}
 use Rattle.go_link_core.specs.Order.{imports_in, initialised}
 use Rattle.go_link_core.specs.Linked.{HasNoMain, IsBeyond, IsBegun, IsRunnable, ProgramOf, RunnableOf}

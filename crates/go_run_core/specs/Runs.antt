@@ -1,6 +1,6 @@
 -- What a program comes to.
 use Rattle.std.specs.Prelude.{◌≡◌, ℕ, List, string_bytes}
-use Rattle.go_machine_core.specs.Machine.{Run as MachineRun, Ended, Panicked, Spent, Stuck, machine}
+use Rattle.go_link_core.specs.machine_core.Machine.{Run as MachineRun, Ended, Panicked, Spent, Stuck, machine}
 use Rattle.go_link_core.specs.Linked.{IsRunnable, ProgramOf, RunnableOf}
 use Rattle.go_run_core.specs.declared.outcome.Run.{Run}
 use Rattle.go_run_core.specs.declared.outcome.Run.TheVariants as runs

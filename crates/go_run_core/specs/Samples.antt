@@ -1,11 +1,11 @@
 -- Programs that were worked out by hand.
 use Rattle.std.specs.Prelude.{◌≡◌, ℕ, Bool, true, false, List, [], ◌∷◌, codes, Option, Some, None, ℤ, pos, neg_ℤ}
-use Rattle.go_instruction_core.specs.declared.instruction.Distance.TheVariants as distances
-use Rattle.go_instruction_core.specs.declared.instruction.Instruction.{Instruction}
-use Rattle.go_instruction_core.specs.declared.instruction.Instruction.TheVariants as instructions
-use Rattle.go_instruction_core.specs.declared.letters.Word.TheVariants as words
-use Rattle.go_object_core.specs.Objects.{FunctionOf, ObjectOf}
-use Rattle.go_machine_core.specs.Machine.{Ended, Panicked, Spent, Run}
+use Rattle.go_link_core.specs.instruction_core.declared.instruction.Distance.TheVariants as distances
+use Rattle.go_link_core.specs.instruction_core.declared.instruction.Instruction.{Instruction}
+use Rattle.go_link_core.specs.instruction_core.declared.instruction.Instruction.TheVariants as instructions
+use Rattle.go_link_core.specs.instruction_core.declared.letters.Word.TheVariants as words
+use Rattle.go_link_core.specs.object_core.Objects.{FunctionOf, ObjectOf}
+use Rattle.go_link_core.specs.machine_core.Machine.{Ended, Panicked, Spent, Run}
 use Rattle.go_link_core.specs.Functions.{PlaceModel}
 use Rattle.go_link_core.specs.Packages.{entry_in}
 use Rattle.go_link_core.specs.Order.{starts_of}

@@ -2,7 +2,7 @@
 ghost use Rattle.go_run_core.specs.Laws.{AnswersAreOne, ImportsComeFirst, SpentDoesAllSteps};
 ghost use Rattle.go_run_core.specs.Samples.{SamplesRun};
 
-use go_machine_core::spent_means_all_steps;
+use go_link_core::machine_core::spent_means_all_steps;
 
 /// A program has no `main`, or reaches what cannot be run, or can be run, and no two of these; and what begins it is one.
 pub fn answers_are_one()

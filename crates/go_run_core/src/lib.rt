@@ -11,3 +11,8 @@ pub use go_link_core::{Place, Places};
 pub use laws::{answers_are_one, imports_come_first, samples_run, spent_does_all_steps};
 pub use outcome::Run;
 pub use running::run;
+
+/// What the crates above name of `go_link_core`.
+pub mod link_core {
+    pub use go_link_core::{Place, Places};
+}

@@ -1,16 +1,16 @@
 //! Runs of programs.
 ghost use Rattle.std.specs.Prelude.{◌≡◌, ◌⊎◌, IfOk, IfErr, MatchOption, map};
-ghost use Rattle.go_object_core.specs.Objects.{object_shown};
-ghost use Rattle.go_machine_core.specs.Ends.{ran_shown};
+ghost use Rattle.go_link_core.specs.object_core.Objects.{object_shown};
+ghost use Rattle.go_link_core.specs.machine_core.Ends.{ran_shown};
 ghost use Rattle.go_link_core.specs.Linked.{HasNoMain, IsBeyond, program_of, runnable_shown};
 ghost use Rattle.go_run_core.specs.Runs.{GetsStuck, Gives, IsStuck, comes_to, run_shown};
 
 use crate::outcome::Run;
+use go_link_core::machine_core::{End, Ran, execute};
+use go_link_core::object_core::Object;
+use go_link_core::path_core::ImportPath;
+use go_link_core::text_core::Rule;
 use go_link_core::{Places, Runnable, link};
-use go_machine_core::{End, Ran, execute};
-use go_object_core::Object;
-use go_path_core::ImportPath;
-use go_text_core::Rule;
 use std::alloc::{AllocError, Global};
 
 // What a run came to, if no instruction lacked anything.

@@ -2,7 +2,7 @@
 use Rattle.std.proofs.Common.{◌≡◌, ℕ, zero, suc, ◌+◌, ◌-◌, ◌<◌, ◌≤◌, Bool, true, false, cond, ◌==◌, List, [], ◌∷◌, ◌++◌, length, take, drop, Option, Some, None, Result, Ok, Err, refl, sym, ap, ◌∙◌, subst, arith, rules}
 use Rattle.std.specs.Char.{len_utf8}
 use Rattle.go_token_core.proofs.CharacterLemmas.{width-cons}
-use Rattle.go_text_core.specs.declared.rule.Rule.{Rule}
+use Rattle.go_token_core.specs.text_core.declared.rule.Rule.{Rule}
 use Rattle.go_token_core.specs.declared.kind.CommentKind.{CommentKind}
 use Rattle.go_token_core.specs.declared.kind.TokenKind.{TokenKind}
 use Rattle.go_scan_core.specs.declared.piece.Piece.{Piece}

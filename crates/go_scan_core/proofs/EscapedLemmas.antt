@@ -3,7 +3,7 @@ use Rattle.std.proofs.Common.{◌≡◌, ℕ, zero, suc, ◌+◌, ◌*◌, ◌<�
 use Rattle.std.specs.Char.{digit_value}
 use Rattle.std.specs.List.{AllByRecursion}
 use Rattle.std.proofs.lemmas.Bool.Decides.{nat_tests}
-use Rattle.go_text_core.proofs.Each.{true_or_false}
+use Rattle.go_token_core.specs.text_core.Each.{true_or_false}
 use Rattle.go_token_core.specs.declared.escapes.Meaning.{Meaning}
 use Rattle.go_token_core.specs.declared.escapes.Meaning.TheVariants.{Byte, Char}
 use Rattle.go_token_core.specs.Escapes.{byte_read, digits_at, digits_next, escape_at, scalar_read, simple_of}

@@ -6,8 +6,8 @@ use Rattle.ucd_category.specs.GeneralCategoryRows.{general_category_rows}
 use Rattle.unicode.specs.GeneralCategory.{general_category}
 use Rattle.unicode.specs.Rows.{value_in}
 use Rattle.std.proofs.lemmas.Bool.Decides.{nat_tests}
-use Rattle.go_text_core.specs.Text.{letter, digit}
-use Rattle.go_text_core.proofs.Each.{true_or_false}
+use Rattle.go_token_core.specs.text_core.Text.{letter, digit}
+use Rattle.go_token_core.specs.text_core.Each.{true_or_false}
 use Rattle.go_token_core.proofs.Choices.{chosen}
 use Rattle.go_token_core.specs.declared.kind.Keyword.{Keyword}
 use Rattle.go_token_core.specs.declared.kind.Keyword.TheVariants.{Break, Case, Chan, Const, Continue, Default, Defer, Else, Fallthrough, For, Func, Go, Goto, If, Import, Interface, Map, Package, Range, Return, Select, Struct, Switch, «Type», Var}

@@ -8,8 +8,8 @@ use Rattle.std.proofs.lemmas.Bool.Decides.{Decides-eqb, nat_tests}
 use Rattle.std.proofs.lemmas.List.{length-take-le}
 use Rattle.std.proofs.lemmas.List.Sums.{prefix_len-le-length}
 use Rattle.std.proofs.lemmas.Slice.Eq.{bytes_eq-Decides, starts_is}
-use Rattle.go_text_core.specs.Text.{letter, digit}
-use Rattle.go_text_core.proofs.Each.{true_or_false}
+use Rattle.go_token_core.specs.text_core.Text.{letter, digit}
+use Rattle.go_token_core.specs.text_core.Each.{true_or_false}
 use Rattle.go_token_core.specs.declared.kind.Keyword.{Keyword}
 use Rattle.go_token_core.specs.declared.kind.Operator.{Operator}
 use Rattle.go_token_core.specs.declared.kind.TheConstants.{KEYWORDS, OPERATORS}

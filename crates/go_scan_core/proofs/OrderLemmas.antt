@@ -3,7 +3,7 @@ use Rattle.std.proofs.Common.{◌≡◌, ℕ, ◌+◌, ◌≤◌, Bool, true, fa
 use Rattle.std.specs.Str.{chars, IsUtf8}
 use Rattle.std.proofs.lemmas.List.Sums.{sum_by-append}
 use Rattle.std.specs.Char.{len_utf8}
-use Rattle.go_text_core.proofs.Each.{true_or_false}
+use Rattle.go_token_core.specs.text_core.Each.{true_or_false}
 use Rattle.go_token_core.specs.declared.token.Comment.{Comment}
 use Rattle.go_token_core.specs.declared.token.Token.{Token}
 use Rattle.go_token_core.specs.Characters.{first_passes}

@@ -4,9 +4,9 @@ use Rattle.std.specs.List.{AllByRecursion, prefix_len}
 use Rattle.std.proofs.lemmas.Bool.Decides.{nat_tests}
 use Rattle.std.proofs.lemmas.List.{length-append, length-take-le, take-append-drop}
 use Rattle.std.proofs.lemmas.List.Sums.{prefix_len-le-length}
-use Rattle.go_text_core.specs.Text.{letter}
-use Rattle.go_text_core.specs.declared.rule.Rule.{Rule}
-use Rattle.go_text_core.proofs.Each.{true_or_false}
+use Rattle.go_token_core.specs.text_core.Text.{letter}
+use Rattle.go_token_core.specs.text_core.declared.rule.Rule.{Rule}
+use Rattle.go_token_core.specs.text_core.Each.{true_or_false}
 use Rattle.go_scan_core.specs.declared.enclosed.Enclosure.{Enclosure}
 use Rattle.go_scan_core.specs.declared.enclosed.Enclosure.TheVariants.{General, Quoted, Raw}
 use Rattle.go_scan_core.specs.declared.front.Front.{Front}

@@ -4,7 +4,7 @@ use Rattle.std.specs.List.{prefix_len}
 use Rattle.std.proofs.lemmas.List.{length-drop}
 use Rattle.std.proofs.lemmas.List.Sums.{prefix_len-le-length}
 use Rattle.std.proofs.lemmas.Str.{len_utf8_ascii}
-use Rattle.go_text_core.proofs.Each.{true_or_false}
+use Rattle.go_token_core.specs.text_core.Each.{true_or_false}
 use Rattle.go_scan_core.specs.declared.piece.Piece.TheVariants.{Space}
 use Rattle.go_token_core.specs.declared.token.Comment.{Comment}
 use Rattle.go_token_core.specs.declared.token.LexFault.{LexFault}

@@ -7,9 +7,9 @@ use Rattle.std.specs.Str.{all_scalars, chars, IsCharBoundary, IsUtf8}
 use Rattle.std.proofs.lemmas.Bool.Decides.{nat_tests}
 use Rattle.std.proofs.lemmas.List.{append-nil, append_assoc, length-append, length-take}
 use Rattle.std.proofs.lemmas.Str.{encodes-append, encodes-chars, IsCharBoundary-at_seam, length-le-encodes, scalars-chars}
-use Rattle.go_text_core.specs.Boundaries.{is_boundary_of}
-use Rattle.go_text_core.specs.Slices.{slice_of}
-use Rattle.go_text_core.specs.declared.span.Span.{Span}
+use Rattle.go_token_core.specs.text_core.Boundaries.{is_boundary_of}
+use Rattle.go_token_core.specs.text_core.Slices.{slice_of}
+use Rattle.go_token_core.specs.text_core.declared.span.Span.{Span}
 use Rattle.go_token_core.specs.declared.kind.TokenKind.{TokenKind}
 use Rattle.go_token_core.specs.declared.token.Token.{Token}
 use Rattle.go_token_core.specs.Characters.{first_passes}
@@ -28,8 +28,8 @@ use Rattle.go_scan_core.specs.declared.enclosed.Enclosure.TheVariants.{General, 
 use Rattle.go_token_core.specs.declared.kind.TokenKind.TheVariants as kinds
 use Rattle.go_token_core.specs.declared.token.Comment.{Comment}
 use Rattle.go_scan_core.specs.Tokens.{IsEnclosed, IsWord}
-use Rattle.go_text_core.specs.Text.{letter}
-use Rattle.go_text_core.proofs.Each.{true_or_false}
+use Rattle.go_token_core.specs.text_core.Text.{letter}
+use Rattle.go_token_core.specs.text_core.Each.{true_or_false}
 
 -- the characters begin at this byte of the text, and are the rest of it
 record Begins (text cs : List ℕ) (start : ℕ) : Type 0 where

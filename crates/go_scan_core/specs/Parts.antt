@@ -2,7 +2,7 @@
 use Rattle.std.specs.Prelude.{true, false, ℕ, Bool, ◌==◌, if◌then◌else◌, List, [], ◌∷◌, Option, Some, None}
 use Rattle.std.specs.Char.{len_utf8}
 use Rattle.std.specs.List.{list_any, sum_by}
-use Rattle.go_text_core.specs.declared.span.Span.{Span}
+use Rattle.go_token_core.specs.text_core.declared.span.Span.{Span}
 use Rattle.go_token_core.specs.declared.kind.TokenKind.{TokenKind}
 use Rattle.go_token_core.specs.declared.kind.TokenKind.TheVariants as kinds
 use Rattle.go_token_core.specs.declared.kind.Operator.TheVariants as operators

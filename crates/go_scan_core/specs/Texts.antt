@@ -1,6 +1,6 @@
 -- The piece of a text that a token covers.
 use Rattle.std.specs.Prelude.{◌≡◌, ℕ, ◌<◌, ◌≤◌, ◌⊎◌, List, [], encode_utf8_all, MatchOption}
-use Rattle.go_text_core.specs.Slices.{slice_of}
+use Rattle.go_token_core.specs.text_core.Slices.{slice_of}
 use Rattle.go_token_core.specs.declared.kind.TokenKind.{TokenKind}
 use Rattle.go_token_core.specs.declared.kind.TokenKind.TheVariants as kinds
 use Rattle.go_token_core.specs.declared.kind.Operator.TheVariants as operators

@@ -3,8 +3,8 @@ ghost use Rattle.std.specs.Prelude.{◌≡◌, ◌≤◌, ◌+◌, length};
 ghost use Rattle.go_scan_core.specs.Enclosed.{closing, opening};
 ghost use Rattle.go_scan_core.specs.mirrors.Enclosed.{CountsWithin, body, comment_item, enclosed_at, item_at, quoted_item, raw_item};
 
-use go_text_core::Rule;
 use go_token_core::escape;
+use go_token_core::text_core::Rule;
 
 /// A kind of lexeme with an opening and a closing.
 #[derive(Clone, Copy)]

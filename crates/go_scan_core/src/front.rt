@@ -2,7 +2,7 @@
 ghost use Rattle.std.specs.Prelude.{◌≡◌};
 ghost use Rattle.go_scan_core.specs.mirrors.Front.{front_of};
 
-use go_text_core::is_letter;
+use go_token_core::text_core::is_letter;
 
 /// What begins at the front of a text.
 #[derive(Clone, Copy)]

@@ -13,7 +13,7 @@ use crate::enclosed::{Enclosure, enclosed_len};
 use crate::front::{Front, front_at};
 use crate::number::number_width;
 use crate::piece::Piece;
-use go_text_core::{Rule, is_digit, is_letter};
+use go_token_core::text_core::{Rule, is_digit, is_letter};
 use go_token_core::{CommentKind, Keyword, Operator, TokenKind, literal_value};
 
 /// Whether an identifier may have the character behind its first.

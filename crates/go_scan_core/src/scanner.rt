@@ -11,7 +11,7 @@ ghost use Rattle.go_scan_core.specs.Tokens.{CommentsInOrder, FindsComments, Scan
 
 use crate::piece::{Piece, width};
 use crate::reading::front_piece;
-use go_text_core::{Rule, Span};
+use go_token_core::text_core::{Rule, Span};
 use go_token_core::{
     Comment, Keyword, LexFault, Operator, ScanError, Token, TokenKind, characters_of,
 };

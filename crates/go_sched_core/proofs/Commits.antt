@@ -1,8 +1,8 @@
 -- The last part of a batch, and what is handed out.
 use Rattle.std.proofs.Common.{◌≡◌, ◌++◌, ◌∷◌, [], ℕ, List, length, Option, Some, None, refl, sym, ap, ◌∙◌, subst}
 use Rattle.std.proofs.lemmas.List.{length_push}
-use Rattle.go_batch_core.specs.submit_core.Published.{batch_of}
-use Rattle.go_batch_core.specs.submit_core.declared.published.PublishedBatch.{PublishedBatch}
+use Rattle.go_submit_core.specs.Published.{batch_of}
+use Rattle.go_submit_core.specs.declared.published.PublishedBatch.{PublishedBatch}
 use Rattle.go_batch_core.specs.Batches.{with_part}
 use Rattle.go_sched_core.specs.Service.{Service, counts}
 use Rattle.go_sched_core.specs.Steps.{Finishes, Publishes, Step, with_batch}

@@ -1,7 +1,7 @@
 -- A step that was prepared only adds to the published batches.
 use Rattle.std.proofs.Common.{◌≡◌, List, [], ◌∷◌, ◌++◌, sym, subst, append-nil}
-use Rattle.go_batch_core.specs.submit_core.Published.{BeginsWith, batch_of}
-use Rattle.go_batch_core.specs.submit_core.declared.published.PublishedBatch.{PublishedBatch}
+use Rattle.go_submit_core.specs.Published.{BeginsWith, batch_of}
+use Rattle.go_submit_core.specs.declared.published.PublishedBatch.{PublishedBatch}
 use Rattle.go_sched_core.specs.Service.{Service}
 use Rattle.go_sched_core.specs.Prepared.{IsAllowed}
 use Rattle.go_sched_core.specs.mirrors.Fitting.{Fits, batches_after}

@@ -1,10 +1,10 @@
 -- States and prepared steps as they are stored.
 use Rattle.std.specs.Prelude.{refl, ℕ, List, Option}
 use Rattle.std.specs.Coded.{Coded, code_by, coded×, coded_list, coded_option, coded_ℕ}
-use Rattle.go_batch_core.specs.submit_core.Coding.{coded_batches}
-use Rattle.go_batch_core.specs.submit_core.Submitted.{coded_submissions}
-use Rattle.go_batch_core.specs.submit_core.declared.published.PublishedBatch.{PublishedBatch}
-use Rattle.go_batch_core.specs.submit_core.declared.submission.Submission.{Submission}
+use Rattle.go_submit_core.specs.Coding.{coded_batches}
+use Rattle.go_submit_core.specs.Submitted.{coded_submissions}
+use Rattle.go_submit_core.specs.declared.published.PublishedBatch.{PublishedBatch}
+use Rattle.go_submit_core.specs.declared.submission.Submission.{Submission}
 use Rattle.go_sched_core.specs.declared.event.Event.{Event}
 use Rattle.go_sched_core.specs.declared.event.Held.{Held}
 use Rattle.go_sched_core.specs.declared.running.Running.{Running}

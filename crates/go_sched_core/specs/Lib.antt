@@ -5,6 +5,3 @@ pub mod Service
 pub mod Steps
 pub mod mirrors
 pub mod batch_core
-pub mod part_core
-pub mod submit_core
-pub mod thread_core_lemmas

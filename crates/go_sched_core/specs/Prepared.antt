@@ -1,6 +1,6 @@
 -- A step that was prepared.
 use Rattle.std.specs.Prelude.{◌≡◌, ◌≢◌, true, List, None, ⊤}
-use Rattle.go_batch_core.specs.submit_core.declared.published.PublishedBatch.{PublishedBatch}
+use Rattle.go_submit_core.specs.declared.published.PublishedBatch.{PublishedBatch}
 use Rattle.go_sched_core.specs.Service.{Service, module_held, open_rule, submit_rule}
 use Rattle.go_sched_core.specs.Steps.{runs}
 use Rattle.go_sched_core.specs.declared.event.Event.{Event}

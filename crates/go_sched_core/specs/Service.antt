@@ -5,12 +5,12 @@ use Rattle.std.specs.Str.{bytes_eq}
 use Rattle.go_text_core.specs.declared.rule.Rule.{Rule}
 use Rattle.go_text_core.specs.declared.rule.Rule.TheVariants.{E1, H1, O1, O3, O4, O5}
 use Rattle.go_path_core.specs.Path.{overlap}
-use Rattle.go_batch_core.specs.submit_core.Modules.{is_among, with_module, with_trees}
-use Rattle.go_batch_core.specs.submit_core.Published.{modules_of, number_of}
-use Rattle.go_batch_core.specs.submit_core.Submitted.{has_ticket}
-use Rattle.go_batch_core.specs.submit_core.Trees.{TreeModel}
-use Rattle.go_batch_core.specs.submit_core.declared.published.PublishedBatch.{PublishedBatch}
-use Rattle.go_batch_core.specs.submit_core.declared.submission.Submission.{Submission}
+use Rattle.go_submit_core.specs.Modules.{is_among, with_module, with_trees}
+use Rattle.go_submit_core.specs.Published.{modules_of, number_of}
+use Rattle.go_submit_core.specs.Submitted.{has_ticket}
+use Rattle.go_submit_core.specs.Trees.{TreeModel}
+use Rattle.go_submit_core.specs.declared.published.PublishedBatch.{PublishedBatch}
+use Rattle.go_submit_core.specs.declared.submission.Submission.{Submission}
 use Rattle.go_sched_core.specs.declared.event.Held.{Held}
 use Rattle.go_sched_core.specs.declared.event.SessionId.{SessionId}
 use Rattle.go_sched_core.specs.declared.event.TicketState.{TicketState}

@@ -5,10 +5,10 @@ use Rattle.go_text_core.specs.declared.rule.Rule.TheVariants.{M0, O5, Z1}
 use Rattle.go_batch_core.specs.part_core.Inputs.{path_in}
 use Rattle.go_batch_core.specs.part_core.Parts.{PartModel}
 use Rattle.go_batch_core.specs.snap_core.Snapshots.{IsSnapshot, SnapshotModel}
-use Rattle.go_batch_core.specs.submit_core.Published.{IsEarlierPart, batch_of, sources_of}
-use Rattle.go_batch_core.specs.submit_core.Submitted.{submission_with, submitted}
-use Rattle.go_batch_core.specs.submit_core.declared.submission.Submission.{Submission}
-use Rattle.go_batch_core.specs.submit_core.declared.submission.Ticket.{Ticket}
+use Rattle.go_submit_core.specs.Published.{IsEarlierPart, batch_of, sources_of}
+use Rattle.go_submit_core.specs.Submitted.{submission_with, submitted}
+use Rattle.go_submit_core.specs.declared.submission.Submission.{Submission}
+use Rattle.go_submit_core.specs.declared.submission.Ticket.{Ticket}
 use Rattle.go_batch_core.specs.Batches.{BatchModel, Gets, HandsOut, IsBegun, IsBusy, IsForeign, NoneReady, actions_left}
 use Rattle.go_sched_core.specs.Service.{Service, counts, module_held, open_rule, submit_rule}
 use Rattle.go_sched_core.specs.declared.event.Action.{Action}

@@ -1,9 +1,9 @@
 //! What a step changes.
 use crate::event::SessionId;
 use crate::running::Running;
-use go_batch_core::submit_core::{Batches, Submission};
 use go_batch_core::{Ending, Next, ReadPart};
 use go_path_core::Module;
+use go_submit_core::{Batches, Submission};
 use std::collections::LinkedList;
 
 /// An action that is to be handed out, with the last published part of its package.

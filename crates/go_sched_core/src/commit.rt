@@ -14,9 +14,9 @@ use crate::machine::Core;
 use crate::rules::MAX_EVENTS;
 use crate::running::Running;
 use go_batch_core::part_core::PartInput;
-use go_batch_core::submit_core::{Batches, Submission, Ticket};
 use go_batch_core::{Ending, Next};
 use go_path_core::Module;
+use go_submit_core::{Batches, Submission, Ticket};
 use std::collections::LinkedList;
 
 // The count after one more accepted event.

@@ -26,13 +26,3 @@ pub use running::Running;
 pub mod batch_core {
     pub use go_batch_core::{ReadPart, rebuild};
 }
-
-/// What the crates above name of `go_part_core`.
-pub mod part_core {
-    pub use go_batch_core::part_core::Part;
-}
-
-/// What the crates above name of `go_submit_core`.
-pub mod submit_core {
-    pub use go_batch_core::submit_core::{Batches, ModuleTree, PublishedBatch, Ticket};
-}

@@ -1,12 +1,12 @@
 //! The state of the core.
 ghost use Rattle.std.specs.Prelude.{◌≡◌, ◌≤◌, IfErr, IfOk, length};
-ghost use Rattle.go_batch_core.specs.submit_core.Published.{AreSound};
+ghost use Rattle.go_submit_core.specs.Published.{AreSound};
 ghost use Rattle.go_sched_core.specs.Service.{empty};
 
 use crate::event::Held;
 use crate::rules::MAX_SESSIONS;
 use crate::running::Running;
-use go_batch_core::submit_core::{Batches, Submission};
+use go_submit_core::{Batches, Submission};
 use go_text_core::Rule;
 use std::alloc::Global;
 use std::collections::LinkedList;

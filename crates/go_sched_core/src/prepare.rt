@@ -1,7 +1,7 @@
 //! What a step needs: all growth is here, and nothing changes.
 ghost use Rattle.std.specs.Prelude.{◌≡◌, ℕ, ◌+◌, ◌<◌, ◌^◌, ◌++◌, ◌∷◌, [], IfErr, IfOk, MatchOption, Some, false};
-ghost use Rattle.go_batch_core.specs.submit_core.Published.{IsEarlierPart, IsOneWorker, batch_of, sources_of};
-ghost use Rattle.go_batch_core.specs.submit_core.Submitted.{submission_with, submitted};
+ghost use Rattle.go_submit_core.specs.Published.{IsEarlierPart, IsOneWorker, batch_of, sources_of};
+ghost use Rattle.go_submit_core.specs.Submitted.{submission_with, submitted};
 ghost use Rattle.go_batch_core.specs.Batches.{Awaits, NoneReady, actions_left, with_part};
 ghost use Rattle.go_sched_core.specs.Steps.{IsFormed, Step, accepts, with_batch};
 ghost use Rattle.go_sched_core.specs.mirrors.Fitting.{ArePublished, Fits, IsBeginning, IsHand};
@@ -12,11 +12,9 @@ use crate::machine::Core;
 use crate::rules::is_running;
 use crate::running::Running;
 use go_batch_core::snap_core::{SharedSnapshot, Snapshot};
-use go_batch_core::submit_core::{
-    Batches, ModuleTree, PublishedBatch, Submission, Submissions, Ticket,
-};
 use go_batch_core::{Batch, ReadPart};
 use go_path_core::{ImportPath, Module};
+use go_submit_core::{Batches, ModuleTree, PublishedBatch, Submission, Submissions, Ticket};
 use go_text_core::Rule;
 use std::alloc::AllocError;
 use std::collections::LinkedList;

@@ -1,13 +1,13 @@
 //! A step in two: what it needs is made first, and the state changes without memory.
 ghost use Rattle.std.specs.Prelude.{◌≡◌, IfErr, IfOk, MatchOption, false, true};
-ghost use Rattle.go_batch_core.specs.submit_core.Published.{BeginsWith};
+ghost use Rattle.go_submit_core.specs.Published.{BeginsWith};
 ghost use Rattle.go_sched_core.specs.Prepared.{IsAllowed};
 ghost use Rattle.go_sched_core.specs.Steps.{Step, accepts};
 
 use crate::change::Change;
 use crate::event::{Event, Reply};
 use crate::machine::Core;
-use go_batch_core::submit_core::Batches;
+use go_submit_core::Batches;
 use std::marker::Model;
 
 /// A step that was prepared: all that it grows is made. Contracts see the state that it was prepared in, the event, and the published batches after it.

@@ -1,17 +1,15 @@
 //! The rules that an event may break.
 ghost use Rattle.std.specs.Prelude.{◌≡◌, IfOk, OnOk};
 ghost use Rattle.std.specs.Option.{option_copied};
-ghost use Rattle.go_batch_core.specs.submit_core.Modules.{with_trees};
+ghost use Rattle.go_submit_core.specs.Modules.{with_trees};
 ghost use Rattle.go_sched_core.specs.Service.{clashes, history_rule, is_full, is_held, is_other_overlap, module_held, open_rule, submit_rule, taken_modules, taken_rule, with_held, with_running};
 ghost use Rattle.go_sched_core.specs.Steps.{runs};
 
 use crate::event::{Held, SessionId};
 use crate::machine::Core;
 use crate::running::Running;
-use go_batch_core::submit_core::{
-    ModuleTree, Submission, add_module, add_trees, is_among, is_same_module,
-};
 use go_path_core::{Module, overlaps};
+use go_submit_core::{ModuleTree, Submission, add_module, add_trees, is_among, is_same_module};
 use go_text_core::Rule;
 use std::alloc::AllocError;
 use std::collections::LinkedList;

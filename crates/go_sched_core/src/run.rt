@@ -1,6 +1,6 @@
 //! Whole runs.
 ghost use Rattle.std.specs.Prelude.{◌≡◌, IfErr, IfOk};
-ghost use Rattle.go_batch_core.specs.submit_core.Published.{AreSound};
+ghost use Rattle.go_submit_core.specs.Published.{AreSound};
 ghost use Rattle.go_sched_core.specs.Service.{empty};
 ghost use Rattle.go_sched_core.specs.Steps.{Run};
 

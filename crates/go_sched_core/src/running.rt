@@ -1,6 +1,6 @@
 //! The batch that runs.
 use go_batch_core::Batch;
-use go_batch_core::submit_core::Submissions;
+use go_submit_core::Submissions;
 
 /// The batch that runs, with its generation and what was submitted.
 #[derive(Drop)]

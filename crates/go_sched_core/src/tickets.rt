@@ -1,12 +1,12 @@
 //! Where a submission stands.
 ghost use Rattle.std.specs.Prelude.{◌≡◌};
-ghost use Rattle.go_batch_core.specs.submit_core.Submitted.{has_ticket};
+ghost use Rattle.go_submit_core.specs.Submitted.{has_ticket};
 ghost use Rattle.go_sched_core.specs.Service.{given_back, is_in_running, ticket_of};
 
 use crate::event::TicketState;
 use crate::machine::Core;
 use crate::running::Running;
-use go_batch_core::submit_core::{Submission, Ticket, has_ticket};
+use go_submit_core::{Submission, Ticket, has_ticket};
 use std::collections::LinkedList;
 
 fn is_waiting(waiting: &LinkedList<Submission>, ticket: u64) -> bool

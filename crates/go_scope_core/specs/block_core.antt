@@ -1,11 +1,19 @@
 -- What the crates above name of go_block_core.
+pub use Rattle.go_block_core.specs.All as AllPackages
+pub use Rattle.go_block_core.proofs.AllLemmas as AllLemmas
+pub use Rattle.go_block_core.proofs.BindingLemmas as BindingLemmas
 pub use Rattle.go_block_core.specs.Bindings as Bindings
 pub use Rattle.go_block_core.specs.Blocks as Blocks
 pub use Rattle.go_block_core.specs.Declarations as Declarations
 pub use Rattle.go_block_core.specs.Exports as Exports
 pub use Rattle.go_block_core.specs.Faults as Faults
 pub use Rattle.go_block_core.proofs.GivenSteps as GivenSteps
+pub use Rattle.go_block_core.proofs.Growing as Growing
+pub use Rattle.go_block_core.specs.Holding as Holding
+pub use Rattle.go_block_core.proofs.HoldingLaws as HoldingLaws
+pub use Rattle.go_block_core.specs.Laws as Laws
 pub use Rattle.go_block_core.specs.Naming as Naming
+pub use Rattle.go_block_core.proofs.NamingLemmas as NamingLemmas
 pub use Rattle.go_block_core.proofs.OneBlocks as OneBlocks
 pub use Rattle.go_block_core.proofs.Pieces as Pieces
 pub use Rattle.go_block_core.proofs.Rising as Rising

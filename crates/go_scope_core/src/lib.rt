@@ -21,16 +21,29 @@ pub use scope::{InScope, Scopes};
 pub mod block_core {
     pub use go_block_core::{
         Binding, BlockFault, Blocks, DeclKey, DeclKind, DeclRef, Exports, Imported, NamedDecl,
-        Target, blocks, import_names, import_specs,
+        Target, blocks, import_names, import_specs, one_blocks_alone, workspace_blocks,
     };
+}
+
+/// What the crates above name of `go_decl_core`.
+pub mod decl_core {
+    pub use go_block_core::decl_core::DeclKey;
 }
 
 /// What the crates above name of `go_graph_core`.
 pub mod graph_core {
-    pub use go_block_core::graph_core::{Package, SourceFile};
+    pub use go_block_core::graph_core::{
+        ImportAt, ImportOutcome, Package, PackageSource, Plan, SourceFile, Workspace, assemble,
+        one_outcome, plan_imports,
+    };
 }
 
-/// What the crates above name of `go_universe_core`.
-pub mod universe_core {
-    pub use go_universe_core::{Predeclared, find_predeclared};
+/// What the crates above name of `go_open_core`.
+pub mod open_core {
+    pub use go_block_core::open_core::DeclId;
+}
+
+/// What the crates above name of `go_parse_core`.
+pub mod parse_core {
+    pub use go_block_core::parse_core::{ParseError, Parsed, one_rule, one_tree, parse, tree_of};
 }

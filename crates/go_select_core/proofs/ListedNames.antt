@@ -17,8 +17,8 @@ use Rattle.go_text_core.specs.Text.{exported, SameId, is_blank}
 use Rattle.go_text_core.specs.declared.name.Name.{Name}
 use Rattle.go_text_core.specs.declared.rule.Rule.{Rule}
 use Rattle.go_text_core.proofs.Each.{true_or_false}
-use Rattle.go_level_core.specs.term_core.Terms.{Term}
-use Rattle.go_level_core.specs.term_core.Members.{In, Rises, contained_in, in_back, in_contained, in_either, in_front, pairs_rise, rising_pairs}
+use Rattle.go_term_core.specs.Terms.{Term}
+use Rattle.go_term_core.proofs.Members.{In, Rises, contained_in, in_back, in_contained, in_either, in_front, pairs_rise, rising_pairs}
 use Rattle.go_level_core.specs.table_core.Entries.{EntryLook}
 use Rattle.go_level_core.specs.embed_core.declared.member.Member as declared_member
 use Rattle.go_level_core.specs.embed_core.Owners.{Found, AFieldOf, AMethodOf, AnInterfaces, TheErrorMethod}

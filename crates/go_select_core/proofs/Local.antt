@@ -3,8 +3,8 @@ use Rattle.std.proofs.Common.{◌≡◌, ℕ, suc, Bool, true, false, not, ◌&&
 use Rattle.std.proofs.lemmas.List.Elements.{Contains-append_left, Contains-append_right}
 use Rattle.go_text_core.specs.declared.rule.Rule.{Rule}
 use Rattle.go_level_core.specs.decl_core.declared.keys.DeclKey.{DeclKey}
-use Rattle.go_level_core.specs.term_core.Terms.{Term, NoType, Predeclared, ErrorType, Defined, PointerTo, StructOf, InterfaceOf, Fields, NoField, AField, Methods, NoMethod, AMethod, term_keys, fields_keys, methods_keys, sign_keys}
-use Rattle.go_level_core.specs.term_core.Members.{In as AmongItems}
+use Rattle.go_term_core.specs.Terms.{Term, NoType, Predeclared, ErrorType, Defined, PointerTo, StructOf, InterfaceOf, Fields, NoField, AField, Methods, NoMethod, AMethod, term_keys, fields_keys, methods_keys, sign_keys}
+use Rattle.go_term_core.proofs.Members.{In as AmongItems}
 use Rattle.go_level_core.specs.table_core.Entries.{Member, Entry, EntryLook, term_in, methods_in, underlying_in, declared_methods, has_method, members_keys, entry_keys}
 use Rattle.go_level_core.specs.table_core.Laws.{LeadsTo, IsReached, AgreeFrom}
 use Rattle.go_level_core.specs.settle_core.declared.kind.Kind.{Kind}

@@ -3,7 +3,7 @@ use Rattle.std.proofs.Common.{◌≡◌, ℕ, ◌<◌, Bool, ◌||◌, List, len
 use Rattle.go_text_core.specs.declared.rule.Rule.{Rule}
 use Rattle.go_text_core.specs.declared.rule.Rule.TheVariants as rules
 use Rattle.go_text_core.specs.Text.{is_blank}
-use Rattle.go_level_core.specs.term_core.Terms.{Term}
+use Rattle.go_term_core.specs.Terms.{Term}
 use Rattle.go_level_core.specs.table_core.Entries.{EntryLook}
 use Rattle.go_level_core.specs.embed_core.Owners.{OwnerModel, Found, Named, owner_in}
 use Rattle.go_level_core.specs.embed_core.OwnersShown.{IsNamedAt, found_shown}

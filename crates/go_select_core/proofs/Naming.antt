@@ -4,7 +4,7 @@ use Rattle.std.specs.Prelude.{slice_get}
 use Rattle.std.proofs.lemmas.Bool.{true≢false}
 use Rattle.go_text_core.specs.Text.{SameId}
 use Rattle.go_text_core.proofs.Each.{true_or_false}
-use Rattle.go_level_core.specs.term_core.Shapes.{shape}
+use Rattle.go_term_core.specs.Shapes.{shape}
 use Rattle.go_level_core.specs.table_core.Entries.{EntryLook}
 use Rattle.go_level_core.specs.embed_core.declared.member.Member as declared_member
 use Rattle.go_level_core.specs.embed_core.Owners.{OwnerModel, Found, Named, members_of, owner_in}

@@ -4,8 +4,8 @@ use Rattle.std.specs.Prelude.{Ok}
 use Rattle.std.specs.Ordering.{nat_cmp}
 use Rattle.std.specs.Cmp.Lexicographic.{slice_cmp}
 use Rattle.go_text_core.specs.declared.name.Name.{Name}
-use Rattle.go_level_core.specs.term_core.Terms.{Term}
-use Rattle.go_level_core.specs.term_core.Members.{In, Rises, contained_in, in_contained, in_map, map_in, pairs_rise}
+use Rattle.go_term_core.specs.Terms.{Term}
+use Rattle.go_term_core.proofs.Members.{In, Rises, contained_in, in_contained, in_map, map_in, pairs_rise}
 use Rattle.go_level_core.specs.table_core.Entries.{EntryLook}
 use Rattle.go_level_core.specs.embed_core.Owners.{Found}
 use Rattle.go_level_core.specs.embed_core.OwnersShown.{found_shown}

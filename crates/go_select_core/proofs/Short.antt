@@ -3,8 +3,8 @@ use Rattle.std.proofs.Common.{◌≡◌, ℕ, zero, suc, ◌≤◌, Bool, true, 
 use Rattle.std.specs.Prelude.{nat_eq}
 use Rattle.std.specs.Map.{lookup}
 use Rattle.go_level_core.specs.decl_core.declared.keys.DeclKey.{DeclKey}
-use Rattle.go_level_core.specs.term_core.Terms.{Term, NoType, Predeclared, ErrorType, Defined, PointerTo, StructOf, InterfaceOf, Fields}
-use Rattle.go_level_core.specs.term_core.Members.{In}
+use Rattle.go_term_core.specs.Terms.{Term, NoType, Predeclared, ErrorType, Defined, PointerTo, StructOf, InterfaceOf, Fields}
+use Rattle.go_term_core.proofs.Members.{In}
 use Rattle.go_level_core.specs.table_core.Entries.{Entry, find_entry, same_key, term_in, underlying_in}
 use Rattle.go_level_core.specs.table_core.Keys.{same_key_itself, same_key_true}
 use Rattle.go_level_core.specs.embed_core.Owners.{EmbeddedEdge, Found, owner_in, term_embedded, embedded_in}

@@ -1,6 +1,6 @@
 -- All names, level by level.
 use Rattle.std.proofs.Common.{◌≡◌, ℕ, zero, suc, ◌+◌, ◌<◌, ◌≤◌, List, [], ◌∷◌, length, Option, Some, None, sym, ap, ◌∙◌, subst, arith}
-use Rattle.go_level_core.specs.term_core.Terms.{Term}
+use Rattle.go_term_core.specs.Terms.{Term}
 use Rattle.go_level_core.specs.table_core.Entries.{Entry, find_entry}
 use Rattle.go_level_core.specs.embed_core.declared.member.Member as declared_member
 use Rattle.go_level_core.specs.embed_core.Owners.{owner_in}

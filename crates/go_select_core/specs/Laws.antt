@@ -3,7 +3,7 @@ use Rattle.std.specs.Prelude.{◌≡◌, ◌↔◌, ◌≤◌, ℕ, suc, Bool, L
 use Rattle.go_level_core.specs.decl_core.declared.keys.DeclKey.{DeclKey}
 use Rattle.go_text_core.specs.declared.name.Name.{Name}
 use Rattle.go_text_core.specs.declared.rule.Rule.{Rule}
-use Rattle.go_level_core.specs.term_core.Terms.{Term, StructOf, Fields, term_keys, sign_keys}
+use Rattle.go_term_core.specs.Terms.{Term, StructOf, Fields, term_keys, sign_keys}
 use Rattle.go_level_core.specs.table_core.Entries.{Entry, EntryLook, find_entry}
 use Rattle.go_level_core.specs.table_core.Laws.{AgreeFrom, IsReached}
 use Rattle.go_level_core.specs.embed_core.Owners.{Found, AFieldOf, AMethodOf, AnInterfaces, TheErrorMethod}

@@ -7,4 +7,4 @@ pub mod embed_core
 pub mod level_core
 pub mod settle_core
 pub mod table_core
-pub mod term_core
+pub mod type_core

@@ -1,6 +1,6 @@
 -- The names of the embedded fields along a path.
 use Rattle.std.specs.Prelude.{ℕ, zero, suc, List, [], ◌∷◌, ◌++◌, Option, Some, None, option_to_list}
-use Rattle.go_level_core.specs.term_core.Terms.{Term, NoType, Predeclared, ErrorType, Defined, PointerTo, StructOf, InterfaceOf, Fields, NoField, AField}
+use Rattle.go_term_core.specs.Terms.{Term, NoType, Predeclared, ErrorType, Defined, PointerTo, StructOf, InterfaceOf, Fields, NoField, AField}
 use Rattle.go_level_core.specs.table_core.Entries.{EntryLook, underlying_in}
 use Rattle.go_level_core.specs.embed_core.Owners.{EmbeddedEdge, owner_in, embeds_at}
 

@@ -7,7 +7,7 @@ use Rattle.std.specs.Str.{chars}
 use Rattle.go_text_core.specs.Text.{exported, SameId}
 use Rattle.go_text_core.specs.declared.name.Name.{Name}
 use Rattle.go_level_core.specs.table_core.Entries.{EntryLook}
-use Rattle.go_level_core.specs.term_core.Terms.{Term}
+use Rattle.go_term_core.specs.Terms.{Term}
 use Rattle.go_level_core.specs.embed_core.Owners.{Found}
 use Rattle.go_level_core.specs.embed_core.OwnersShown.{name_shown, member_package_shown}
 use Rattle.go_level_core.specs.declared.search.Selected.{Selected}

@@ -19,7 +19,14 @@ pub use listing::{selectable, selections};
 
 /// What the crates above name of `go_embed_core`.
 pub mod embed_core {
-    pub use go_level_core::embed_core::Hits;
+    pub use go_level_core::embed_core::{
+        Hits, MemberFault, check_base, check_hidden_fields, check_methods, check_struct, has_method,
+    };
+}
+
+/// What the crates above name of `go_level_core`.
+pub mod level_core {
+    pub use go_level_core::{Operand, behind};
 }
 
 /// What the crates above name of `go_path_core`.
@@ -29,20 +36,21 @@ pub mod path_core {
 
 /// What the crates above name of `go_settle_core`.
 pub mod settle_core {
-    pub use go_level_core::settle_core::{Kind, kind_of, settle, settle_signature};
+    pub use go_level_core::settle_core::{Kind, Kinds, kind_of, settle, settle_signature};
 }
 
 /// What the crates above name of `go_table_core`.
 pub mod table_core {
     pub use go_level_core::table_core::{
-        DeclaredMethod, DefinedType, PackageTypes, TypeTable, identical_under,
-        identical_under_but_for_tags, is_named_type,
+        DeclaredMethod, DefinedType, PackageTypes, StructField, TypeEntry, TypeTable,
+        identical_under, identical_under_but_for_tags, is_named_type,
     };
 }
 
 /// What the crates above name of `go_type_core`.
 pub mod type_core {
     pub use go_level_core::type_core::{
-        Basic, Method, Signature, TypeTable, TypeTerm, has_same_signature,
+        Basic, Method, PackageTypes, Signature, TypeFault, TypeTable, TypeTerm, build_types,
+        has_same_signature,
     };
 }

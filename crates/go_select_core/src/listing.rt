@@ -1,7 +1,7 @@
 //! All that selectors may denote behind an operand.
 ghost use Rattle.std.specs.Prelude.{◌≡◌, length, option_to_list, IfOk, OnOk};
 ghost use Rattle.go_level_core.specs.table_core.Entries.{find_entry};
-ghost use Rattle.go_level_core.specs.term_core.Shapes.{shape};
+ghost use Rattle.go_term_core.specs.Shapes.{shape};
 ghost use Rattle.go_select_core.specs.Selections.{AreSelections, IsListing};
 ghost use Rattle.go_select_core.specs.mirrors.Names.{names_of, AreBefore, AreNamed, AreSaid, AreKnown};
 ghost use Rattle.go_select_core.specs.mirrors.Listings.{IsWithin, AreWithin, AreListed, AreSelectionsIn, entry_listed, seen_of};

@@ -5,7 +5,7 @@ use Rattle.std.specs.List.{list_any}
 use Rattle.std.proofs.lemmas.List.{map-append}
 use Rattle.std.specs.Str.{bytes_eq}
 use Rattle.std.proofs.lemmas.Slice.Eq.{bytes_eq-Decides}
-use Rattle.go_text_core.specs.Text.{is_blank}
+use Rattle.go_term_core.specs.text_core.Text.{is_blank}
 use Rattle.go_settle_core.specs.Settled.{is_among_names, repeats_earlier}
 
 -- the same names stand among two lists

@@ -1,7 +1,7 @@
 -- Types in which nothing is amiss.
 use Rattle.std.specs.Prelude.{◌≡◌, ℕ, true, false, List, ⊤}
 use Rattle.go_term_core.specs.decl_core.declared.keys.DeclKey.{DeclKey}
-use Rattle.go_text_core.specs.Text.{is_blank}
+use Rattle.go_term_core.specs.text_core.Text.{is_blank}
 use Rattle.go_term_core.specs.Terms.{Term, NoType, Predeclared, ErrorType, Defined, PointerTo, StructOf, InterfaceOf, Fields, NoField, AField, Methods, NoMethod, AMethod, Sign, SignOf, Terms, NoTerm, ATerm}
 use Rattle.go_term_core.specs.Laws.{HasNone}
 use Rattle.go_settle_core.specs.declared.kind.Kind.{Kind}

@@ -3,5 +3,4 @@ pub mod Settled
 pub mod Clean
 pub mod mirrors
 pub mod decl_core
-pub mod term_core
 pub mod text_core

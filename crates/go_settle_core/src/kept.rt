@@ -3,8 +3,8 @@ ghost use Rattle.std.specs.Prelude.{◌≡◌, [], IfOk, length};
 ghost use Rattle.go_settle_core.specs.mirrors.Kept.{keeps_field, keeps_method, kept_fields, kept_methods, those_kept};
 
 use crate::seen::SeenNames;
+use go_term_core::text_core::{add, is_blank};
 use go_term_core::{Field, Method};
-use go_text_core::{add, is_blank};
 use std::alloc::{AllocError, Global};
 
 // Whether a field is kept: it is blank, or its name is new.

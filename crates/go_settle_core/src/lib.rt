@@ -22,9 +22,7 @@ pub use terms::{settle, settle_signature};
 
 /// What the crates above name of `go_decl_core`.
 pub mod decl_core {
-    pub use go_term_core::decl_core::{
-        DeclForm, DeclKey, DeclRef, Outline, Places, TopDecl, place_order,
-    };
+    pub use go_term_core::decl_core::{DeclForm, DeclKey, DeclRef, Places, TopDecl, place_order};
 }
 
 /// What the crates above name of `go_path_core`.
@@ -32,16 +30,7 @@ pub mod path_core {
     pub use go_term_core::path_core::ImportPath;
 }
 
-/// What the crates above name of `go_term_core`.
-pub mod term_core {
-    pub use go_term_core::{
-        Basic, Field, FieldLine, LocalPlace, MemberPlace, Method, Signature, Tag, TypeTerm, copy,
-        has_same_signature, identical, identical_but_for_tags, identity_by_form,
-        identity_is_equivalence, is_no_type,
-    };
-}
-
 /// What the crates above name of `go_text_core`.
 pub mod text_core {
-    pub use go_text_core::{Name, is_exported};
+    pub use go_term_core::text_core::{Name, is_exported};
 }

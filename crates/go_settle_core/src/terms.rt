@@ -9,10 +9,10 @@ use crate::embed::can_embed;
 use crate::kept::{kept_methods, settle_fields};
 use crate::kind::{Kind, Kinds};
 use go_term_core::decl_core::DeclKey;
+use go_term_core::text_core::{add, boxed};
 use go_term_core::{
     FieldLine, Method, Params, Signature, TypeTerm, both, copy_numbers, is_no_type,
 };
-use go_text_core::{add, boxed};
 use std::alloc::{AllocError, Global};
 
 /// What was made, or the end of the function where memory ran out. A `?` is two calls of generic functions, and a proof writes out

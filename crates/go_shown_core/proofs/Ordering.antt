@@ -9,7 +9,7 @@ use Rattle.std.specs.declared.cmp.Ordering.TheVariants.{Less}
 use Rattle.std.proofs.lemmas.List.Kept.{Any-dedup, Contains-from_dedup}
 use Rattle.std.proofs.lemmas.List.Sorted.{Contains-permutation, IsPermutation-sym}
 use Rattle.std.proofs.lemmas.Slice.Eq.{bytes_eq-Decides}
-use Rattle.go_block_core.specs.graph_core.Workspaces.{by_bytes}
+use Rattle.go_summary_core.specs.graph_core.Workspaces.{by_bytes}
 use Rattle.go_shown_core.specs.Shown.{texts}
 
 abbrev pub Lent : Type 0

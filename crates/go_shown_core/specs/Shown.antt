@@ -3,8 +3,8 @@ use Rattle.std.specs.Prelude.{◌≡◌, ◌⊎◌, ℕ, List, [], ◌∷◌, ma
 use Rattle.std.specs.Borrow.{Bor}
 use Rattle.std.specs.List.{flat_map}
 use Rattle.go_path_core.specs.Path.{MayImport, elements}
-use Rattle.go_block_core.specs.declared.imports.Imported.{Imported}
-use Rattle.go_block_core.specs.declared.imports.Imported.TheVariants as given
+use Rattle.go_summary_core.specs.block_core.declared.imports.Imported.{Imported}
+use Rattle.go_summary_core.specs.block_core.declared.imports.Imported.TheVariants as given
 
 -- texts that are lent
 abbrev pub texts : List (Bor (List ℕ)) → List (List ℕ)

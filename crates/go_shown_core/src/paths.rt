@@ -2,15 +2,15 @@
 ghost use Rattle.std.specs.Prelude.{◌↔◌, ◌∷◌, ℕ, List, [], Contains, IfOk, OnOk, map};
 ghost use Rattle.std.specs.List.{flat_map};
 ghost use Rattle.std.specs.List.Sorted.{IsStrictlySortedBy};
-ghost use Rattle.go_block_core.specs.graph_core.Workspaces.{by_bytes};
-ghost use Rattle.go_block_core.specs.Naming.{imported_in};
+ghost use Rattle.go_summary_core.specs.graph_core.Workspaces.{by_bytes};
+ghost use Rattle.go_summary_core.specs.block_core.Naming.{imported_in};
 ghost use Rattle.go_summary_core.specs.Summaries.{path_of};
 ghost use Rattle.go_shown_core.specs.Shown.{MayBeShown, Picks, import_paths, path_in, texts};
 ghost use Rattle.go_shown_core.specs.mirrors.Adding.{AddsPicked};
 
-use go_block_core::Imported;
 use go_path_core::{ImportPath, may_import};
 use go_summary_core::ReachedSummaries;
+use go_summary_core::block_core::Imported;
 use go_text_core::add;
 use std::alloc::{AllocError, Global};
 

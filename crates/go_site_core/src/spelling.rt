@@ -6,8 +6,8 @@ ghost use Rattle.go_answer_core.specs.handle_core.Declarations.{site_shown};
 use crate::offsets::all_offsets;
 use crate::search::number_of;
 use go_answer_core::Site;
+use go_answer_core::graph_core::{SourceFile, Workspace};
 use go_answer_core::handle_core::DeclSite;
-use go_graph_core::{SourceFile, Workspace};
 use go_object_core::Spelling;
 use go_term_core::MemberPlace;
 use std::alloc::{AllocError, Global};
@@ -32,7 +32,7 @@ impl Drop for SiteSpelling<'_> {
 impl<'w> Model for SiteSpelling<'w> {
     ghost use Rattle.std.specs.Prelude.{◌≡◌, List, map};
     ghost use Rattle.std.specs.Coded.{coded_list};
-    ghost use Rattle.go_graph_core.specs.Workspaces.{PackageModel, coded_package};
+    ghost use Rattle.go_answer_core.specs.graph_core.Workspaces.{PackageModel, coded_package};
     ghost use Rattle.go_site_core.specs.Sites.{held_items, offsets_in};
 
     ghost Value = { List PackageModel };

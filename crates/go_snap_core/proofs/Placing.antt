@@ -19,14 +19,14 @@ use Rattle.go_tree_nodes.specs.declared.names.Ident.{Ident}
 use Rattle.go_tree_nodes.specs.Spelling.{mark, spell_imports, spell_tops}
 use Rattle.go_tree_nodes.specs.Trees.{FileTree}
 use Rattle.go_tree_nodes.proofs.InOrder.{in_order_ends}
-use Rattle.go_emit_core.specs.parse_core.declared.error.SynFault.{SynFault}
-use Rattle.go_emit_core.specs.parse_core.Correct.{IsSynFault}
-use Rattle.go_emit_core.specs.graph_core.declared.assembly.KFault.{KFault}
-use Rattle.go_emit_core.specs.graph_core.Packages.{IsAssembly}
-use Rattle.go_emit_core.specs.graph_core.Sources.{SourceModel, IsContent, IsRead, clause_in}
-use Rattle.go_emit_core.specs.graph_core.Workspaces.{PackageModel, IsWorkspace}
-use Rattle.go_emit_core.specs.part_core.Parts.{PartModel}
-use Rattle.go_emit_core.specs.whole_core.Lists.{none_is_some, one_at}
+use Rattle.go_make_core.specs.parse_core.declared.error.SynFault.{SynFault}
+use Rattle.go_make_core.specs.parse_core.Correct.{IsSynFault}
+use Rattle.go_make_core.specs.graph_core.declared.assembly.KFault.{KFault}
+use Rattle.go_make_core.specs.graph_core.Packages.{IsAssembly}
+use Rattle.go_make_core.specs.graph_core.Sources.{SourceModel, IsContent, IsRead, clause_in}
+use Rattle.go_make_core.specs.graph_core.Workspaces.{PackageModel, IsWorkspace}
+use Rattle.go_make_core.specs.part_core.Parts.{PartModel}
+use Rattle.go_make_core.specs.whole_core.Lists.{none_is_some, one_at}
 use Rattle.go_snap_core.specs.declared.fault.PlacedFault.{PlacedFault}
 use Rattle.go_snap_core.specs.Faults.{IsWorkspaceFault, IsOfAssembly, IsOfText, IsUnassembled, LiesIn}
 use Rattle.go_snap_core.specs.Laws.{UnassembledFaultsLieInTexts}

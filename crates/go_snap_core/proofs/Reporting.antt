@@ -15,22 +15,22 @@ use Rattle.go_scan_core.specs.Parts.{TextPart, width}
 use Rattle.go_scan_core.specs.Tokens.{AreTextParts, IsAnswer}
 use Rattle.go_scan_core.specs.Tokens as lexemes
 use Rattle.go_tree_nodes.specs.Trees.{FileTree}
-use Rattle.go_emit_core.specs.parse_core.declared.error.SynFault.{SynFault}
-use Rattle.go_emit_core.specs.parse_core.Correct.{IsSynFault}
-use Rattle.go_emit_core.specs.graph_core.declared.assembly.KFault.{KFault}
-use Rattle.go_emit_core.specs.graph_core.Packages.{AllHaveTrees, HasNoClause, IsAssembly, IsK4}
-use Rattle.go_emit_core.specs.graph_core.Sources.{SourceModel, IsContent, IsRead, clause_in}
-use Rattle.go_emit_core.specs.graph_core.Workspaces.{PackageModel}
-use Rattle.go_emit_core.specs.graph_core.AssemblyLaws.{has_no_other_assembly}
-use Rattle.go_emit_core.specs.local_core.declared.Fault.{Fault}
-use Rattle.go_emit_core.specs.report_core.Faults.{number_order}
-use Rattle.go_emit_core.specs.report_core.Faults as report
-use Rattle.go_emit_core.specs.entry_core.Among.{Among, among_cases, among_from, among_left, among_map, among_right, among_to, map_among}
-use Rattle.go_emit_core.specs.part_core.Parts.{ContentOf, FileOf}
+use Rattle.go_make_core.specs.parse_core.declared.error.SynFault.{SynFault}
+use Rattle.go_make_core.specs.parse_core.Correct.{IsSynFault}
+use Rattle.go_make_core.specs.graph_core.declared.assembly.KFault.{KFault}
+use Rattle.go_make_core.specs.graph_core.Packages.{AllHaveTrees, HasNoClause, IsAssembly, IsK4}
+use Rattle.go_make_core.specs.graph_core.Sources.{SourceModel, IsContent, IsRead, clause_in}
+use Rattle.go_make_core.specs.graph_core.Workspaces.{PackageModel}
+use Rattle.go_make_core.specs.graph_core.AssemblyLaws.{has_no_other_assembly}
+use Rattle.go_local_core.specs.declared.Fault.{Fault}
+use Rattle.go_make_core.specs.report_core.Faults.{number_order}
+use Rattle.go_make_core.specs.report_core.Faults as report
+use Rattle.go_make_core.specs.entry_core.Among.{Among, among_cases, among_from, among_left, among_map, among_right, among_to, map_among}
+use Rattle.go_make_core.specs.part_core.Parts.{ContentOf, FileOf}
 use Rattle.go_snap_core.specs.declared.fault.PlacedFault.{PlacedFault}
 use Rattle.go_snap_core.specs.Faults.{AreFaults, IsPlacedBefore, InPackage, InFile, ByOffset, ByRule, IsWorkspaceFault, IsOfAssembly, IsOfText, IsReportedOf, IsUnassembled, here}
 use Rattle.go_snap_core.specs.mirrors.Reports.{AreFaultsTo, AreOfPackage, AreUnassembled, assembly_fault, fault_with, part_faults, placed, text_fault, text_faults}
-use Rattle.go_emit_core.specs.whole_core.Lists.{all_from_among, none_is_some, one_at, pairs_head, pairs_tail}
+use Rattle.go_make_core.specs.whole_core.Lists.{all_from_among, none_is_some, one_at, pairs_head, pairs_tail}
 
 -- lists in order
 

@@ -1,2 +1,2 @@
 -- What the crates above name of go_fault_core.
-pub use Rattle.go_emit_core.specs.fault_core.declared as declared
+pub use Rattle.go_make_core.specs.fault_core.declared as declared

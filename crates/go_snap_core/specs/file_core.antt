@@ -1,3 +1,3 @@
 -- What the crates above name of go_file_core.
-pub use Rattle.go_emit_core.specs.file_core.Files as Files
-pub use Rattle.go_emit_core.specs.file_core.Imports as Imports
+pub use Rattle.go_make_core.specs.file_core.Files as Files
+pub use Rattle.go_make_core.specs.file_core.Imports as Imports

@@ -1,2 +1,2 @@
 -- What the crates above name of go_make_core.
-pub use Rattle.go_emit_core.specs.make_core.Telling as Telling
+pub use Rattle.go_make_core.specs.Telling as Telling

@@ -1,14 +1,14 @@
 //! The faults of a workspace, in order.
 ghost use Rattle.std.specs.Prelude.{◌≡◌, ◌++◌, IfOk, OnOk, map};
-ghost use Rattle.go_emit_core.specs.graph_core.Packages.{IsAssembled};
+ghost use Rattle.go_make_core.specs.graph_core.Packages.{IsAssembled};
 ghost use Rattle.go_snap_core.specs.Faults.{AreFaults};
-ghost use Rattle.go_emit_core.specs.whole_core.Inputs.{AreParts};
+ghost use Rattle.go_make_core.specs.whole_core.Inputs.{AreParts};
 ghost use Rattle.go_snap_core.specs.Snapshots.{contents_of};
 ghost use Rattle.go_snap_core.specs.mirrors.Reports.{AddsUnassembled, part_faults, placed, text_faults};
 
-use go_emit_core::graph_core::{PackageSource, SourceFile, Workspace, assemble};
-use go_emit_core::local_core::Fault;
-use go_emit_core::part_core::Part;
+use go_local_core::Fault;
+use go_make_core::graph_core::{PackageSource, SourceFile, Workspace, assemble};
+use go_make_core::part_core::Part;
 use go_text_core::Rule;
 use std::alloc::{AllocError, Global};
 

@@ -1,16 +1,16 @@
 //! The snapshot of a workspace.
 ghost use Rattle.std.specs.Prelude.{◌≡◌, IfOk};
-ghost use Rattle.go_emit_core.specs.graph_core.Workspaces.{IsWorkspace};
-ghost use Rattle.go_emit_core.specs.whole_core.Inputs.{AreParts};
-ghost use Rattle.go_emit_core.specs.make_core.Keeping.{AreKept};
+ghost use Rattle.go_make_core.specs.graph_core.Workspaces.{IsWorkspace};
+ghost use Rattle.go_make_core.specs.whole_core.Inputs.{AreParts};
+ghost use Rattle.go_make_core.specs.Keeping.{AreKept};
 ghost use Rattle.go_snap_core.specs.Snapshots.{IsSnapshot};
 
 use crate::fault::{PlacedFault, faults_of};
 use crate::snapshot::Snapshot;
-use go_emit_core::graph_core::Workspace;
-use go_emit_core::make_core::{parts_again, parts_of};
-use go_emit_core::part_core::Parts;
-use go_emit_core::whole_core::{check_is_local, imports_bind_theirs};
+use go_make_core::graph_core::Workspace;
+use go_make_core::part_core::Parts;
+use go_make_core::whole_core::{check_is_local, imports_bind_theirs};
+use go_make_core::{parts_again, parts_of};
 use std::alloc::{AllocError, Global};
 
 /// A snapshot that was made over an earlier one.

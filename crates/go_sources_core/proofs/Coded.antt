@@ -2,8 +2,8 @@
 use Rattle.std.proofs.Common.{◌≡◌, ℕ, suc, Bool, true, false, List, [], ◌∷◌, ◌++◌, map, Option, Some, None, refl, sym, ap, ◌∙◌, if◌then◌else◌}
 use Rattle.std.proofs.lemmas.List.{map-append}
 use Rattle.go_tree_nodes.specs.Trees.{FileTree}
-use Rattle.go_decl_core.specs.TopDecls.{TopDeclTree, FormTree, ValueForm, TypeForm, FuncForm, top_decls}
-use Rattle.go_code_core.specs.fragment_core.Names.{CodeLooks}
+use Rattle.go_emit_core.specs.decl_core.TopDecls.{TopDeclTree, FormTree, ValueForm, TypeForm, FuncForm, top_decls}
+use Rattle.go_fragment_core.specs.Names.{CodeLooks}
 use Rattle.go_object_core.specs.Objects.{FunctionOf}
 use Rattle.go_machine_core.specs.Programs.{LinkedOf}
 use Rattle.go_link_core.specs.Functions.{all_functions, linked_of, number_of}
@@ -16,8 +16,8 @@ use Rattle.go_emit_core.specs.part_core.Slots.{if_there}
 use Rattle.go_emit_core.specs.meaning_core.Looking.{looks_of}
 use Rattle.go_emit_core.specs.meaning_core.Scenes.{CodeScene}
 use Rattle.go_emit_core.specs.Emitted.{are_clean, code_scene_over, file_functions, form_function, functions_of, objects_of, objects_over, package_functions, told_by, whole_object}
-use Rattle.go_means_core.specs.Meaning.{SourceOf}
-use Rattle.go_means_core.specs.Whole.{linked_source}
+use Rattle.go_meant_core.specs.means_core.Meaning.{SourceOf}
+use Rattle.go_meant_core.specs.means_core.Whole.{linked_source}
 use Rattle.go_sources_core.specs.Sources.{file_sources, form_source, package_sources, sources_in, sources_over}
 use Rattle.go_sources_core.specs.Laws.{ObjectsAreCodeOfSources}
 

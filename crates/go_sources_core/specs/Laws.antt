@@ -5,8 +5,8 @@ use Rattle.go_link_core.specs.Linked.{IsRunnable, RunnableOf, program_of}
 use Rattle.go_emit_core.specs.handle_core.Declarations.{Declaration}
 use Rattle.go_emit_core.specs.part_core.Parts.{PartModel}
 use Rattle.go_emit_core.specs.Emitted.{objects_of}
-use Rattle.go_means_core.specs.Laws.{HasMeaning}
-use Rattle.go_means_core.specs.Whole.{code_of_program}
+use Rattle.go_meant_core.specs.means_core.Laws.{HasMeaning}
+use Rattle.go_meant_core.specs.means_core.Whole.{code_of_program}
 use Rattle.go_meant_core.specs.Laws.{RunsAsMeant}
 use Rattle.go_sources_core.specs.Sources.{sources_of}
 

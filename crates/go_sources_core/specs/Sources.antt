@@ -2,8 +2,8 @@
 use Rattle.std.specs.Prelude.{ℕ, suc, List, [], ◌∷◌, ◌++◌, map, Option, if◌then◌else◌}
 use Rattle.std.specs.List.{flat_map}
 use Rattle.go_tree_nodes.specs.Trees.{FileTree, FuncTree}
-use Rattle.go_decl_core.specs.TopDecls.{TopDeclTree, FormTree, ValueForm, TypeForm, FuncForm, top_decls}
-use Rattle.go_code_core.specs.fragment_core.Names.{CodeLooks}
+use Rattle.go_emit_core.specs.decl_core.TopDecls.{TopDeclTree, FormTree, ValueForm, TypeForm, FuncForm, top_decls}
+use Rattle.go_fragment_core.specs.Names.{CodeLooks}
 use Rattle.go_link_core.specs.Functions.{PlaceModel, all_functions, number_of}
 use Rattle.go_emit_core.specs.handle_core.Declarations.{Declaration}
 use Rattle.go_emit_core.specs.body_core.Notes.{TheUse}
@@ -13,7 +13,7 @@ use Rattle.go_emit_core.specs.part_core.Parts.{FileOf, PartModel}
 use Rattle.go_emit_core.specs.meaning_core.Looking.{looks_of}
 use Rattle.go_emit_core.specs.meaning_core.Scenes.{CodeScene}
 use Rattle.go_emit_core.specs.Emitted.{are_clean, body_first, body_uses, code_scene_over, declarations_in, objects_of, told_by}
-use Rattle.go_means_core.specs.Meaning.{SourceOf}
+use Rattle.go_meant_core.specs.means_core.Meaning.{SourceOf}
 
 -- a function of a file, by what the file's occurrences have, where a declaration is the function of a number
 abbrev pub source_in : (Declaration → Option ℕ) → List TheUse → (ℕ → CodeLooks) → FuncTree → SourceOf

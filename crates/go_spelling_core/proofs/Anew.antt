@@ -7,25 +7,25 @@ use Rattle.go_tree_nodes.specs.declared.decls.ValueKind.{ValueKind}
 use Rattle.go_tree_nodes.specs.declared.decls.ValueKind.TheVariants as kinds
 use Rattle.go_tree_nodes.specs.declared.names.Ident.{Ident}
 use Rattle.go_tree_nodes.specs.Trees.{Separated, TypeTree, ExprTree, Named, ValueSpecTree}
-use Rattle.go_decl_core.specs.TopDecls.{FormTree, ValueForm, TypeForm, FuncForm}
+use Rattle.go_term_core.specs.decl_core.TopDecls.{FormTree, ValueForm, TypeForm, FuncForm}
 use Rattle.go_snap_core.specs.handle_core.Declarations.{Declaration}
-use Rattle.go_denote_core.specs.declared.things.Stand.TheVariants as stands
-use Rattle.go_denote_core.specs.term_core.Terms.{Term, Sign}
-use Rattle.go_expr_core.specs.Looks.{WrittenRules}
-use Rattle.go_expr_core.specs.Denoting.{denoted}
-use Rattle.go_expr_core.specs.Laws.{AgreeOnIdents}
-use Rattle.go_expr_core.specs.Needed.{needed_idents}
-use Rattle.go_expr_core.specs.Uses.{use_of, spots, uses, type_spots}
-use Rattle.go_expr_core.proofs.Alike.{agree_left, agree_right, needed_names}
-use Rattle.go_expr_core.proofs.Independence.{len, map_len, own_name}
+use Rattle.go_snap_core.specs.denote_core.declared.things.Stand.TheVariants as stands
+use Rattle.go_term_core.specs.Terms.{Term, Sign}
+use Rattle.go_snap_core.specs.expr_core.Looks.{WrittenRules}
+use Rattle.go_snap_core.specs.expr_core.Denoting.{denoted}
+use Rattle.go_snap_core.specs.expr_core.Laws.{AgreeOnIdents}
+use Rattle.go_snap_core.specs.expr_core.Needed.{needed_idents}
+use Rattle.go_snap_core.specs.expr_core.Uses.{use_of, spots, uses, type_spots}
+use Rattle.go_snap_core.specs.expr_core.Alike.{agree_left, agree_right, needed_names}
+use Rattle.go_snap_core.specs.expr_core.Independence.{len, map_len, own_name}
 use Rattle.go_snap_core.specs.face_core.declared.face.Face.TheVariants as faces
 use Rattle.go_snap_core.specs.face_core.Faces.{TheFace}
 use Rattle.go_snap_core.specs.face_core.Written.{written_at}
 use Rattle.go_snap_core.specs.env_core.Scenes.{SceneModel}
 use Rattle.go_snap_core.specs.env_core.Looks.{TheLooks}
 use Rattle.go_needs_core.specs.Needs.{known_in}
-use Rattle.go_piece_core.specs.Specifications.{spec_uses, values_uses}
-use Rattle.go_piece_core.specs.Types.{some_type_uses}
+use Rattle.go_snap_core.specs.piece_core.Specifications.{spec_uses, values_uses}
+use Rattle.go_snap_core.specs.piece_core.Types.{some_type_uses}
 use Rattle.go_snap_core.specs.value_core.Initial.{initial, expr_of, some_needed, initial_idents}
 use Rattle.go_snap_core.specs.value_core.Laws.{FormsAlike}
 use Rattle.go_snap_core.specs.value_core.mirrors.Own.{own_argument}

@@ -4,14 +4,14 @@ use Rattle.std.specs.Prelude.{Option}
 use Rattle.std.specs.List.{flat_map, enumerate_from}
 use Rattle.std.proofs.lemmas.List.{map-append}
 use Rattle.go_tree_nodes.specs.Trees.{FuncTree, Lines, TopTree, FileTree}
-use Rattle.go_decl_core.specs.declared.places.Place.{Place}
-use Rattle.go_decl_core.specs.Outer.{decl_outers, tops_outers, places_of, place_of}
-use Rattle.go_decl_core.specs.TopDecls.{decl_decls, tops_decls}
+use Rattle.go_term_core.specs.decl_core.declared.places.Place.{Place}
+use Rattle.go_term_core.specs.decl_core.Outer.{decl_outers, tops_outers, places_of, place_of}
+use Rattle.go_term_core.specs.decl_core.TopDecls.{decl_decls, tops_decls}
 use Rattle.go_snap_core.specs.block_core.Blocks.{BlocksModel}
 use Rattle.go_snap_core.specs.written_core.Written.{InFile}
 use Rattle.go_snap_core.specs.entry_core.Meanings.{Shows, file_meaning}
 use Rattle.go_snap_core.specs.entry_core.Outlines.{FileOutline, outline_of}
-use Rattle.go_type_core.specs.table_core.Entries.{Entry}
+use Rattle.go_snap_core.specs.table_core.Entries.{Entry}
 use Rattle.go_snap_core.specs.face_core.Faces.{TheFace}
 use Rattle.go_snap_core.specs.face_core.Written.{WrittenOf, written_of, file_written, package_written}
 use Rattle.go_snap_core.specs.func_core.Stands.{FileStand}

@@ -8,20 +8,20 @@ use Rattle.go_tree_nodes.specs.declared.types.TypeName.{TypeName}
 use Rattle.go_tree_nodes.specs.declared.types.TypeName.TheVariants as type_names
 use Rattle.go_tree_nodes.specs.declared.usage.Usage.TheVariants as usages
 use Rattle.go_tree_nodes.specs.Trees.{TypeTree, FieldTrees, MethodTrees, SignatureTree, ResultTree, ParamTrees, NamedType, Pointer, ParenType, Struct, Interface, NoFields, NamedFields, EmbeddedField, NoMethods, Method, Signed, NoResult, OneResult, Results, NoParams, Param, ExprTree, ItemTrees, Integer, Text, Named, Paren, Unary, Binary, Select, Call, Literal, StructLiteral, NoItems, Item}
-use Rattle.go_denote_core.specs.declared.things.Stand.{Stand}
-use Rattle.go_denote_core.specs.declared.things.Stand.TheVariants as stands
-use Rattle.go_denote_core.specs.Arguments.{arguments_of, is_free}
-use Rattle.go_denote_core.specs.Calls.{call_answer}
-use Rattle.go_denote_core.specs.Selectors.{dot_of, selector_answer}
-use Rattle.go_expr_core.specs.Looks.{Looks, look_of_place}
-use Rattle.go_expr_core.specs.Places.{inside, under_place, left_place, whole, is_name, is_literal, is_call, is_lone_call}
-use Rattle.go_expr_core.specs.Denoting.{ident_answer, named_type, written_type, denoted, denoted_items}
-use Rattle.go_expr_core.specs.Operators.{unary_of, binary_of}
-use Rattle.go_expr_core.specs.Elements.{key_names, all_keys, keys_of, is_mixed}
-use Rattle.go_expr_core.specs.Needed.{needed_idents, needed_by_args}
-use Rattle.go_expr_core.specs.Uses.{SelectorBehind, Spot, type_name_spots, type_spots, fields_spots, methods_spots, signature_spots, result_spots, params_spots, key_spots, spots, args_spots, items_spots}
-use Rattle.go_expr_core.specs.Respelling.{RespellsName, InPlain, InQualifier, BehindDot, RespellsType, InNamedType, InPointer, InParenType, InStruct, InInterface, RespellsFields, InFieldType, InLaterFields, InEmbedded, BehindEmbedded, RespellsMethods, InMethod, InLaterMethods, RespellsSignature, InParams, InResult, RespellsResult, InOneResult, InResults, RespellsParams, InParam, InLaterParams, Respells, InName, InParen, InUnary, InLeft, InRight, InOperand, InSelector, InCallee, InArguments, InLiteralType, InElements, InStructType, InStructElements, RespellsArgs, InArgument, InLaterArguments}
-use Rattle.go_expr_core.proofs.Independence.{len}
+use Rattle.go_snap_core.specs.denote_core.declared.things.Stand.{Stand}
+use Rattle.go_snap_core.specs.denote_core.declared.things.Stand.TheVariants as stands
+use Rattle.go_snap_core.specs.denote_core.Arguments.{arguments_of, is_free}
+use Rattle.go_snap_core.specs.denote_core.Calls.{call_answer}
+use Rattle.go_snap_core.specs.denote_core.Selectors.{dot_of, selector_answer}
+use Rattle.go_snap_core.specs.expr_core.Looks.{Looks, look_of_place}
+use Rattle.go_snap_core.specs.expr_core.Places.{inside, under_place, left_place, whole, is_name, is_literal, is_call, is_lone_call}
+use Rattle.go_snap_core.specs.expr_core.Denoting.{ident_answer, named_type, written_type, denoted, denoted_items}
+use Rattle.go_snap_core.specs.expr_core.Operators.{unary_of, binary_of}
+use Rattle.go_snap_core.specs.expr_core.Elements.{key_names, all_keys, keys_of, is_mixed}
+use Rattle.go_snap_core.specs.expr_core.Needed.{needed_idents, needed_by_args}
+use Rattle.go_snap_core.specs.expr_core.Uses.{SelectorBehind, Spot, type_name_spots, type_spots, fields_spots, methods_spots, signature_spots, result_spots, params_spots, key_spots, spots, args_spots, items_spots}
+use Rattle.go_snap_core.specs.expr_core.Respelling.{RespellsName, InPlain, InQualifier, BehindDot, RespellsType, InNamedType, InPointer, InParenType, InStruct, InInterface, RespellsFields, InFieldType, InLaterFields, InEmbedded, BehindEmbedded, RespellsMethods, InMethod, InLaterMethods, RespellsSignature, InParams, InResult, RespellsResult, InOneResult, InResults, RespellsParams, InParam, InLaterParams, Respells, InName, InParen, InUnary, InLeft, InRight, InOperand, InSelector, InCallee, InArguments, InLiteralType, InElements, InStructType, InStructElements, RespellsArgs, InArgument, InLaterArguments}
+use Rattle.go_snap_core.specs.expr_core.Independence.{len}
 use Rattle.go_spelling_core.proofs.Splits.{len_app, Split, here, in_left, in_right}
 use Rattle.go_tree_nodes.specs.Idents.{type_name_idents, type_idents, fields_idents, methods_idents, signature_type_idents, result_type_idents, params_idents}
 

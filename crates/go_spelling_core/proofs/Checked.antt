@@ -5,10 +5,10 @@ use Rattle.go_tree_nodes.specs.Trees.{FuncTree}
 use Rattle.go_local_core.specs.Outline.{func_steps, func_opens, func_closes}
 use Rattle.go_local_core.specs.Steps.{Steps, Done, Check, Declare, Inner}
 use Rattle.go_local_core.specs.mirrors.Walk.{Names, look_in, with_names, news, names_of, walk_out}
-use Rattle.go_denote_core.specs.term_core.Terms.{Term, Sign}
+use Rattle.go_term_core.specs.Terms.{Term, Sign}
 use Rattle.go_snap_core.specs.handle_core.Declarations.{Declaration}
-use Rattle.go_piece_core.specs.Headers.{returned_types, returned_names}
-use Rattle.go_piece_core.specs.Pieces.{piece_uses, piece_values}
+use Rattle.go_snap_core.specs.piece_core.Headers.{returned_types, returned_names}
+use Rattle.go_snap_core.specs.piece_core.Pieces.{piece_uses, piece_values}
 use Rattle.go_snap_core.specs.env_core.declared.meaning.Meaning.{Meaning}
 use Rattle.go_snap_core.specs.body_core.Notes.{NoteOf, all_uses}
 use Rattle.go_snap_core.specs.body_core.Rules.{local_at}

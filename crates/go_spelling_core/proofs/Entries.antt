@@ -3,12 +3,12 @@ use Rattle.std.proofs.Common.{◌≡◌, ◌⊎◌, ℕ, inl, inr, List, [], ◌
 use Rattle.std.specs.List.{flat_map, enumerate_from}
 use Rattle.go_tree_nodes.specs.declared.names.Ident.{Ident}
 use Rattle.go_tree_nodes.specs.Trees.{ValueSpecTree, FuncTree, Lines, FileTree}
-use Rattle.go_decl_core.specs.declared.places.Place.{Place}
-use Rattle.go_decl_core.specs.TopDecls.{TopDeclTree, FormTree, FuncForm}
-use Rattle.go_type_core.specs.table_core.Entries.{Entry, find_entry}
+use Rattle.go_term_core.specs.decl_core.declared.places.Place.{Place}
+use Rattle.go_term_core.specs.decl_core.TopDecls.{TopDeclTree, FormTree, FuncForm}
+use Rattle.go_snap_core.specs.table_core.Entries.{Entry, find_entry}
 use Rattle.go_snap_core.specs.fault_core.declared.places.PackageFault.{PackageFault}
-use Rattle.go_type_core.specs.Built.{IsBuilt}
-use Rattle.go_type_core.proofs.Meanings.{one_settled}
+use Rattle.go_snap_core.specs.type_core.Built.{IsBuilt}
+use Rattle.go_snap_core.specs.type_core.Meanings.{one_settled}
 use Rattle.go_snap_core.specs.written_core.Written.{InFile}
 use Rattle.go_snap_core.specs.entry_core.Entries.{Received, Meanings, file_at, decl_methods, package_methods, entry_of, entries_with, package_meanings}
 use Rattle.go_snap_core.specs.entry_core.Outlines.{FileOutline}

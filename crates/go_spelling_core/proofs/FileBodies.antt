@@ -4,12 +4,12 @@ use Rattle.std.specs.Prelude.{⊤, Option, Some}
 use Rattle.std.specs.List.{flat_map, enumerate_from}
 use Rattle.go_tree_nodes.specs.declared.names.Ident.{Ident}
 use Rattle.go_tree_nodes.specs.Trees.{FuncTree, Lines, TopTree, FileTree}
-use Rattle.go_decl_core.specs.declared.places.Place.{Place}
-use Rattle.go_decl_core.specs.Outer.{decl_outers, tops_outers, places_of, place_of}
-use Rattle.go_decl_core.specs.TopDecls.{TopDeclTree, FormTree, FuncForm, kind_of_form, decl_decls, tops_decls}
+use Rattle.go_term_core.specs.decl_core.declared.places.Place.{Place}
+use Rattle.go_term_core.specs.decl_core.Outer.{decl_outers, tops_outers, places_of, place_of}
+use Rattle.go_term_core.specs.decl_core.TopDecls.{TopDeclTree, FormTree, FuncForm, kind_of_form, decl_decls, tops_decls}
 use Rattle.go_snap_core.specs.block_core.Blocks.{BlocksModel}
-use Rattle.go_type_core.specs.table_core.Entries.{Entry}
-use Rattle.go_denote_core.specs.term_core.Terms.{Term, Sign}
+use Rattle.go_snap_core.specs.table_core.Entries.{Entry}
+use Rattle.go_term_core.specs.Terms.{Term, Sign}
 use Rattle.go_snap_core.specs.entry_core.Meanings.{Shows, file_meaning}
 use Rattle.go_snap_core.specs.written_core.Written.{InFile}
 use Rattle.go_snap_core.specs.entry_core.Outlines.{FileOutline, outline_of}

@@ -6,8 +6,8 @@ use Rattle.go_text_core.specs.declared.span.Span.{Span}
 use Rattle.go_tree_nodes.specs.declared.names.Ident.{Ident}
 use Rattle.go_tree_nodes.specs.declared.decls.ValueKind.{ValueKind}
 use Rattle.go_tree_nodes.specs.Trees.{Separated, One, Then, ValueSpecTree, Specs, TopTree, FileTree, of_specs}
-use Rattle.go_decl_core.specs.Outer.{value_spec_outers, decl_outers}
-use Rattle.go_decl_core.specs.TopDecls.{TopDeclTree, ValueForm, numbered, named_decls, value_spec_decls, specs_decls, decl_decls, tops_decls}
+use Rattle.go_term_core.specs.decl_core.Outer.{value_spec_outers, decl_outers}
+use Rattle.go_term_core.specs.decl_core.TopDecls.{TopDeclTree, ValueForm, numbered, named_decls, value_spec_decls, specs_decls, decl_decls, tops_decls}
 use Rattle.go_snap_core.specs.entry_core.Outlines.{FileOutline, outline_of}
 use Rattle.go_snap_core.specs.face_core.Laws.{FileDecl, file_decl, package_decls}
 use Rattle.go_spelling_core.specs.Trees.{RespellsValues, InValues}

@@ -5,11 +5,11 @@ use Rattle.std.specs.List.{flat_map}
 use Rattle.go_text_core.specs.declared.span.Span.{Span}
 use Rattle.go_tree_nodes.specs.declared.names.Ident.{Ident}
 use Rattle.go_tree_nodes.specs.Trees.{ValueSpecTree, Specs, FuncTree, Lines, TopTree, of_specs}
-use Rattle.go_denote_core.specs.term_core.Terms.{Term, Sign}
+use Rattle.go_term_core.specs.Terms.{Term, Sign}
 use Rattle.go_snap_core.specs.handle_core.Declarations.{Declaration}
 use Rattle.go_snap_core.specs.env_core.Looks.{TheLooks}
 use Rattle.go_snap_core.specs.body_core.Notes.{TheUse}
-use Rattle.go_piece_core.specs.Specifications.{spec_uses}
+use Rattle.go_snap_core.specs.piece_core.Specifications.{spec_uses}
 use Rattle.go_snap_core.specs.func_core.Stands.{FileStand, outer_looks}
 use Rattle.go_snap_core.specs.func_core.Functions.{checked_func}
 use Rattle.go_snap_core.specs.file_core.Files.{decl_uses, tops_uses}

@@ -6,17 +6,17 @@ use Rattle.go_text_core.specs.declared.span.Span.{Span}
 use Rattle.go_tree_nodes.specs.declared.names.Ident.{Ident}
 use Rattle.go_tree_nodes.specs.declared.decls.ValueKind.{ValueKind}
 use Rattle.go_tree_nodes.specs.Trees.{Separated, TypeTree, ExprTree, ValueSpecTree}
-use Rattle.go_denote_core.specs.declared.things.Stand.TheVariants as stands
-use Rattle.go_denote_core.specs.declared.things.Denoted.{Denoted}
-use Rattle.go_denote_core.specs.declared.things.Denoted.TheVariants as denotes
-use Rattle.go_denote_core.specs.Arguments.{argument_of, arguments_of}
-use Rattle.go_expr_core.specs.Looks.{Looks, look_of_place}
-use Rattle.go_expr_core.specs.Places.{start}
-use Rattle.go_expr_core.specs.Denoting.{denoted}
-use Rattle.go_expr_core.specs.Lists.{exprs_uses}
-use Rattle.go_expr_core.specs.Uses.{use_of, uses, spots}
-use Rattle.go_expr_core.specs.Respelling.{Respells}
-use Rattle.go_expr_core.proofs.Independence.{map_len}
+use Rattle.go_snap_core.specs.denote_core.declared.things.Stand.TheVariants as stands
+use Rattle.go_snap_core.specs.denote_core.declared.things.Denoted.{Denoted}
+use Rattle.go_snap_core.specs.denote_core.declared.things.Denoted.TheVariants as denotes
+use Rattle.go_snap_core.specs.denote_core.Arguments.{argument_of, arguments_of}
+use Rattle.go_snap_core.specs.expr_core.Looks.{Looks, look_of_place}
+use Rattle.go_snap_core.specs.expr_core.Places.{start}
+use Rattle.go_snap_core.specs.expr_core.Denoting.{denoted}
+use Rattle.go_snap_core.specs.expr_core.Lists.{exprs_uses}
+use Rattle.go_snap_core.specs.expr_core.Uses.{use_of, uses, spots}
+use Rattle.go_snap_core.specs.expr_core.Respelling.{Respells}
+use Rattle.go_snap_core.specs.expr_core.Independence.{map_len}
 use Rattle.go_snap_core.specs.value_core.Initial.{spec_name_count, some_written_type, initial, exprs, expr_in, expr_of}
 use Rattle.go_snap_core.specs.value_core.mirrors.Own.{one_of, is_one, given_by, own_argument, value_from}
 use Rattle.go_snap_core.specs.value_core.Owning.{initial_is, initial_past}

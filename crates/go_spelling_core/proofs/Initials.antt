@@ -4,17 +4,17 @@ use Rattle.std.specs.Prelude.{Option}
 use Rattle.go_tree_nodes.specs.declared.names.Ident.{Ident}
 use Rattle.go_tree_nodes.specs.declared.decls.ValueKind.{ValueKind}
 use Rattle.go_tree_nodes.specs.Trees.{TypeTree, ValueSpecTree, TopTree, FileTree}
-use Rattle.go_decl_core.specs.declared.places.Place.{Place}
-use Rattle.go_decl_core.specs.Outer.{places_of, kind_of_value}
-use Rattle.go_decl_core.specs.TopDecls.{FormTree, ValueForm, TypeForm, FuncForm, TopDeclTree, kind_of_form}
+use Rattle.go_term_core.specs.decl_core.declared.places.Place.{Place}
+use Rattle.go_term_core.specs.decl_core.Outer.{places_of, kind_of_value}
+use Rattle.go_term_core.specs.decl_core.TopDecls.{FormTree, ValueForm, TypeForm, FuncForm, TopDeclTree, kind_of_form}
 use Rattle.go_snap_core.specs.block_core.Blocks.{BlocksModel}
-use Rattle.go_type_core.specs.table_core.Entries.{Entry}
-use Rattle.go_denote_core.specs.term_core.Terms.{Term, Sign}
+use Rattle.go_snap_core.specs.table_core.Entries.{Entry}
+use Rattle.go_term_core.specs.Terms.{Term, Sign}
 use Rattle.go_snap_core.specs.written_core.Written.{InFile}
 use Rattle.go_snap_core.specs.entry_core.Outlines.{outline_of}
 use Rattle.go_snap_core.specs.entry_core.Meanings.{Shows, file_meaning}
 use Rattle.go_snap_core.specs.handle_core.Declarations.{Declaration}
-use Rattle.go_expr_core.specs.Looks.{WrittenRules}
+use Rattle.go_snap_core.specs.expr_core.Looks.{WrittenRules}
 use Rattle.go_snap_core.specs.face_core.Faces.{TheFace}
 use Rattle.go_snap_core.specs.face_core.Laws.{FileDecl, written_there}
 use Rattle.go_snap_core.specs.face_core.Written.{WrittenOf, form_as_written, value_as_written, package_written}
@@ -22,7 +22,7 @@ use Rattle.go_snap_core.specs.face_core.Places.{positions_are_exact}
 use Rattle.go_snap_core.specs.env_core.Scenes.{SceneModel}
 use Rattle.go_snap_core.specs.env_core.Looks.{TheLooks}
 use Rattle.go_needs_core.specs.Needs.{AreValues, known_in}
-use Rattle.go_piece_core.specs.Specifications.{spec_uses}
+use Rattle.go_snap_core.specs.piece_core.Specifications.{spec_uses}
 use Rattle.go_snap_core.specs.value_core.Laws.{FormsAlike}
 use Rattle.go_snap_core.specs.func_core.Stands.{FileStand, types_where, outer_look, outer_looks}
 use Rattle.go_snap_core.specs.ready_core.Packages.{PackageIn, outlines_in, scene_in, stand_in}

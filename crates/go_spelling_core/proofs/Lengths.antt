@@ -7,20 +7,20 @@ use Rattle.go_tree_nodes.specs.declared.names.Ident.{Ident}
 use Rattle.go_tree_nodes.specs.declared.files.Receiver.{Receiver}
 use Rattle.go_tree_nodes.specs.declared.decls.ValueKind.TheVariants as kinds
 use Rattle.go_tree_nodes.specs.Trees.{Separated, One, Then, TypeTree, ExprTree, ValueSpecTree, TypeSpecTree, Specs, Single, Group, SimpleTree, Alone, Step, Assign, Update, Define, FuncTree, DeclTree, Value, Types, Func, of_specs}
-use Rattle.go_piece_core.specs.walk_core.Ends.{is_blank_target}
+use Rattle.go_walk_core.specs.Ends.{is_blank_target}
 use Rattle.go_local_core.specs.Binding.{NameLook}
 use Rattle.go_local_core.specs.Outline.{func_steps, func_opens, func_closes}
 use Rattle.go_local_core.specs.Steps.{Piece, Header, Spec, Act, Condition, Given, Steps, Done, Check, Declare, Inner}
 use Rattle.go_local_core.specs.mirrors.Walk.{Names, look_in, with_names, news, names_of, walk_out}
-use Rattle.go_denote_core.specs.operand_core.declared.types.Operand.{Operand}
-use Rattle.go_denote_core.specs.declared.things.Stand.TheVariants as stands
-use Rattle.go_expr_core.specs.Looks.{Looks}
-use Rattle.go_expr_core.specs.TypeUses.{type_uses}
-use Rattle.go_expr_core.specs.Uses.{Spot, use_of, spots, type_name_spots, type_spots, signature_spots}
-use Rattle.go_expr_core.proofs.Independence.{len, map_len}
-use Rattle.go_piece_core.specs.Headers.{receiver_uses}
-use Rattle.go_piece_core.specs.Pieces.{piece_values}
-use Rattle.go_piece_core.specs.Specifications.{spec_uses}
+use Rattle.go_snap_core.specs.operand_core.declared.types.Operand.{Operand}
+use Rattle.go_snap_core.specs.denote_core.declared.things.Stand.TheVariants as stands
+use Rattle.go_snap_core.specs.expr_core.Looks.{Looks}
+use Rattle.go_snap_core.specs.expr_core.TypeUses.{type_uses}
+use Rattle.go_snap_core.specs.expr_core.Uses.{Spot, use_of, spots, type_name_spots, type_spots, signature_spots}
+use Rattle.go_snap_core.specs.expr_core.Independence.{len, map_len}
+use Rattle.go_snap_core.specs.piece_core.Headers.{receiver_uses}
+use Rattle.go_snap_core.specs.piece_core.Pieces.{piece_values}
+use Rattle.go_snap_core.specs.piece_core.Specifications.{spec_uses}
 use Rattle.go_snap_core.specs.func_core.Stands.{FileStand, looks_where, outer_meanings, outer_looks}
 use Rattle.go_snap_core.specs.body_core.Rules.{local_at}
 use Rattle.go_snap_core.specs.func_core.Functions.{checked_func}

@@ -5,10 +5,10 @@ use Rattle.go_tree_nodes.specs.declared.decls.ValueKind.{ValueKind}
 use Rattle.go_tree_nodes.specs.declared.decls.ValueKind.TheVariants as kinds
 use Rattle.go_tree_nodes.specs.declared.names.Ident.{Ident}
 use Rattle.go_tree_nodes.specs.Trees.{TypeTree, ValueSpecTree}
-use Rattle.go_decl_core.specs.TopDecls.{FormTree, ValueForm, TypeForm, FuncForm}
-use Rattle.go_denote_core.specs.term_core.Terms.{Term}
-use Rattle.go_expr_core.specs.Looks.{WrittenRules}
-use Rattle.go_expr_core.specs.Laws.{LooksAtNames}
+use Rattle.go_term_core.specs.decl_core.TopDecls.{FormTree, ValueForm, TypeForm, FuncForm}
+use Rattle.go_term_core.specs.Terms.{Term}
+use Rattle.go_snap_core.specs.expr_core.Looks.{WrittenRules}
+use Rattle.go_snap_core.specs.expr_core.Laws.{LooksAtNames}
 use Rattle.go_snap_core.specs.face_core.declared.face.Face.TheVariants as faces
 use Rattle.go_snap_core.specs.face_core.Faces.{TheFace}
 use Rattle.go_snap_core.specs.face_core.Written.{written_at}

@@ -7,16 +7,16 @@ use Rattle.go_text_core.specs.declared.span.Span.{Span}
 use Rattle.go_tree_nodes.specs.declared.names.Ident.{Ident}
 use Rattle.go_tree_nodes.specs.declared.decls.ValueKind.TheVariants as kinds
 use Rattle.go_tree_nodes.specs.Trees.{Specs, Single, Group, DeclTree, Value, Types, Func, FuncTree, TopTree, of_specs}
-use Rattle.go_denote_core.specs.term_core.Terms.{Term}
+use Rattle.go_term_core.specs.Terms.{Term}
 use Rattle.go_local_core.specs.Binding.{NameLook}
 use Rattle.go_local_core.specs.Outline.{func_steps, func_opens, func_closes}
 use Rattle.go_local_core.specs.Steps.{Piece, Spec, Steps, Done, Check, Declare, Inner}
 use Rattle.go_local_core.specs.mirrors.Walk.{Names, look_in, with_names, news, names_of, walk_out}
-use Rattle.go_expr_core.specs.TypeUses.{type_uses}
-use Rattle.go_expr_core.specs.Uses.{use_of, type_spots}
-use Rattle.go_piece_core.specs.Headers.{returned_types, returned_names}
-use Rattle.go_piece_core.specs.Pieces.{piece_uses, piece_values}
-use Rattle.go_piece_core.specs.Specifications.{spec_uses}
+use Rattle.go_snap_core.specs.expr_core.TypeUses.{type_uses}
+use Rattle.go_snap_core.specs.expr_core.Uses.{use_of, type_spots}
+use Rattle.go_snap_core.specs.piece_core.Headers.{returned_types, returned_names}
+use Rattle.go_snap_core.specs.piece_core.Pieces.{piece_uses, piece_values}
+use Rattle.go_snap_core.specs.piece_core.Specifications.{spec_uses}
 use Rattle.go_snap_core.specs.env_core.declared.meaning.Meaning.{Meaning}
 use Rattle.go_snap_core.specs.body_core.Notes.{NoteOf, all_uses}
 use Rattle.go_snap_core.specs.body_core.Rules.{local_at}

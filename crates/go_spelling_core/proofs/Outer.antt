@@ -9,16 +9,16 @@ use Rattle.go_tree_nodes.specs.declared.types.TypeName.{TypeName}
 use Rattle.go_tree_nodes.specs.Trees.{TypeTree, SignatureTree, TypeSpecTree, Specs, FuncTree, DeclTree, TopTree, of_specs}
 use Rattle.go_local_core.specs.Outline.{header_idents, lines_steps, func_opens, func_closes}
 use Rattle.go_local_core.specs.Steps.{Header, Done}
-use Rattle.go_denote_core.specs.term_core.Terms.{Term, Sign}
+use Rattle.go_term_core.specs.Terms.{Term, Sign}
 use Rattle.go_snap_core.specs.handle_core.Declarations.{Declaration}
-use Rattle.go_expr_core.specs.Respelling.{RespellsName, RespellsType, RespellsSignature}
-use Rattle.go_expr_core.specs.TypeUses.{type_uses, signature_uses}
-use Rattle.go_expr_core.specs.Uses.{type_name_spots, type_name_uses, type_spots, signature_spots}
+use Rattle.go_snap_core.specs.expr_core.Respelling.{RespellsName, RespellsType, RespellsSignature}
+use Rattle.go_snap_core.specs.expr_core.TypeUses.{type_uses, signature_uses}
+use Rattle.go_snap_core.specs.expr_core.Uses.{type_name_spots, type_name_uses, type_spots, signature_spots}
 use Rattle.go_snap_core.specs.env_core.Looks.{TheLooks}
 use Rattle.go_snap_core.specs.body_core.Notes.{TheUse}
 use Rattle.go_snap_core.specs.body_core.Rules.{local_at}
-use Rattle.go_piece_core.specs.Headers.{receiver_uses, header_uses}
-use Rattle.go_piece_core.specs.Specifications.{values_uses}
+use Rattle.go_snap_core.specs.piece_core.Headers.{receiver_uses, header_uses}
+use Rattle.go_snap_core.specs.piece_core.Specifications.{values_uses}
 use Rattle.go_snap_core.specs.func_core.Stands.{FileStand, types_where, outer_look, outer_looks, looks_where, outer_meanings}
 use Rattle.go_snap_core.specs.func_core.Functions.{checked_func}
 use Rattle.go_snap_core.specs.file_core.Files.{decl_uses, tops_uses}

@@ -7,22 +7,22 @@ use Rattle.go_tree_nodes.specs.declared.names.Ident.{Ident}
 use Rattle.go_tree_nodes.specs.declared.files.Receiver.{Receiver}
 use Rattle.go_tree_nodes.specs.declared.types.TypeName.{TypeName}
 use Rattle.go_tree_nodes.specs.Trees.{Separated, One, Then, TypeTree, SignatureTree, ExprTree, ValueSpecTree, SimpleTree, Alone, Step, Assign, Update, Define}
-use Rattle.go_piece_core.specs.walk_core.Ends.{is_blank_target}
+use Rattle.go_walk_core.specs.Ends.{is_blank_target}
 use Rattle.go_local_core.specs.Steps.{Piece, Header, Spec, Act, Condition, Given}
-use Rattle.go_denote_core.specs.declared.things.Stand.TheVariants as stands
-use Rattle.go_expr_core.specs.declared.things.Use.{Use}
-use Rattle.go_expr_core.specs.Looks.{Looks}
-use Rattle.go_expr_core.specs.Lists.{exprs_uses}
-use Rattle.go_expr_core.specs.Respelling.{Respells, RespellsName, RespellsType, RespellsSignature}
-use Rattle.go_expr_core.specs.TypeUses.{type_uses, signature_uses}
-use Rattle.go_expr_core.specs.Uses.{Spot, use_of, uses, spots, type_name_spots, type_name_uses, type_spots, signature_spots}
-use Rattle.go_expr_core.proofs.Independence.{len, map_len, own_name}
-use Rattle.go_piece_core.specs.Headers.{receiver_uses}
-use Rattle.go_piece_core.specs.Pieces.{piece_uses}
-use Rattle.go_piece_core.specs.Specifications.{spec_uses, values_uses}
-use Rattle.go_piece_core.specs.Statements.{simple_uses, returned_uses}
-use Rattle.go_piece_core.specs.Targets.{target_uses, targets_uses}
-use Rattle.go_piece_core.specs.Types.{some_type_uses}
+use Rattle.go_snap_core.specs.denote_core.declared.things.Stand.TheVariants as stands
+use Rattle.go_snap_core.specs.expr_core.declared.things.Use.{Use}
+use Rattle.go_snap_core.specs.expr_core.Looks.{Looks}
+use Rattle.go_snap_core.specs.expr_core.Lists.{exprs_uses}
+use Rattle.go_snap_core.specs.expr_core.Respelling.{Respells, RespellsName, RespellsType, RespellsSignature}
+use Rattle.go_snap_core.specs.expr_core.TypeUses.{type_uses, signature_uses}
+use Rattle.go_snap_core.specs.expr_core.Uses.{Spot, use_of, uses, spots, type_name_spots, type_name_uses, type_spots, signature_spots}
+use Rattle.go_snap_core.specs.expr_core.Independence.{len, map_len, own_name}
+use Rattle.go_snap_core.specs.piece_core.Headers.{receiver_uses}
+use Rattle.go_snap_core.specs.piece_core.Pieces.{piece_uses}
+use Rattle.go_snap_core.specs.piece_core.Specifications.{spec_uses, values_uses}
+use Rattle.go_snap_core.specs.piece_core.Statements.{simple_uses, returned_uses}
+use Rattle.go_snap_core.specs.piece_core.Targets.{target_uses, targets_uses}
+use Rattle.go_snap_core.specs.piece_core.Types.{some_type_uses}
 use Rattle.go_spelling_core.specs.Contexts.{ContextStays}
 use Rattle.go_spelling_core.specs.PieceContexts.{PieceContextsStay}
 use Rattle.go_spelling_core.specs.PieceSpots.{exprs_spots, some_type_spots, values_spots, spec_spots, target_spots, targets_spots, simple_spots, receiver_spots, given_spots, piece_spots}

@@ -8,9 +8,9 @@ use Rattle.go_tree_nodes.specs.declared.names.Ident.{Ident}
 use Rattle.go_tree_nodes.specs.declared.decls.ValueKind.{ValueKind}
 use Rattle.go_tree_nodes.specs.declared.types.TypeName.{TypeName}
 use Rattle.go_tree_nodes.specs.Trees.{Separated, TypeTree, FieldTrees, MethodTrees, SignatureTree, ResultTree, ParamTrees, ExprTree, ItemTrees, ValueSpecTree, Specs, TopTree, of_specs}
-use Rattle.go_decl_core.specs.declared.places.DeclKind.TheVariants as kinds
-use Rattle.go_decl_core.specs.Outer.{Outer, Whole, Part, Embedded, outer, idents_outers, last_ident, names_outers, type_outers, fields_outers, methods_outers, signature_outers, result_outers, params_outers, expr_outers, items_outers, exprs_outers, some_type_outers, kind_of_value, value_spec_outers, decl_outers, tops_outers, place_of}
-use Rattle.go_expr_core.specs.Respelling.{RespellsName, InPlain, InQualifier, BehindDot, RespellsType, InNamedType, InPointer, InParenType, InStruct, InInterface, RespellsFields, InFieldType, InLaterFields, InEmbedded, BehindEmbedded, RespellsMethods, InMethod, InLaterMethods, RespellsSignature, InParams, InResult, RespellsResult, InOneResult, InResults, RespellsParams, InParam, InLaterParams, Respells, InName, InParen, InUnary, InLeft, InRight, InOperand, InSelector, InCallee, InArguments, InLiteralType, InElements, InStructType, InStructElements, RespellsArgs, InArgument, InLaterArguments, RespellsItems, InKey, InElement, InLaterElements}
+use Rattle.go_term_core.specs.decl_core.declared.places.DeclKind.TheVariants as kinds
+use Rattle.go_term_core.specs.decl_core.Outer.{Outer, Whole, Part, Embedded, outer, idents_outers, last_ident, names_outers, type_outers, fields_outers, methods_outers, signature_outers, result_outers, params_outers, expr_outers, items_outers, exprs_outers, some_type_outers, kind_of_value, value_spec_outers, decl_outers, tops_outers, place_of}
+use Rattle.go_snap_core.specs.expr_core.Respelling.{RespellsName, InPlain, InQualifier, BehindDot, RespellsType, InNamedType, InPointer, InParenType, InStruct, InInterface, RespellsFields, InFieldType, InLaterFields, InEmbedded, BehindEmbedded, RespellsMethods, InMethod, InLaterMethods, RespellsSignature, InParams, InResult, RespellsResult, InOneResult, InResults, RespellsParams, InParam, InLaterParams, Respells, InName, InParen, InUnary, InLeft, InRight, InOperand, InSelector, InCallee, InArguments, InLiteralType, InElements, InStructType, InStructElements, RespellsArgs, InArgument, InLaterArguments, RespellsItems, InKey, InElement, InLaterElements}
 use Rattle.go_spelling_core.specs.Trees.{RespellsExprs, InOnly, InFirst, InLater, RespellsValues, InValues}
 use Rattle.go_spelling_core.specs.Files.{WritesInGroup, AtFirst, AtLater, WritesInSpecs, InTheOnly, InTheGroup, WritesInTops, InTop, InLaterTops}
 

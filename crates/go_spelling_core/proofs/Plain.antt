@@ -3,22 +3,22 @@ use Rattle.std.proofs.Common.{◌≡◌, ◌↔◌, ℕ, zero, suc, Bool, List, 
 use Rattle.std.specs.Prelude.{Option, Some, None}
 use Rattle.go_text_core.specs.Text.{is_blank}
 use Rattle.go_tree_nodes.specs.declared.usage.Usage.{Usage}
-use Rattle.go_denote_core.specs.declared.things.Dot.{Dot}
-use Rattle.go_denote_core.specs.declared.things.Dot.TheVariants as dots
-use Rattle.go_denote_core.specs.declared.things.Found.{Found}
-use Rattle.go_denote_core.specs.Answers.{refused}
-use Rattle.go_denote_core.specs.Selectors.{value_selector}
-use Rattle.go_denote_core.specs.operand_core.Values.{default_type}
+use Rattle.go_snap_core.specs.denote_core.declared.things.Dot.{Dot}
+use Rattle.go_snap_core.specs.denote_core.declared.things.Dot.TheVariants as dots
+use Rattle.go_snap_core.specs.denote_core.declared.things.Found.{Found}
+use Rattle.go_snap_core.specs.denote_core.Answers.{refused}
+use Rattle.go_snap_core.specs.denote_core.Selectors.{value_selector}
+use Rattle.go_snap_core.specs.operand_core.Values.{default_type}
 use Rattle.go_text_core.specs.declared.rule.Rule.TheVariants.{S8, F1, F5, F8}
-use Rattle.go_literal_core.specs.declared.things.NamedField.{NamedField}
-use Rattle.go_literal_core.specs.declared.things.NamedField.TheVariants as nameds
-use Rattle.go_literal_core.specs.Fields.{named_field}
-use Rattle.go_literal_core.specs.Keys.{KeyContext, key_answer, found_key, refused_key}
-use Rattle.go_literal_core.specs.Literals.{is_struct}
-use Rattle.go_literal_core.specs.Repeats.{has_name}
-use Rattle.go_expr_core.specs.Looks.{Looks, look_of_place, literals_at}
-use Rattle.go_expr_core.specs.Laws.{finding}
-use Rattle.go_expr_core.specs.Uses.{SelectorBehind, KeyAmong, rule}
+use Rattle.go_snap_core.specs.literal_core.declared.things.NamedField.{NamedField}
+use Rattle.go_snap_core.specs.literal_core.declared.things.NamedField.TheVariants as nameds
+use Rattle.go_snap_core.specs.literal_core.Fields.{named_field}
+use Rattle.go_snap_core.specs.literal_core.Keys.{KeyContext, key_answer, found_key, refused_key}
+use Rattle.go_snap_core.specs.literal_core.Literals.{is_struct}
+use Rattle.go_snap_core.specs.literal_core.Repeats.{has_name}
+use Rattle.go_snap_core.specs.expr_core.Looks.{Looks, look_of_place, literals_at}
+use Rattle.go_snap_core.specs.expr_core.Laws.{finding}
+use Rattle.go_snap_core.specs.expr_core.Uses.{SelectorBehind, KeyAmong, rule}
 use Rattle.go_snap_core.specs.face_core.Faces.{TheFace}
 use Rattle.go_snap_core.specs.env_core.Scenes.{SceneModel}
 use Rattle.go_needs_core.specs.Needs.{AreValues, known_in}

@@ -4,11 +4,11 @@ use Rattle.std.specs.Prelude.{Some, None, slice_get, is_some}
 use Rattle.std.proofs.lemmas.Bool.{both_ways}
 use Rattle.std.proofs.lemmas.List.{map-append}
 use Rattle.go_tree_nodes.specs.declared.names.Ident.{Ident}
-use Rattle.go_expr_core.specs.declared.things.Use.{Use}
-use Rattle.go_expr_core.specs.Looks.{Looks}
-use Rattle.go_expr_core.specs.Uses.{Context, Spot, Identifier, use_of}
-use Rattle.go_expr_core.specs.Respelling.{respelled}
-use Rattle.go_expr_core.proofs.Independence.{at_seam, len, len_both, map_len, plus}
+use Rattle.go_snap_core.specs.expr_core.declared.things.Use.{Use}
+use Rattle.go_snap_core.specs.expr_core.Looks.{Looks}
+use Rattle.go_snap_core.specs.expr_core.Uses.{Context, Spot, Identifier, use_of}
+use Rattle.go_snap_core.specs.expr_core.Respelling.{respelled}
+use Rattle.go_snap_core.specs.expr_core.Independence.{at_seam, len, len_both, map_len, plus}
 use Rattle.go_spelling_core.specs.Contexts.{ContextStays}
 
 pub len_app : {A B : Type 0} (xs ys : List A) (zs ws : List B) → len xs ≡ len zs → len ys ≡ len ws → len (xs ++ ys) ≡ len (zs ++ ws)

@@ -4,13 +4,13 @@ use Rattle.std.specs.Prelude.{Some, slice_get}
 use Rattle.std.specs.List.{enumerate_from}
 use Rattle.go_tree_nodes.specs.declared.names.Ident.{Ident}
 use Rattle.go_tree_nodes.specs.Trees.{ValueSpecTree, FuncTree, Lines, TopTree, FileTree}
-use Rattle.go_denote_core.specs.term_core.Terms.{Term, Sign}
+use Rattle.go_term_core.specs.Terms.{Term, Sign}
 use Rattle.go_snap_core.specs.package_core.Numbered.{numbered_at}
 use Rattle.go_snap_core.specs.entry_core.Outlines.{outline_of}
-use Rattle.go_type_core.specs.table_core.Entries.{Entry}
+use Rattle.go_snap_core.specs.table_core.Entries.{Entry}
 use Rattle.go_snap_core.specs.handle_core.Declarations.{Declaration}
 use Rattle.go_local_core.specs.Binding.{NameLook}
-use Rattle.go_expr_core.specs.Uses.{Context, Identifier, rule, role_of, made_use}
+use Rattle.go_snap_core.specs.expr_core.Uses.{Context, Identifier, rule, role_of, made_use}
 use Rattle.go_snap_core.specs.env_core.declared.meaning.Meaning.{Meaning}
 use Rattle.go_snap_core.specs.func_core.Stands.{FileStand, looks_where, outer_look, outer_looks}
 use Rattle.go_snap_core.specs.file_core.Files.{tops_uses}

@@ -9,7 +9,7 @@ use Rattle.go_tree_nodes.specs.Trees as tree
 use Rattle.go_tree_nodes.specs.Trees.{Separated, SignatureTree, ResultTree, ParamTrees, Signed, ExprTree, ValueSpecTree, Specs, Single, Group, SimpleTree, Alone, Step, Assign, Update, Define, IfTree, ForTree, Forever, While, Clauses, StmtTree, BranchTree, ElseTree, Lines, Empty, Simple, Return, Break, Continue, Block, If, For, Branch, NoElse, ElseBlock, ElseIf, NoLines, Line, FuncTree}
 use Rattle.go_local_core.specs.Steps.{Header, Condition, EachFirst, Steps, Done, Check, Declare}
 use Rattle.go_local_core.specs.Outline.{some_idents, param_idents, result_idents, signature_idents, receiver_idents, header_idents, spec_steps, group_steps, specs_steps, simple_steps, some_simple_steps, init_steps, some_condition_steps, if_steps, for_steps, stmt_steps, branch_steps, else_steps, lines_steps, func_steps}
-use Rattle.go_expr_core.specs.Respelling.{RespellsSignature, InParams, InResult, RespellsResult, InOneResult, InResults, RespellsParams, InParam, InLaterParams}
+use Rattle.go_snap_core.specs.expr_core.Respelling.{RespellsSignature, InParams, InResult, RespellsResult, InOneResult, InResults, RespellsParams, InParam, InLaterParams}
 use Rattle.go_spelling_core.specs.Trees.{InValues, RespellsSpec, InSomeValues, InSpecType, RespellsGroup, InFirstSpec, InLaterSpecs, RespellsSpecs, InSingle, InGroup, RespellsSimple, InAlone, InStep, InTargets, InAssigned, InUpdated, InUpdate, InDefined, InReceiver, InSignature, InSpec, InAct, InCondition, InGiven, RespellsSteps, AtCheck, AtDeclare, BehindCheck, BehindDeclare, InBlock, BehindBlock, RespellsInit, InInit, RespellsIf, InIfInit, InIfCondition, RespellsFor, InWhile, InForInit, InTest, InPost, RespellsStmt, InDeclare, InSimple, InReturn, InBraces, InIf, InForHead, InForBody, RespellsBranch, InHead, InThen, InElse, RespellsElse, InElseBlock, InElseIf, RespellsLines, InFirstLine, InLaterLines, RespellsFunc, InFuncReceiver, InFuncSignature, InFuncBody, with_base}
 
 module _ (x : Ident) (name : List ℕ) where

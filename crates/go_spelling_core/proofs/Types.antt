@@ -10,19 +10,19 @@ use Rattle.go_snap_core.specs.block_core.declared.binding.Binding.{Binding}
 use Rattle.go_snap_core.specs.block_core.declared.binding.Target.{Target}
 use Rattle.go_snap_core.specs.block_core.declared.binding.Target.TheVariants as targets
 use Rattle.go_snap_core.specs.block_core.Blocks.{file_binding}
-use Rattle.go_denote_core.specs.declared.things.Answer.{Answer}
-use Rattle.go_denote_core.specs.declared.things.Denoted.{Denoted}
-use Rattle.go_denote_core.specs.declared.things.Denoted.TheVariants as denotes
-use Rattle.go_denote_core.specs.declared.things.Stand.TheVariants as stands
-use Rattle.go_denote_core.specs.Answers.{refused, found_answer}
+use Rattle.go_snap_core.specs.denote_core.declared.things.Answer.{Answer}
+use Rattle.go_snap_core.specs.denote_core.declared.things.Denoted.{Denoted}
+use Rattle.go_snap_core.specs.denote_core.declared.things.Denoted.TheVariants as denotes
+use Rattle.go_snap_core.specs.denote_core.declared.things.Stand.TheVariants as stands
+use Rattle.go_snap_core.specs.denote_core.Answers.{refused, found_answer}
 use Rattle.go_snap_core.specs.handle_core.Declarations.{Declaration}
-use Rattle.go_denote_core.specs.term_core.Terms.{Term, Sign}
+use Rattle.go_term_core.specs.Terms.{Term, Sign}
 use Rattle.go_snap_core.specs.names_core.declared.meaning.Outside.TheVariants as outsides
-use Rattle.go_expr_core.specs.Looks.{WrittenRules}
-use Rattle.go_expr_core.specs.Denoting.{ident_answer}
-use Rattle.go_expr_core.specs.Respelling.{RespellsName, RespellsType, RespellsSignature}
-use Rattle.go_expr_core.specs.TypeUses.{type_uses, signature_uses}
-use Rattle.go_expr_core.specs.Uses.{Spot, use_of, type_name_spots, type_name_uses, type_spots, signature_spots}
+use Rattle.go_snap_core.specs.expr_core.Looks.{WrittenRules}
+use Rattle.go_snap_core.specs.expr_core.Denoting.{ident_answer}
+use Rattle.go_snap_core.specs.expr_core.Respelling.{RespellsName, RespellsType, RespellsSignature}
+use Rattle.go_snap_core.specs.expr_core.TypeUses.{type_uses, signature_uses}
+use Rattle.go_snap_core.specs.expr_core.Uses.{Spot, use_of, type_name_spots, type_name_uses, type_spots, signature_spots}
 use Rattle.go_snap_core.specs.face_core.declared.face.Face.TheVariants as faces
 use Rattle.go_snap_core.specs.face_core.Faces.{TheFace}
 use Rattle.go_snap_core.specs.env_core.declared.meaning.Meaning.{Meaning}

@@ -5,13 +5,13 @@ use Rattle.std.specs.Prelude.{Some, slice_get}
 use Rattle.std.proofs.lemmas.List.{map-append, length-map}
 use Rattle.go_tree_nodes.specs.declared.names.Ident.{Ident}
 use Rattle.go_tree_nodes.specs.Trees.{FuncTree, Lines, TopTree}
-use Rattle.go_denote_core.specs.term_core.Terms.{Term}
+use Rattle.go_term_core.specs.Terms.{Term}
 use Rattle.go_snap_core.specs.handle_core.Declarations.{Declaration}
 use Rattle.go_local_core.specs.Binding.{NameLook}
 use Rattle.go_local_core.specs.Outline.{func_steps, func_opens, func_closes}
 use Rattle.go_local_core.specs.Steps.{Piece, Steps}
 use Rattle.go_local_core.specs.mirrors.Walk.{Names}
-use Rattle.go_expr_core.specs.Uses.{Context, Identifier, rule, role_of, made_use}
+use Rattle.go_snap_core.specs.expr_core.Uses.{Context, Identifier, rule, role_of, made_use}
 use Rattle.go_snap_core.specs.env_core.declared.meaning.Meaning.{Meaning}
 use Rattle.go_snap_core.specs.func_core.Stands.{FileStand, looks_where}
 use Rattle.go_spelling_core.specs.PieceSpots.{piece_spots}

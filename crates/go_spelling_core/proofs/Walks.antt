@@ -6,12 +6,12 @@ use Rattle.go_local_core.specs.Binding.{NameLook}
 use Rattle.go_local_core.specs.Outline.{func_steps, func_opens, func_closes}
 use Rattle.go_local_core.specs.Steps.{Piece, Steps, Done, Check, Declare, Inner}
 use Rattle.go_local_core.specs.mirrors.Walk.{Names, look_in, with_names, news, names_of, walk_out}
-use Rattle.go_denote_core.specs.operand_core.declared.types.Operand.{Operand}
-use Rattle.go_expr_core.specs.declared.things.Use.{Use}
-use Rattle.go_expr_core.specs.Looks.{Looks}
-use Rattle.go_expr_core.specs.Uses.{Spot}
-use Rattle.go_expr_core.proofs.Independence.{len}
-use Rattle.go_piece_core.specs.Pieces.{piece_uses, piece_values}
+use Rattle.go_snap_core.specs.operand_core.declared.types.Operand.{Operand}
+use Rattle.go_snap_core.specs.expr_core.declared.things.Use.{Use}
+use Rattle.go_snap_core.specs.expr_core.Looks.{Looks}
+use Rattle.go_snap_core.specs.expr_core.Uses.{Spot}
+use Rattle.go_snap_core.specs.expr_core.Independence.{len}
+use Rattle.go_snap_core.specs.piece_core.Pieces.{piece_uses, piece_values}
 use Rattle.go_spelling_core.specs.Contexts.{ContextStays}
 use Rattle.go_spelling_core.specs.PieceContexts.{use_rules, spot_rules, names_there, FunctionContextsStay}
 use Rattle.go_spelling_core.specs.PieceSpots.{piece_spots}

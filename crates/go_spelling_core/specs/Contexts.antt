@@ -1,9 +1,9 @@
 -- What an identifier has under another spelling.
 use Rattle.std.specs.Prelude.{◌≡◌, ℕ, List, Some, slice_get}
 use Rattle.go_tree_nodes.specs.declared.names.Ident.{Ident}
-use Rattle.go_expr_core.specs.declared.things.Use.{Use}
-use Rattle.go_expr_core.specs.Looks.{Looks}
-use Rattle.go_expr_core.specs.Uses.{Context, Spot, Identifier, rule, role_of, made_use}
+use Rattle.go_snap_core.specs.expr_core.declared.things.Use.{Use}
+use Rattle.go_snap_core.specs.expr_core.Looks.{Looks}
+use Rattle.go_snap_core.specs.expr_core.Uses.{Context, Spot, Identifier, rule, role_of, made_use}
 
 -- The identifier stands in a context among what there was, and at the same number of what there is under its new spelling it has what this
 -- context's rule gives for that, by the look-ups that there are then.

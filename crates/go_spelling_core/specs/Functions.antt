@@ -7,9 +7,9 @@ use Rattle.go_tree_nodes.specs.Trees.{FuncTree}
 use Rattle.go_local_core.specs.Binding.{NameLook}
 use Rattle.go_local_core.specs.Outline.{func_steps}
 use Rattle.go_local_core.specs.Tables.{walked}
-use Rattle.go_denote_core.specs.term_core.Terms.{Term, Sign}
+use Rattle.go_term_core.specs.Terms.{Term, Sign}
 use Rattle.go_snap_core.specs.handle_core.Declarations.{Declaration}
-use Rattle.go_expr_core.specs.Uses.{Spot}
+use Rattle.go_snap_core.specs.expr_core.Uses.{Spot}
 use Rattle.go_snap_core.specs.env_core.declared.meaning.Meaning.{Meaning}
 use Rattle.go_snap_core.specs.body_core.Rules.{local_at}
 use Rattle.go_snap_core.specs.func_core.Stands.{FileStand, looks_where, outer_meanings}

@@ -5,12 +5,12 @@
 use Rattle.std.specs.Prelude.{◌≡◌, ⊤, ℕ, ◌+◌, List, [], ◌++◌, length, map, slice_get, Option, Some, None}
 use Rattle.go_tree_nodes.specs.declared.names.Ident.{Ident}
 use Rattle.go_tree_nodes.specs.Trees.{TopTree, FileTree}
-use Rattle.go_denote_core.specs.term_core.Terms.{Term}
+use Rattle.go_term_core.specs.Terms.{Term}
 use Rattle.go_snap_core.specs.block_core.Naming.{file_specs}
-use Rattle.go_type_core.specs.table_core.Entries.{Entry}
+use Rattle.go_snap_core.specs.table_core.Entries.{Entry}
 use Rattle.go_snap_core.specs.handle_core.Declarations.{Declaration}
 use Rattle.go_local_core.specs.Binding.{NameLook}
-use Rattle.go_expr_core.specs.Uses.{Context, Identifier, rule, role_of, made_use}
+use Rattle.go_snap_core.specs.expr_core.Uses.{Context, Identifier, rule, role_of, made_use}
 use Rattle.go_snap_core.specs.env_core.declared.meaning.Meaning.{Meaning}
 use Rattle.go_snap_core.specs.body_core.Notes.{TheUse}
 use Rattle.go_snap_core.specs.func_core.Stands.{FileStand, looks_where}

@@ -18,13 +18,13 @@ pub mod env_core
 pub mod file_core
 pub mod func_core
 pub mod handle_core
+pub mod literal_core
 pub mod names_core
 pub mod package_core
 pub mod part_core
 pub mod piece_core
 pub mod ready_core
 pub mod snap_core
-pub mod summary_core
 pub mod used_core
 pub mod value_core
 pub mod whole_core

@@ -8,9 +8,9 @@ use Rattle.go_tree_nodes.specs.declared.decls.ValueKind.{ValueKind}
 use Rattle.go_tree_nodes.specs.declared.files.Receiver.{Receiver}
 use Rattle.go_tree_nodes.specs.declared.types.TypeName.{TypeName}
 use Rattle.go_tree_nodes.specs.Trees.{Separated, TypeTree, SignatureTree, ExprTree, ValueSpecTree, TypeSpecTree, Specs, Single, Group, FuncTree, DeclTree, Value, Types, Func, TopTree}
-use Rattle.go_denote_core.specs.term_core.Terms.{Term, Sign}
+use Rattle.go_term_core.specs.Terms.{Term, Sign}
 use Rattle.go_snap_core.specs.handle_core.Declarations.{Declaration}
-use Rattle.go_expr_core.specs.Respelling.{RespellsName, RespellsType, RespellsSignature}
+use Rattle.go_snap_core.specs.expr_core.Respelling.{RespellsName, RespellsType, RespellsSignature}
 use Rattle.go_snap_core.specs.func_core.Stands.{FileStand, outer_looks}
 use Rattle.go_snap_core.specs.file_core.Files.{tops_uses}
 use Rattle.go_spelling_core.specs.Contexts.{ContextStays}

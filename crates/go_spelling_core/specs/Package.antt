@@ -7,9 +7,9 @@ use Rattle.std.specs.Prelude.{◌≡◌, ◌⊎◌, ⊤, ℕ, List, [], ◌∷�
 use Rattle.go_tree_nodes.specs.declared.decls.ValueKind.{ValueKind}
 use Rattle.go_tree_nodes.specs.declared.types.TypeName.{TypeName}
 use Rattle.go_tree_nodes.specs.Trees.{TypeTree, ValueSpecTree}
-use Rattle.go_decl_core.specs.TopDecls.{FormTree, ValueForm}
-use Rattle.go_denote_core.specs.term_core.Terms.{Term}
-use Rattle.go_expr_core.specs.Looks.{WrittenRules}
+use Rattle.go_term_core.specs.decl_core.TopDecls.{FormTree, ValueForm}
+use Rattle.go_term_core.specs.Terms.{Term}
+use Rattle.go_snap_core.specs.expr_core.Looks.{WrittenRules}
 use Rattle.go_snap_core.specs.face_core.Faces.{TheFace}
 use Rattle.go_snap_core.specs.face_core.Written.{written_at}
 use Rattle.go_snap_core.specs.env_core.Scenes.{SceneModel}

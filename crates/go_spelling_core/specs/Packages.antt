@@ -5,12 +5,12 @@
 use Rattle.std.specs.Prelude.{◌≡◌, ℕ, List, Option}
 use Rattle.go_tree_nodes.specs.declared.names.Ident.{Ident}
 use Rattle.go_tree_nodes.specs.Trees.{ValueSpecTree, FuncTree, Lines}
-use Rattle.go_type_core.specs.table_core.Entries.{Entry}
-use Rattle.go_denote_core.specs.term_core.Terms.{Term, Sign}
+use Rattle.go_snap_core.specs.table_core.Entries.{Entry}
+use Rattle.go_term_core.specs.Terms.{Term, Sign}
 use Rattle.go_snap_core.specs.handle_core.Declarations.{Declaration}
 use Rattle.go_snap_core.specs.entry_core.Outlines.{outline_of}
 use Rattle.go_snap_core.specs.face_core.Faces.{TheFace}
-use Rattle.go_piece_core.specs.Specifications.{spec_uses}
+use Rattle.go_snap_core.specs.piece_core.Specifications.{spec_uses}
 use Rattle.go_snap_core.specs.func_core.Stands.{outer_looks}
 use Rattle.go_snap_core.specs.ready_core.Packages.{PackageIn, stand_in}
 use Rattle.go_snap_core.specs.ready_core.Types.{AreTypes}

@@ -10,12 +10,12 @@ use Rattle.go_local_core.specs.Outline.{func_steps}
 use Rattle.go_local_core.specs.Steps.{Piece, Steps}
 use Rattle.go_local_core.specs.Tables.{walked}
 use Rattle.go_local_core.specs.mirrors.Walk.{Names, look_in, with_names, news, names_of}
-use Rattle.go_denote_core.specs.operand_core.declared.types.Operand.{Operand}
-use Rattle.go_expr_core.specs.declared.things.Use.{Use}
-use Rattle.go_expr_core.specs.Looks.{Looks}
-use Rattle.go_expr_core.specs.Uses.{Spot, use_of}
-use Rattle.go_piece_core.specs.Laws.{piece_rules}
-use Rattle.go_piece_core.specs.Pieces.{piece_uses, piece_values}
+use Rattle.go_snap_core.specs.operand_core.declared.types.Operand.{Operand}
+use Rattle.go_snap_core.specs.expr_core.declared.things.Use.{Use}
+use Rattle.go_snap_core.specs.expr_core.Looks.{Looks}
+use Rattle.go_snap_core.specs.expr_core.Uses.{Spot, use_of}
+use Rattle.go_snap_core.specs.piece_core.Laws.{piece_rules}
+use Rattle.go_snap_core.specs.piece_core.Pieces.{piece_uses, piece_values}
 use Rattle.go_spelling_core.specs.Contexts.{ContextStays}
 use Rattle.go_spelling_core.specs.PieceSpots.{piece_spots}
 use Rattle.go_spelling_core.specs.Trees.{RespellsPiece, RespellsSteps, AtCheck, AtDeclare, BehindCheck, BehindDeclare, InBlock, BehindBlock, RespellsFunc}

@@ -8,20 +8,20 @@ use Rattle.go_tree_nodes.specs.declared.types.TypeName.{TypeName}
 use Rattle.go_tree_nodes.specs.declared.usage.Usage.{Usage}
 use Rattle.go_tree_nodes.specs.Trees.{TypeTree, SignatureTree, ValueSpecTree}
 use Rattle.go_snap_core.specs.handle_core.Declarations.{Declaration}
-use Rattle.go_denote_core.specs.declared.things.Found.{Found}
-use Rattle.go_denote_core.specs.declared.things.Dot.{Dot}
-use Rattle.go_literal_core.specs.Keys.{KeyContext}
-use Rattle.go_denote_core.specs.term_core.Terms.{Term, Sign}
-use Rattle.go_expr_core.specs.Looks.{Looks, WrittenRules}
-use Rattle.go_expr_core.specs.Laws.{finding}
-use Rattle.go_expr_core.specs.Respelling.{RespellsName, RespellsType, RespellsSignature}
-use Rattle.go_expr_core.specs.TypeUses.{type_uses, signature_uses}
-use Rattle.go_expr_core.specs.Uses.{SelectorBehind, KeyAmong, rule, type_name_spots, type_name_uses, type_spots, signature_spots}
+use Rattle.go_snap_core.specs.denote_core.declared.things.Found.{Found}
+use Rattle.go_snap_core.specs.denote_core.declared.things.Dot.{Dot}
+use Rattle.go_snap_core.specs.literal_core.Keys.{KeyContext}
+use Rattle.go_term_core.specs.Terms.{Term, Sign}
+use Rattle.go_snap_core.specs.expr_core.Looks.{Looks, WrittenRules}
+use Rattle.go_snap_core.specs.expr_core.Laws.{finding}
+use Rattle.go_snap_core.specs.expr_core.Respelling.{RespellsName, RespellsType, RespellsSignature}
+use Rattle.go_snap_core.specs.expr_core.TypeUses.{type_uses, signature_uses}
+use Rattle.go_snap_core.specs.expr_core.Uses.{SelectorBehind, KeyAmong, rule, type_name_spots, type_name_uses, type_spots, signature_spots}
 use Rattle.go_snap_core.specs.face_core.Faces.{TheFace}
 use Rattle.go_snap_core.specs.env_core.Scenes.{SceneModel}
 use Rattle.go_snap_core.specs.value_core.Package.{PlacedOf}
 use Rattle.go_snap_core.specs.value_core.Laws.{AreFaces}
-use Rattle.go_piece_core.specs.Specifications.{spec_uses}
+use Rattle.go_snap_core.specs.piece_core.Specifications.{spec_uses}
 use Rattle.go_spelling_core.specs.Contexts.{ContextStays}
 use Rattle.go_spelling_core.specs.Package.{FileForm, AreFixed, AllFixed, AreFacesOf, AreWrittenAnew, file_looks, placed_form}
 use Rattle.go_spelling_core.specs.PieceSpots.{spec_spots}

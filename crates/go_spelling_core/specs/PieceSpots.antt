@@ -5,11 +5,11 @@ use Rattle.std.specs.Prelude.{List, [], ◌++◌, Option, Some, None, if◌then�
 use Rattle.go_text_core.specs.declared.span.Span.{Span}
 use Rattle.go_tree_nodes.specs.declared.files.Receiver.{Receiver}
 use Rattle.go_tree_nodes.specs.Trees.{Separated, One, Then, TypeTree, SignatureTree, ExprTree, ValueSpecTree, SimpleTree, Alone, Step, Assign, Update, Define}
-use Rattle.go_piece_core.specs.walk_core.Ends.{is_blank_target}
+use Rattle.go_walk_core.specs.Ends.{is_blank_target}
 use Rattle.go_local_core.specs.Steps.{Piece, Header, Spec, Act, Condition, Given}
-use Rattle.go_denote_core.specs.declared.things.Stand.TheVariants as stands
-use Rattle.go_expr_core.specs.Looks.{Looks}
-use Rattle.go_expr_core.specs.Uses.{Spot, spots, type_name_spots, type_spots, signature_spots}
+use Rattle.go_snap_core.specs.denote_core.declared.things.Stand.TheVariants as stands
+use Rattle.go_snap_core.specs.expr_core.Looks.{Looks}
+use Rattle.go_snap_core.specs.expr_core.Uses.{Spot, spots, type_name_spots, type_spots, signature_spots}
 
 abbrev pub exprs_spots : {T S D P : Type 0} → Looks T S D P → Separated ExprTree → List (Spot T D P)
 exprs_spots looks (One e) = spots looks stands.«Value» e

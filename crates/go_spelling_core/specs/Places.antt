@@ -9,8 +9,8 @@ use Rattle.go_local_core.specs.Binding.{NameLook}
 use Rattle.go_local_core.specs.Law.{Rules}
 use Rattle.go_local_core.specs.Steps.{Piece}
 use Rattle.go_local_core.specs.Tables.{walked}
-use Rattle.go_expr_core.specs.Uses.{use_of, type_spots}
-use Rattle.go_piece_core.specs.Pieces.{piece_values}
+use Rattle.go_snap_core.specs.expr_core.Uses.{use_of, type_spots}
+use Rattle.go_snap_core.specs.piece_core.Pieces.{piece_values}
 use Rattle.go_snap_core.specs.env_core.declared.meaning.Meaning.{Meaning}
 use Rattle.go_snap_core.specs.body_core.Notes.{TheUse}
 use Rattle.go_snap_core.specs.body_core.Rules.{local_at}

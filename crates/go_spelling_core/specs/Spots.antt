@@ -4,7 +4,7 @@
 use Rattle.std.specs.Prelude.{List}
 use Rattle.std.specs.List.{flat_map}
 use Rattle.go_tree_nodes.specs.Trees.{DeclTree, Value, Types, Func, TopTree, of_specs}
-use Rattle.go_expr_core.specs.Uses.{type_spots}
+use Rattle.go_snap_core.specs.expr_core.Uses.{type_spots}
 use Rattle.go_snap_core.specs.func_core.Stands.{FileStand, outer_looks}
 use Rattle.go_spelling_core.specs.PieceSpots.{spec_spots}
 use Rattle.go_spelling_core.specs.Functions.{TheSpot, func_spots}

@@ -11,9 +11,9 @@ use Rattle.go_tree_nodes.specs.declared.files.Receiver.{Receiver}
 use Rattle.go_tree_nodes.specs.declared.types.TypeName.{TypeName}
 use Rattle.go_tree_nodes.specs.Trees as tree
 use Rattle.go_tree_nodes.specs.Trees.{Separated, One, Then, TypeTree, SignatureTree, ExprTree, ValueSpecTree, Specs, Single, Group, SimpleTree, Alone, Step, Assign, Update, Define, IfTree, ForTree, While, Clauses, StmtTree, BranchTree, ElseTree, Lines, Simple, Return, Block, If, For, Branch, ElseBlock, ElseIf, Line, FuncTree}
-use Rattle.go_piece_core.specs.walk_core.Ends.{is_blank_target}
+use Rattle.go_walk_core.specs.Ends.{is_blank_target}
 use Rattle.go_local_core.specs.Steps.{Piece, Header, Spec, Act, Condition, Given, Newness, Steps, Check, Declare, Inner}
-use Rattle.go_expr_core.specs.Respelling.{Respells, RespellsName, RespellsType, RespellsSignature}
+use Rattle.go_snap_core.specs.expr_core.Respelling.{Respells, RespellsName, RespellsType, RespellsSignature}
 
 pub data RespellsExprs (x : Ident) (name : List ℕ) : Separated ExprTree → Separated ExprTree → Type 0 where
   InOnly : {e f : ExprTree} → Respells x name e f → RespellsExprs x name (One e) (One f)

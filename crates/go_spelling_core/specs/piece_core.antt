@@ -1,3 +1,2 @@
 -- What the crates above name of go_piece_core.
-pub use Rattle.go_piece_core.specs.Headers as Headers
-pub use Rattle.go_piece_core.specs.Pieces as Pieces
+pub use Rattle.go_snap_core.specs.piece_core.Pieces as Pieces

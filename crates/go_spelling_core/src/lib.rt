@@ -41,8 +41,3 @@ pub mod ready_core {
 pub mod snap_core {
     pub use go_snap_core::{FileIn, PlacedFault, Snapshot};
 }
-
-/// What the crates above name of `go_summary_core`.
-pub mod summary_core {
-    pub use go_snap_core::summary_core::view_of;
-}

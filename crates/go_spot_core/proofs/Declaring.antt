@@ -7,7 +7,7 @@ use Rattle.go_tree_nodes.specs.declared.names.Ident.{Ident}
 use Rattle.go_tree_nodes.specs.declared.names.NextIdent.{NextIdent}
 use Rattle.go_tree_nodes.specs.declared.types.«Param» as declared_param
 use Rattle.go_tree_nodes.specs.TypeShapes.{idents_from, shape_names, params_of}
-use Rattle.go_local_core.specs.Outline.{idents, some_idents, param_idents}
+use Rattle.go_walk_core.specs.local_core.Outline.{idents, some_idents, param_idents}
 use Rattle.go_spot_core.specs.declared.search.Search.{Search}
 use Rattle.go_spot_core.specs.mirrors.Searching.{Declares}
 use Rattle.go_spot_core.proofs.States.{declares_more, declares_same}

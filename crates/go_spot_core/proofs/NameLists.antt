@@ -3,7 +3,7 @@ use Rattle.std.proofs.Common.{◌≡◌, ℕ, ◌+◌, ◌-◌, ◌<◌, ◌≤�
 use Rattle.std.specs.Prelude.{if◌then◌else◌}
 use Rattle.std.specs.List.{list_any}
 use Rattle.std.specs.Str.{bytes_eq}
-use Rattle.go_text_core.specs.Text.{is_blank}
+use Rattle.go_tree_nodes.specs.text_core.Text.{is_blank}
 use Rattle.std.proofs.lemmas.List.{drop_more, take_all, length-drop, take-map, drop-map, take_min, drop_min, map-append, length-map, take-append-le, drop-append-le}
 use Rattle.go_tree_nodes.specs.declared.names.Ident.{Ident}
 use Rattle.go_spot_core.specs.Blocks.{opened}

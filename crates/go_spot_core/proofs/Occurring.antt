@@ -5,9 +5,9 @@ use Rattle.std.specs.List.{flat_map}
 use Rattle.std.specs.Option.{option_map}
 use Rattle.std.proofs.lemmas.List.{map-append}
 use Rattle.std.proofs.lemmas.List.Elements.{filter-append}
-use Rattle.go_text_core.specs.declared.span.Span.{Span}
-use Rattle.go_token_core.specs.declared.kind.Operator.{Operator}
-use Rattle.go_token_core.specs.declared.kind.Operator.TheVariants as operators
+use Rattle.go_tree_nodes.specs.text_core.declared.span.Span.{Span}
+use Rattle.go_tree_nodes.specs.token_core.declared.kind.Operator.{Operator}
+use Rattle.go_tree_nodes.specs.token_core.declared.kind.Operator.TheVariants as operators
 use Rattle.go_tree_nodes.specs.declared.names.Ident.{Ident}
 use Rattle.go_tree_nodes.specs.declared.exprs.Key.{Key}
 use Rattle.go_tree_nodes.specs.declared.decls.ValueKind.{ValueKind}
@@ -18,14 +18,14 @@ use Rattle.go_tree_nodes.specs.Rules.{Wf, Wf_items, Wf_exprs, Wf_some_exprs, Wf_
 use Rattle.go_tree_nodes.specs.Spelling.{spell_value_spec, spell_simple, spell_branch}
 use Rattle.go_tree_nodes.specs.Trees as tree
 use Rattle.go_tree_nodes.specs.Trees.{Separated, One, Then, TypeTree, FieldTrees, MethodTrees, SignatureTree, ResultTree, ParamTrees, NamedType, Pointer, ParenType, Struct, Interface, NoFields, NamedFields, EmbeddedField, NoMethods, Method, Signed, NoResult, OneResult, Results, NoParams, Param, ExprTree, ItemTrees, Integer, Text, Named, Paren, Unary, Binary, Select, Call, Literal, StructLiteral, NoItems, Item, ValueSpecTree, Specs, Single, Group, SimpleTree, Alone, Step, Assign, Update, Define, IfTree, ForTree, Forever, While, Clauses, StmtTree, BranchTree, ElseTree, Lines, Empty, Simple, Return, Break, Continue, Block, If, For, Branch, NoElse, ElseBlock, ElseIf, NoLines, Line, FuncTree, DeclTree, Value, Types, Func, TopTree, ImportSpecTree, ImportTree, FileTree, of_specs}
-use Rattle.go_tree_core.specs.declared.occurrence.Role.TheVariants as roles
-use Rattle.go_tree_core.specs.declared.occurrence.Context.TheVariants as contexts
-use Rattle.go_tree_core.specs.declared.occurrence.Occ.{Occ}
-use Rattle.go_tree_core.specs.Occurrences as occ
-use Rattle.go_tree_core.specs.Occurrences.{is_identifier, import_occs, imports_occs, specs_occs, group_occs, value_spec_occs, type_spec_occs, simple_occs, some_simple_occs, some_expr_occs, some_exprs_occs, init_occs, if_occs, for_occs, stmt_occs, branch_occs, else_occs, lines_occs, func_occs, decl_occs, tops_occs, file_occs}
+use Rattle.go_expr_core.specs.tree_core.declared.occurrence.Role.TheVariants as roles
+use Rattle.go_expr_core.specs.tree_core.declared.occurrence.Context.TheVariants as contexts
+use Rattle.go_expr_core.specs.tree_core.declared.occurrence.Occ.{Occ}
+use Rattle.go_expr_core.specs.tree_core.Occurrences as occ
+use Rattle.go_expr_core.specs.tree_core.Occurrences.{is_identifier, import_occs, imports_occs, specs_occs, group_occs, value_spec_occs, type_spec_occs, simple_occs, some_simple_occs, some_expr_occs, some_exprs_occs, init_occs, if_occs, for_occs, stmt_occs, branch_occs, else_occs, lines_occs, func_occs, decl_occs, tops_occs, file_occs}
 use Rattle.go_walk_core.specs.Ends.{is_blank_target}
-use Rattle.go_local_core.specs.Steps.{Piece, Header, Spec, Act, Condition, Given, Newness, EachFirst, OneNew, Steps, Done, Check, Declare, Inner}
-use Rattle.go_local_core.specs.Outline.{idents, end_of, header_idents, spec_steps, group_steps, specs_steps, simple_steps, some_simple_steps, init_steps, some_condition_steps, if_steps, for_steps, stmt_steps, branch_steps, else_steps, lines_steps}
+use Rattle.go_walk_core.specs.local_core.Steps.{Piece, Header, Spec, Act, Condition, Given, Newness, EachFirst, OneNew, Steps, Done, Check, Declare, Inner}
+use Rattle.go_walk_core.specs.local_core.Outline.{idents, end_of, header_idents, spec_steps, group_steps, specs_steps, simple_steps, some_simple_steps, init_steps, some_condition_steps, if_steps, for_steps, stmt_steps, branch_steps, else_steps, lines_steps}
 use Rattle.go_expr_core.specs.denote_core.declared.things.Stand.{Stand}
 use Rattle.go_expr_core.specs.denote_core.declared.things.Stand.TheVariants as stands
 use Rattle.go_expr_core.specs.Places.{inside, under_place, left_place, whole}

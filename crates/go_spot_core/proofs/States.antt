@@ -11,8 +11,8 @@ use Rattle.go_tree_nodes.specs.declared.stmts.«Simple».TheVariants as simple
 use Rattle.go_tree_nodes.specs.Shapes.{shape_simple}
 use Rattle.go_tree_nodes.specs.TypeShapes.{shape_idents}
 use Rattle.go_tree_nodes.specs.Spelling.{spell_simple}
-use Rattle.go_local_core.specs.Outline.{idents, end_of, simple_steps}
-use Rattle.go_local_core.specs.Steps.{Newness, OneNew, Act, Piece, Steps, Done, Check, Declare, Inner}
+use Rattle.go_walk_core.specs.local_core.Outline.{idents, end_of, simple_steps}
+use Rattle.go_walk_core.specs.local_core.Steps.{Newness, OneNew, Act, Piece, Steps, Done, Check, Declare, Inner}
 use Rattle.go_spot_core.specs.declared.search.Search.{Search}
 use Rattle.go_spot_core.specs.declared.spot.UsedName.{UsedName}
 use Rattle.go_spot_core.proofs.Finding.{find_mapped}

@@ -6,12 +6,12 @@ use Rattle.std.specs.Str.{bytes_eq}
 use Rattle.std.proofs.lemmas.List.{map-append}
 use Rattle.std.proofs.lemmas.Grind.{flat_map-append}
 use Rattle.std.proofs.lemmas.List.Elements.{All-cons, All-append}
-use Rattle.go_text_core.specs.Text.{is_blank}
+use Rattle.go_tree_nodes.specs.text_core.Text.{is_blank}
 use Rattle.go_tree_nodes.specs.declared.names.Ident.{Ident}
-use Rattle.go_local_core.specs.Steps.{Steps, Done, Check, Declare, Inner}
-use Rattle.go_local_core.specs.Law.{Rules}
-use Rattle.go_local_core.specs.Outline.{func_steps, func_opens, func_closes}
-use Rattle.go_local_core.specs.mirrors.Walk.{Names, look_in, with_name, with_names, news, names_of, walk_out}
+use Rattle.go_walk_core.specs.local_core.Steps.{Steps, Done, Check, Declare, Inner}
+use Rattle.go_walk_core.specs.local_core.Law.{Rules}
+use Rattle.go_walk_core.specs.local_core.Outline.{func_steps, func_opens, func_closes}
+use Rattle.go_walk_core.specs.local_core.mirrors.Walk.{Names, look_in, with_name, with_names, news, names_of, walk_out}
 use Rattle.go_spot_core.specs.Opened as tree
 use Rattle.go_spot_core.specs.Opened.{OpenUsed, piece_opened, steps_opened, with_ident, with_idents}
 use Rattle.go_spot_core.specs.Walks.{PieceAt, pieces_at, OpenNamesAreWalked}

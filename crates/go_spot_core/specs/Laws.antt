@@ -6,11 +6,11 @@ use Rattle.std.specs.Option.{option_map}
 use Rattle.go_tree_nodes.specs.declared.usage.Usage.TheVariants as usages
 use Rattle.go_tree_nodes.specs.Trees.{FileTree}
 use Rattle.go_tree_nodes.specs.Rules.{Wf_file}
-use Rattle.go_tree_core.specs.declared.occurrence.Role.{Role}
-use Rattle.go_tree_core.specs.declared.occurrence.Role.TheVariants as roles
-use Rattle.go_tree_core.specs.declared.occurrence.Occ.{Occ}
-use Rattle.go_tree_core.specs.Occurrences.{is_identifier, occurrence, file_occs}
-use Rattle.go_local_core.specs.Steps.{Piece}
+use Rattle.go_expr_core.specs.tree_core.declared.occurrence.Role.{Role}
+use Rattle.go_expr_core.specs.tree_core.declared.occurrence.Role.TheVariants as roles
+use Rattle.go_expr_core.specs.tree_core.declared.occurrence.Occ.{Occ}
+use Rattle.go_expr_core.specs.tree_core.Occurrences.{is_identifier, occurrence, file_occs}
+use Rattle.go_walk_core.specs.local_core.Steps.{Piece}
 use Rattle.go_expr_core.specs.Looks.{Looks}
 use Rattle.go_expr_core.specs.Places.{place_role}
 use Rattle.go_spot_core.specs.Used.{SpotTree, NameSpot, BehindSpot, BehindNameSpot, KeySpot, Used, first_used, piece_used}

@@ -5,11 +5,11 @@
 use Rattle.std.specs.Prelude.{ℕ, Bool, ◌&&◌, not, List, [], ◌∷◌, ◌++◌, map, Option, Some, None, find, if◌then◌else◌}
 use Rattle.std.specs.List.{flat_map, list_any}
 use Rattle.std.specs.Str.{bytes_eq}
-use Rattle.go_text_core.specs.Text.{is_blank}
+use Rattle.go_tree_nodes.specs.text_core.Text.{is_blank}
 use Rattle.go_tree_nodes.specs.declared.names.Ident.{Ident}
 use Rattle.go_tree_nodes.specs.Trees.{FuncTree, DeclTree, Value, Types, Func, TopTree, FileTree, of_specs}
-use Rattle.go_local_core.specs.Steps.{Piece, Steps, Done, Check, Declare, Inner}
-use Rattle.go_local_core.specs.Outline.{func_steps}
+use Rattle.go_walk_core.specs.local_core.Steps.{Piece, Steps, Done, Check, Declare, Inner}
+use Rattle.go_walk_core.specs.local_core.Outline.{func_steps}
 use Rattle.go_spot_core.specs.Used.{Used, begins_at, type_used, spec_used, piece_used}
 
 -- the locals of a block, in order of their declarations: a name that is not blank is declared by the first of its block

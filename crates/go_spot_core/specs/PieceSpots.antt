@@ -2,11 +2,11 @@
 --
 -- docs/RULES.md, "Occurrences", "Expressions: roles, order, faults of parts". The Go specification, "Declarations and scope", "Statements".
 use Rattle.std.specs.Prelude.{List, [], ◌++◌, Option, Some, None, if◌then◌else◌}
-use Rattle.go_text_core.specs.declared.span.Span.{Span}
+use Rattle.go_tree_nodes.specs.text_core.declared.span.Span.{Span}
 use Rattle.go_tree_nodes.specs.declared.files.Receiver.{Receiver}
 use Rattle.go_tree_nodes.specs.Trees.{Separated, One, Then, TypeTree, SignatureTree, ExprTree, ValueSpecTree, SimpleTree, Alone, Step, Assign, Update, Define}
 use Rattle.go_walk_core.specs.Ends.{is_blank_target}
-use Rattle.go_local_core.specs.Steps.{Piece, Header, Spec, Act, Condition, Given}
+use Rattle.go_walk_core.specs.local_core.Steps.{Piece, Header, Spec, Act, Condition, Given}
 use Rattle.go_expr_core.specs.denote_core.declared.things.Stand.TheVariants as stands
 use Rattle.go_expr_core.specs.Looks.{Looks}
 use Rattle.go_expr_core.specs.Uses.{Spot, spots, type_name_spots, type_spots, signature_spots}

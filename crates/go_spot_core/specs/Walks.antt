@@ -5,11 +5,11 @@ use Rattle.std.specs.Prelude.{◌≡◌, ℕ, Bool, List, [], ◌∷◌, ◌++�
 use Rattle.std.specs.List.{flat_map}
 use Rattle.go_tree_nodes.specs.declared.names.Ident.{Ident}
 use Rattle.go_tree_nodes.specs.Trees.{FuncTree}
-use Rattle.go_local_core.specs.Steps.{Piece, Steps, Done, Check, Declare, Inner}
-use Rattle.go_local_core.specs.Law.{Rules}
-use Rattle.go_local_core.specs.Outline.{func_steps}
-use Rattle.go_local_core.specs.Tables.{walked}
-use Rattle.go_local_core.specs.mirrors.Walk.{Names, look_in, with_names, news, names_of}
+use Rattle.go_walk_core.specs.local_core.Steps.{Piece, Steps, Done, Check, Declare, Inner}
+use Rattle.go_walk_core.specs.local_core.Law.{Rules}
+use Rattle.go_walk_core.specs.local_core.Outline.{func_steps}
+use Rattle.go_walk_core.specs.local_core.Tables.{walked}
+use Rattle.go_walk_core.specs.local_core.mirrors.Walk.{Names, look_in, with_names, news, names_of}
 use Rattle.go_spot_core.specs.Opened.{piece_opened, func_opened, with_idents}
 
 -- a piece: with the names that are open in front of it and what they mean, with the locals that are open there, and with which of the names that it

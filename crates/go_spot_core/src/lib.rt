@@ -17,3 +17,15 @@ mod walk;
 pub use file::spot_in_file;
 pub use laws::{names_are_occurrences, open_names_are_walked, spots_decide};
 pub use spot::{FoundSpot, LiteralOf, Spot};
+
+/// What the crates above name of `go_denote_core`.
+pub mod denote_core {
+    pub use go_expr_core::denote_core::{
+        Dot, Exported, Found, Names, Outcome, Selection, Stand, dot_of,
+    };
+}
+
+/// What the crates above name of `go_expr_core`.
+pub mod expr_core {
+    pub use go_expr_core::{Exprs, Notes, check_expr, check_type_name, is_name};
+}

@@ -6,8 +6,8 @@ ghost use Rattle.go_spot_core.specs.Blocks.{opened};
 ghost use Rattle.go_spot_core.specs.Shown.{idents_shown};
 ghost use Rattle.go_spot_core.specs.Opened.{is_new, with_ident};
 
-use go_text_core::is_blank;
 use go_tree_nodes::Ident;
+use go_tree_nodes::text_core::is_blank;
 use std::alloc::{AllocError, Global};
 use std::marker::Model;
 

@@ -3,7 +3,7 @@ ghost use Rattle.std.specs.Prelude.{◌≡◌};
 ghost use Rattle.go_expr_core.specs.Places as places;
 
 use go_expr_core::denote_core::Stand;
-use go_token_core::Operator;
+use go_tree_nodes::token_core::Operator;
 
 /// The place of what stands in parentheses: a name in them is no qualifier.
 pub(crate) fn inside(place: Stand) -> Stand

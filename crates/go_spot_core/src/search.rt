@@ -1,7 +1,7 @@
 //! The search through a function for the identifier that begins at an offset, with the locals that are open there.
 ghost use Rattle.std.specs.Prelude.{◌≡◌, [], ◌∷◌, None};
 ghost use Rattle.go_tree_nodes.specs.TypeShapes.{shape_idents, shape_names, shape_results, params_of};
-ghost use Rattle.go_local_core.specs.Outline.{idents, some_idents, param_idents, result_idents, receiver_idents};
+ghost use Rattle.go_walk_core.specs.local_core.Outline.{idents, some_idents, param_idents, result_idents, receiver_idents};
 ghost use Rattle.go_spot_core.specs.Blocks.{opened};
 ghost use Rattle.go_spot_core.specs.mirrors.Searching.{Declares, Enters, LeavesTo};
 

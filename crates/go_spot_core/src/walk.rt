@@ -1,15 +1,15 @@
 //! The walk of a search through the steps of a function.
 ghost use Rattle.go_tree_nodes.specs.Shapes.{shape, shape_some_expr, shape_some_exprs, shape_value_spec, shape_value_specs, shape_simple, shape_some_simple, shape_init, shape_if, shape_for, shape_stmt, shape_loop, shape_branch, shape_else, lines_of};
 ghost use Rattle.go_tree_nodes.specs.TypeShapes.{shape_signature};
-ghost use Rattle.go_local_core.specs.Steps.{Check, Declare, Condition, Given, Header, EachFirst};
-ghost use Rattle.go_local_core.specs.Outline.{header_idents, spec_steps, specs_steps, simple_steps, some_simple_steps, init_steps, some_condition_steps, if_steps, for_steps, stmt_steps, branch_steps, else_steps, lines_steps};
+ghost use Rattle.go_walk_core.specs.local_core.Steps.{Check, Declare, Condition, Given, Header, EachFirst};
+ghost use Rattle.go_walk_core.specs.local_core.Outline.{header_idents, spec_steps, specs_steps, simple_steps, some_simple_steps, init_steps, some_condition_steps, if_steps, for_steps, stmt_steps, branch_steps, else_steps, lines_steps};
 ghost use Rattle.go_spot_core.specs.mirrors.Searching.{Leads};
 
 use crate::exprs::in_expr;
 use crate::pieces::{in_given, in_header, in_simple, in_spec};
 use crate::search::{Search, declare_idents, declare_params, declare_receiver, declare_results};
 use go_expr_core::denote_core::Stand;
-use go_text_core::Span;
+use go_tree_nodes::text_core::Span;
 use go_tree_nodes::{
     Branch, Expr, Exprs, ForHead, FuncDecl, IfHead, InitPart, Line, Loop, Otherwise, Simple, Stmt,
     ValueDecl, ValueKind, ValueSpec, ValueSpecs,

@@ -2,25 +2,25 @@
 use Rattle.std.proofs.Common.{◌≡◌, ℕ, Bool, ◌&&◌, ◌==◌, List, [], ◌∷◌, length, map, replicate, refl, ap, ◌∙◌}
 use Rattle.std.specs.Prelude.{Option, Some, None, is_some, if◌then◌else◌}
 use Rattle.std.specs.List.{list_all}
-use Rattle.go_text_core.specs.declared.rule.Rule.TheVariants.{Y3, Y4, Y7}
-use Rattle.go_denote_core.specs.term_core.declared.term.Basic.{Basic}
-use Rattle.go_denote_core.specs.term_core.declared.term.Basic.TheVariants as basics
-use Rattle.go_denote_core.specs.operand_core.declared.types.ValueType.{ValueType}
-use Rattle.go_denote_core.specs.operand_core.declared.types.ValueType.TheVariants as value_types
-use Rattle.go_denote_core.specs.operand_core.declared.types.Operand.{Operand}
-use Rattle.go_denote_core.specs.operand_core.TypeRules.{TypeRules}
-use Rattle.go_denote_core.specs.operand_core.Values.{is_over, form_basic}
-use Rattle.go_denote_core.specs.operand_core.Assign.{takes_nil, assignable, assignable_to}
-use Rattle.go_denote_core.specs.operand_core.Conversions.{kept}
-use Rattle.go_denote_core.specs.declared.things.Argument.{Argument}
-use Rattle.go_denote_core.specs.declared.things.Argument.TheVariants as arguments
-use Rattle.go_denote_core.specs.declared.things.Denoted.{Denoted}
-use Rattle.go_denote_core.specs.declared.things.Denoted.TheVariants as denotes
-use Rattle.go_denote_core.specs.Laws.{ValueAlike}
-use Rattle.go_denote_core.proofs.Locality.{untyped_alike, basic_alike}
+use Rattle.go_term_core.specs.text_core.declared.rule.Rule.TheVariants.{Y3, Y4, Y7}
+use Rattle.go_term_core.specs.declared.term.Basic.{Basic}
+use Rattle.go_term_core.specs.declared.term.Basic.TheVariants as basics
+use Rattle.go_expr_core.specs.operand_core.declared.types.ValueType.{ValueType}
+use Rattle.go_expr_core.specs.operand_core.declared.types.ValueType.TheVariants as value_types
+use Rattle.go_expr_core.specs.operand_core.declared.types.Operand.{Operand}
+use Rattle.go_expr_core.specs.operand_core.TypeRules.{TypeRules}
+use Rattle.go_expr_core.specs.operand_core.Values.{is_over, form_basic}
+use Rattle.go_expr_core.specs.operand_core.Assign.{takes_nil, assignable, assignable_to}
+use Rattle.go_expr_core.specs.operand_core.Conversions.{kept}
+use Rattle.go_expr_core.specs.denote_core.declared.things.Argument.{Argument}
+use Rattle.go_expr_core.specs.denote_core.declared.things.Argument.TheVariants as arguments
+use Rattle.go_expr_core.specs.denote_core.declared.things.Denoted.{Denoted}
+use Rattle.go_expr_core.specs.denote_core.declared.things.Denoted.TheVariants as denotes
+use Rattle.go_expr_core.specs.denote_core.Laws.{ValueAlike}
+use Rattle.go_expr_core.specs.denote_core.Locality.{untyped_alike, basic_alike}
 use Rattle.go_statement_core.specs.declared.targets.Target.{Target}
 use Rattle.go_statement_core.specs.declared.targets.Target.TheVariants as targets
-use Rattle.go_denote_core.specs.Arguments.{fits_type}
+use Rattle.go_expr_core.specs.denote_core.Arguments.{fits_type}
 use Rattle.go_statement_core.specs.Assignments.{takes_argument, is_left_side, all_pairs, assignment_rule}
 use Rattle.go_statement_core.specs.Declarations.{given_type, declared_types, declared_target, variables_rule, type_after, paired_types, short_types}
 use Rattle.go_statement_core.specs.Constants.{answer, operand_constant, own_value, answer_of_value, of_type, constant_answer}

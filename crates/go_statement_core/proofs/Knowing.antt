@@ -3,26 +3,26 @@ use Rattle.std.proofs.Common.{◌≡◌, ◌↔◌, ℕ, Bool, true, false, ◌&
 use Rattle.std.specs.Prelude.{Option, Some, None, IfSome, is_some, if◌then◌else◌}
 use Rattle.std.specs.List.{list_all}
 use Rattle.std.proofs.lemmas.Bool.{and_parts, and_cases, and_left, and_right, eqb-true, eq-eqb}
-use Rattle.go_text_core.specs.declared.rule.Rule.{Rule}
-use Rattle.go_text_core.specs.declared.rule.Rule.TheVariants.{Y4, Y7}
-use Rattle.go_denote_core.specs.constant_core.declared.values.Constant.{Constant}
-use Rattle.go_denote_core.specs.term_core.declared.term.Basic.{Basic}
-use Rattle.go_denote_core.specs.operand_core.declared.types.ValueType.{ValueType}
-use Rattle.go_denote_core.specs.operand_core.declared.types.ValueType.TheVariants as value_types
-use Rattle.go_denote_core.specs.operand_core.declared.types.TypeForm.{TypeForm}
-use Rattle.go_denote_core.specs.operand_core.declared.types.TypeForm.TheVariants as forms
-use Rattle.go_denote_core.specs.operand_core.declared.types.Operand.{Operand}
-use Rattle.go_denote_core.specs.operand_core.TypeRules.{TypeRules}
-use Rattle.go_denote_core.specs.operand_core.Values.{form_basic, basic_under}
-use Rattle.go_denote_core.specs.operand_core.Assign.{assignable_to}
-use Rattle.go_denote_core.specs.operand_core.Operators.{value}
-use Rattle.go_denote_core.specs.operand_core.Conversions.{kept}
-use Rattle.go_denote_core.specs.operand_core.Relations.{IsAssignable, by_type, nil_to_pointer, nil_to_interface, by_kind, by_default_type, IsValueOf}
-use Rattle.go_denote_core.specs.operand_core.Known.{KeepsKinds, IsOfType, IsConstantOfItsType}
-use Rattle.go_denote_core.specs.operand_core.KnownProofs.{under_untyped}
-use Rattle.go_denote_core.specs.operand_core.Relating.{assigned, assigns}
-use Rattle.go_denote_core.specs.declared.things.Argument.{Argument}
-use Rattle.go_denote_core.specs.declared.things.Argument.TheVariants as arguments
+use Rattle.go_term_core.specs.text_core.declared.rule.Rule.{Rule}
+use Rattle.go_term_core.specs.text_core.declared.rule.Rule.TheVariants.{Y4, Y7}
+use Rattle.go_expr_core.specs.constant_core.declared.values.Constant.{Constant}
+use Rattle.go_term_core.specs.declared.term.Basic.{Basic}
+use Rattle.go_expr_core.specs.operand_core.declared.types.ValueType.{ValueType}
+use Rattle.go_expr_core.specs.operand_core.declared.types.ValueType.TheVariants as value_types
+use Rattle.go_expr_core.specs.operand_core.declared.types.TypeForm.{TypeForm}
+use Rattle.go_expr_core.specs.operand_core.declared.types.TypeForm.TheVariants as forms
+use Rattle.go_expr_core.specs.operand_core.declared.types.Operand.{Operand}
+use Rattle.go_expr_core.specs.operand_core.TypeRules.{TypeRules}
+use Rattle.go_expr_core.specs.operand_core.Values.{form_basic, basic_under}
+use Rattle.go_expr_core.specs.operand_core.Assign.{assignable_to}
+use Rattle.go_expr_core.specs.operand_core.Operators.{value}
+use Rattle.go_expr_core.specs.operand_core.Conversions.{kept}
+use Rattle.go_expr_core.specs.operand_core.Relations.{IsAssignable, by_type, nil_to_pointer, nil_to_interface, by_kind, by_default_type, IsValueOf}
+use Rattle.go_expr_core.specs.operand_core.Known.{KeepsKinds, IsOfType, IsConstantOfItsType}
+use Rattle.go_expr_core.specs.operand_core.KnownProofs.{under_untyped}
+use Rattle.go_expr_core.specs.operand_core.Relating.{assigned, assigns}
+use Rattle.go_expr_core.specs.denote_core.declared.things.Argument.{Argument}
+use Rattle.go_expr_core.specs.denote_core.declared.things.Argument.TheVariants as arguments
 use Rattle.go_statement_core.specs.declared.constants.ConstantAnswer.{ConstantAnswer}
 use Rattle.go_statement_core.specs.Constants.{is_constant_value, is_constant, constants_rule, answer, operand_constant, own_value, answer_of_value, of_basic_type, of_type, constant_answer}
 use Rattle.go_statement_core.specs.Relations.{IsConstant, IsDeclaredAs, of_expression, of_written_type, of_no_type as declared_of_no_type, of_refused, of_refused_no_type, of_refused_typed, IsNoConstant, other_type, no_value, variable, other_value, IsOfOtherType}

@@ -2,13 +2,13 @@
 use Rattle.std.proofs.Common.{◌≡◌, Bool, true, false, ◌&&◌, ◌==◌, List, [], ◌∷◌, length, refl, sym, ap, ◌∙◌, arith}
 use Rattle.std.proofs.lemmas.Bool.{eqb-true}
 use Rattle.std.specs.Prelude.{Option, Some, None, IfSome, if◌then◌else◌}
-use Rattle.go_text_core.specs.declared.rule.Rule.{Rule}
-use Rattle.go_text_core.specs.declared.rule.Rule.TheVariants.{Y4}
-use Rattle.go_denote_core.specs.operand_core.TypeRules.{TypeRules}
-use Rattle.go_denote_core.specs.operand_core.Relating.{assigned, assigns}
-use Rattle.go_denote_core.specs.declared.things.Argument.{Argument}
-use Rattle.go_denote_core.specs.declared.things.Argument.TheVariants as arguments
-use Rattle.go_denote_core.specs.Arguments.{fits_type}
+use Rattle.go_term_core.specs.text_core.declared.rule.Rule.{Rule}
+use Rattle.go_term_core.specs.text_core.declared.rule.Rule.TheVariants.{Y4}
+use Rattle.go_expr_core.specs.operand_core.TypeRules.{TypeRules}
+use Rattle.go_expr_core.specs.operand_core.Relating.{assigned, assigns}
+use Rattle.go_expr_core.specs.denote_core.declared.things.Argument.{Argument}
+use Rattle.go_expr_core.specs.denote_core.declared.things.Argument.TheVariants as arguments
+use Rattle.go_expr_core.specs.denote_core.Arguments.{fits_type}
 use Rattle.go_statement_core.specs.Assignments.{all_pairs}
 use Rattle.go_statement_core.specs.Returns.{returned, return_rule}
 use Rattle.go_statement_core.specs.Relations.{IsReturned, to_result, to_typeless, of_refused, Returns, not_known, empty_with_names, of_values}

@@ -1,6 +1,6 @@
 -- Statements, worked out.
 use Rattle.std.proofs.Common.{false, [], ◌∷◌, map, refl, ap}
-use Rattle.go_denote_core.specs.Arguments.{argument_of_result}
+use Rattle.go_expr_core.specs.denote_core.Arguments.{argument_of_result}
 use Rattle.go_statement_core.specs.declared.targets.Target.TheVariants as targets
 use Rattle.go_statement_core.specs.Assignments.{assignment_rule}
 use Rattle.go_statement_core.specs.Declarations.{short_types}

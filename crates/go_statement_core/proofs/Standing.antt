@@ -1,22 +1,22 @@
 -- Expression statements, conditions, and operators with `=`.
 use Rattle.std.proofs.Common.{◌≡◌, Bool, true, false, refl, ap, ◌∙◌, ◌⊎◌, inl, inr}
 use Rattle.std.specs.Prelude.{Option, Some, None, IfSome, if◌then◌else◌}
-use Rattle.go_text_core.specs.declared.rule.Rule.{Rule}
-use Rattle.go_text_core.specs.declared.rule.Rule.TheVariants.{Y3, Y8, X1}
-use Rattle.go_token_core.specs.declared.kind.Operator.{Operator}
-use Rattle.go_token_core.specs.declared.kind.Operator.TheVariants as operators
-use Rattle.go_denote_core.specs.term_core.declared.term.Basic.{Basic}
-use Rattle.go_denote_core.specs.term_core.declared.term.Basic.TheVariants as basics
-use Rattle.go_denote_core.specs.operand_core.declared.types.Operand.{Operand}
-use Rattle.go_denote_core.specs.operand_core.TypeRules.{TypeRules}
-use Rattle.go_denote_core.specs.operand_core.Values.{is_over, basic_under}
-use Rattle.go_denote_core.specs.operand_core.Updates.{update}
-use Rattle.go_denote_core.specs.declared.things.Builtin.TheVariants as builtins
-use Rattle.go_denote_core.specs.declared.things.Denoted.{Denoted}
-use Rattle.go_denote_core.specs.declared.things.Denoted.TheVariants as denotes
-use Rattle.go_denote_core.specs.declared.things.Argument.{Argument}
-use Rattle.go_denote_core.specs.declared.things.Argument.TheVariants as arguments
-use Rattle.go_denote_core.specs.Arguments.{is_refused, single_rule}
+use Rattle.go_term_core.specs.text_core.declared.rule.Rule.{Rule}
+use Rattle.go_term_core.specs.text_core.declared.rule.Rule.TheVariants.{Y3, Y8, X1}
+use Rattle.go_expr_core.specs.token_core.declared.kind.Operator.{Operator}
+use Rattle.go_expr_core.specs.token_core.declared.kind.Operator.TheVariants as operators
+use Rattle.go_term_core.specs.declared.term.Basic.{Basic}
+use Rattle.go_term_core.specs.declared.term.Basic.TheVariants as basics
+use Rattle.go_expr_core.specs.operand_core.declared.types.Operand.{Operand}
+use Rattle.go_expr_core.specs.operand_core.TypeRules.{TypeRules}
+use Rattle.go_expr_core.specs.operand_core.Values.{is_over, basic_under}
+use Rattle.go_expr_core.specs.operand_core.Updates.{update}
+use Rattle.go_expr_core.specs.denote_core.declared.things.Builtin.TheVariants as builtins
+use Rattle.go_expr_core.specs.denote_core.declared.things.Denoted.{Denoted}
+use Rattle.go_expr_core.specs.denote_core.declared.things.Denoted.TheVariants as denotes
+use Rattle.go_expr_core.specs.denote_core.declared.things.Argument.{Argument}
+use Rattle.go_expr_core.specs.denote_core.declared.things.Argument.TheVariants as arguments
+use Rattle.go_expr_core.specs.denote_core.Arguments.{is_refused, single_rule}
 use Rattle.go_statement_core.specs.Statements.{is_statement, called_rule, condition_rule}
 use Rattle.go_statement_core.specs.Updates.{bits_rule, update_rule}
 use Rattle.go_statement_core.specs.Laws.{MayStand, IsCallOf, CallsStand, ConditionsAreBoolean, IsBitAssignment, IsSumAssignment, UpdatesStand}

@@ -3,21 +3,21 @@
 -- docs/RULES.md, "Assignments, declarations, returns, statements". The Go specification, "Constant declarations", "Constants".
 use Rattle.std.specs.Prelude.{ℕ, Bool, true, false, ◌&&◌, not, ◌==◌, List, length, Option, Some, None, is_some, if◌then◌else◌}
 use Rattle.std.specs.List.{list_all}
-use Rattle.go_text_core.specs.declared.rule.Rule.{Rule}
-use Rattle.go_text_core.specs.declared.rule.Rule.TheVariants.{Y4, Y7}
-use Rattle.go_denote_core.specs.constant_core.declared.values.Constant.{Constant}
-use Rattle.go_denote_core.specs.constant_core.declared.values.Constant.TheVariants as constant
-use Rattle.go_denote_core.specs.term_core.declared.term.Basic.{Basic}
-use Rattle.go_denote_core.specs.operand_core.declared.types.ValueType.{ValueType}
-use Rattle.go_denote_core.specs.operand_core.declared.types.ValueType.TheVariants as value_types
-use Rattle.go_denote_core.specs.operand_core.declared.types.Operand.{Operand}
-use Rattle.go_denote_core.specs.operand_core.TypeRules.{TypeRules}
-use Rattle.go_denote_core.specs.operand_core.Values.{form_basic, basic_under}
-use Rattle.go_denote_core.specs.operand_core.Assign.{assignable_to}
-use Rattle.go_denote_core.specs.operand_core.Operators.{value}
-use Rattle.go_denote_core.specs.operand_core.Conversions.{kept}
-use Rattle.go_denote_core.specs.declared.things.Argument.{Argument}
-use Rattle.go_denote_core.specs.declared.things.Argument.TheVariants as arguments
+use Rattle.go_term_core.specs.text_core.declared.rule.Rule.{Rule}
+use Rattle.go_term_core.specs.text_core.declared.rule.Rule.TheVariants.{Y4, Y7}
+use Rattle.go_expr_core.specs.constant_core.declared.values.Constant.{Constant}
+use Rattle.go_expr_core.specs.constant_core.declared.values.Constant.TheVariants as constant
+use Rattle.go_term_core.specs.declared.term.Basic.{Basic}
+use Rattle.go_expr_core.specs.operand_core.declared.types.ValueType.{ValueType}
+use Rattle.go_expr_core.specs.operand_core.declared.types.ValueType.TheVariants as value_types
+use Rattle.go_expr_core.specs.operand_core.declared.types.Operand.{Operand}
+use Rattle.go_expr_core.specs.operand_core.TypeRules.{TypeRules}
+use Rattle.go_expr_core.specs.operand_core.Values.{form_basic, basic_under}
+use Rattle.go_expr_core.specs.operand_core.Assign.{assignable_to}
+use Rattle.go_expr_core.specs.operand_core.Operators.{value}
+use Rattle.go_expr_core.specs.operand_core.Conversions.{kept}
+use Rattle.go_expr_core.specs.denote_core.declared.things.Argument.{Argument}
+use Rattle.go_expr_core.specs.denote_core.declared.things.Argument.TheVariants as arguments
 use Rattle.go_statement_core.specs.declared.constants.ConstantAnswer.{ConstantAnswer}
 
 -- a constant over bool, int or string

@@ -1,25 +1,25 @@
 -- Laws of assignments, declarations, returns and statements.
 use Rattle.std.specs.Prelude.{◌≡◌, ◌≢◌, ◌↔◌, ◌⊎◌, ◌<◌, ℕ, Bool, true, false, List, [], ◌∷◌, length, replicate, slice_get, Option, Some, None, IfSome}
-use Rattle.go_text_core.specs.declared.rule.Rule.TheVariants.{Y3, Y4, Y7, Y8, X1}
-use Rattle.go_token_core.specs.declared.kind.Operator.{Operator}
-use Rattle.go_token_core.specs.declared.kind.Operator.TheVariants as operators
-use Rattle.go_denote_core.specs.constant_core.declared.values.Constant.{Constant}
-use Rattle.go_denote_core.specs.term_core.declared.term.Basic.{Basic}
-use Rattle.go_denote_core.specs.term_core.declared.term.Basic.TheVariants as basics
-use Rattle.go_denote_core.specs.operand_core.declared.types.ValueType.TheVariants as value_types
-use Rattle.go_denote_core.specs.operand_core.declared.types.TypeForm.TheVariants as forms
-use Rattle.go_denote_core.specs.operand_core.declared.types.Operand.{Operand}
-use Rattle.go_denote_core.specs.operand_core.TypeRules.{TypeRules}
-use Rattle.go_denote_core.specs.operand_core.Values.{basic_type, basic_under, default_type}
-use Rattle.go_denote_core.specs.operand_core.Relations.{IsAssignable}
-use Rattle.go_denote_core.specs.operand_core.Known.{KeepsKinds, IsConstantOfItsType}
-use Rattle.go_denote_core.specs.operand_core.Updates.{update, increment}
-use Rattle.go_denote_core.specs.declared.things.Builtin.TheVariants as builtins
-use Rattle.go_denote_core.specs.declared.things.Denoted.{Denoted}
-use Rattle.go_denote_core.specs.declared.things.Denoted.TheVariants as denotes
-use Rattle.go_denote_core.specs.declared.things.Argument.{Argument}
-use Rattle.go_denote_core.specs.declared.things.Argument.TheVariants as arguments
-use Rattle.go_denote_core.specs.Arguments.{is_refused, single_rule}
+use Rattle.go_term_core.specs.text_core.declared.rule.Rule.TheVariants.{Y3, Y4, Y7, Y8, X1}
+use Rattle.go_expr_core.specs.token_core.declared.kind.Operator.{Operator}
+use Rattle.go_expr_core.specs.token_core.declared.kind.Operator.TheVariants as operators
+use Rattle.go_expr_core.specs.constant_core.declared.values.Constant.{Constant}
+use Rattle.go_term_core.specs.declared.term.Basic.{Basic}
+use Rattle.go_term_core.specs.declared.term.Basic.TheVariants as basics
+use Rattle.go_expr_core.specs.operand_core.declared.types.ValueType.TheVariants as value_types
+use Rattle.go_expr_core.specs.operand_core.declared.types.TypeForm.TheVariants as forms
+use Rattle.go_expr_core.specs.operand_core.declared.types.Operand.{Operand}
+use Rattle.go_expr_core.specs.operand_core.TypeRules.{TypeRules}
+use Rattle.go_expr_core.specs.operand_core.Values.{basic_type, basic_under, default_type}
+use Rattle.go_expr_core.specs.operand_core.Relations.{IsAssignable}
+use Rattle.go_expr_core.specs.operand_core.Known.{KeepsKinds, IsConstantOfItsType}
+use Rattle.go_expr_core.specs.operand_core.Updates.{update, increment}
+use Rattle.go_expr_core.specs.denote_core.declared.things.Builtin.TheVariants as builtins
+use Rattle.go_expr_core.specs.denote_core.declared.things.Denoted.{Denoted}
+use Rattle.go_expr_core.specs.denote_core.declared.things.Denoted.TheVariants as denotes
+use Rattle.go_expr_core.specs.denote_core.declared.things.Argument.{Argument}
+use Rattle.go_expr_core.specs.denote_core.declared.things.Argument.TheVariants as arguments
+use Rattle.go_expr_core.specs.denote_core.Arguments.{is_refused, single_rule}
 use Rattle.go_statement_core.specs.declared.targets.Target.{Target}
 use Rattle.go_statement_core.specs.declared.targets.Target.TheVariants as targets
 use Rattle.go_statement_core.specs.Targets.{target_of}

@@ -1,17 +1,17 @@
 -- What values are given to, what constants are declared as, and what returns give, as the Go specification states it.
 use Rattle.std.specs.Prelude.{◌≡◌, ◌≢◌, ℕ, Bool, true, false, List, [], length, slice_get, Option, Some, None}
-use Rattle.go_denote_core.specs.constant_core.declared.values.Constant.{Constant}
-use Rattle.go_denote_core.specs.constant_core.declared.values.Constant.TheVariants as constant
-use Rattle.go_denote_core.specs.term_core.declared.term.Basic.{Basic}
-use Rattle.go_denote_core.specs.operand_core.declared.types.ValueType.TheVariants as value_types
-use Rattle.go_denote_core.specs.operand_core.declared.types.TypeForm.TheVariants as forms
-use Rattle.go_denote_core.specs.operand_core.declared.types.Operand.{Operand}
-use Rattle.go_denote_core.specs.operand_core.TypeRules.{TypeRules}
-use Rattle.go_denote_core.specs.operand_core.Values.{form_basic, basic_under}
-use Rattle.go_denote_core.specs.operand_core.Operators.{value}
-use Rattle.go_denote_core.specs.operand_core.Relations.{IsAssignable}
-use Rattle.go_denote_core.specs.declared.things.Argument.{Argument}
-use Rattle.go_denote_core.specs.declared.things.Argument.TheVariants as arguments
+use Rattle.go_expr_core.specs.constant_core.declared.values.Constant.{Constant}
+use Rattle.go_expr_core.specs.constant_core.declared.values.Constant.TheVariants as constant
+use Rattle.go_term_core.specs.declared.term.Basic.{Basic}
+use Rattle.go_expr_core.specs.operand_core.declared.types.ValueType.TheVariants as value_types
+use Rattle.go_expr_core.specs.operand_core.declared.types.TypeForm.TheVariants as forms
+use Rattle.go_expr_core.specs.operand_core.declared.types.Operand.{Operand}
+use Rattle.go_expr_core.specs.operand_core.TypeRules.{TypeRules}
+use Rattle.go_expr_core.specs.operand_core.Values.{form_basic, basic_under}
+use Rattle.go_expr_core.specs.operand_core.Operators.{value}
+use Rattle.go_expr_core.specs.operand_core.Relations.{IsAssignable}
+use Rattle.go_expr_core.specs.denote_core.declared.things.Argument.{Argument}
+use Rattle.go_expr_core.specs.denote_core.declared.things.Argument.TheVariants as arguments
 use Rattle.go_statement_core.specs.declared.targets.Target.{Target}
 use Rattle.go_statement_core.specs.declared.targets.Target.TheVariants as targets
 

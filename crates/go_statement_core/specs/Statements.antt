@@ -3,15 +3,15 @@
 -- docs/RULES.md, "Assignments, declarations, returns, statements". The Go specification, "Expression statements", "If statements", "For
 -- statements".
 use Rattle.std.specs.Prelude.{Bool, true, false, Option, Some, None, if◌then◌else◌}
-use Rattle.go_text_core.specs.declared.rule.Rule.{Rule}
-use Rattle.go_text_core.specs.declared.rule.Rule.TheVariants.{Y3, Y8}
-use Rattle.go_denote_core.specs.operand_core.declared.types.Operand.{Operand}
-use Rattle.go_denote_core.specs.operand_core.TypeRules.{TypeRules}
-use Rattle.go_denote_core.specs.operand_core.Conversions.{is_condition}
-use Rattle.go_denote_core.specs.declared.things.Builtin.TheVariants as builtins
-use Rattle.go_denote_core.specs.declared.things.Denoted.{Denoted}
-use Rattle.go_denote_core.specs.declared.things.Denoted.TheVariants as denotes
-use Rattle.go_denote_core.specs.Arguments.{is_refused}
+use Rattle.go_term_core.specs.text_core.declared.rule.Rule.{Rule}
+use Rattle.go_term_core.specs.text_core.declared.rule.Rule.TheVariants.{Y3, Y8}
+use Rattle.go_expr_core.specs.operand_core.declared.types.Operand.{Operand}
+use Rattle.go_expr_core.specs.operand_core.TypeRules.{TypeRules}
+use Rattle.go_expr_core.specs.operand_core.Conversions.{is_condition}
+use Rattle.go_expr_core.specs.denote_core.declared.things.Builtin.TheVariants as builtins
+use Rattle.go_expr_core.specs.denote_core.declared.things.Denoted.{Denoted}
+use Rattle.go_expr_core.specs.denote_core.declared.things.Denoted.TheVariants as denotes
+use Rattle.go_expr_core.specs.denote_core.Arguments.{is_refused}
 
 -- what may be called for a statement: no type, and not `len`
 abbrev pub is_statement : {T S D : Type 0} → Denoted T S D → Bool

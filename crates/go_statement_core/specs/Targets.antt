@@ -2,10 +2,10 @@
 --
 -- docs/RULES.md, "Assignments, declarations, returns, statements". The Go specification, "Assignment statements".
 use Rattle.std.specs.Prelude.{Bool, true, false}
-use Rattle.go_denote_core.specs.operand_core.declared.types.ValueType.{ValueType}
-use Rattle.go_denote_core.specs.operand_core.declared.types.ValueType.TheVariants as value_types
-use Rattle.go_denote_core.specs.declared.things.Denoted.{Denoted}
-use Rattle.go_denote_core.specs.declared.things.Denoted.TheVariants as denotes
+use Rattle.go_expr_core.specs.operand_core.declared.types.ValueType.{ValueType}
+use Rattle.go_expr_core.specs.operand_core.declared.types.ValueType.TheVariants as value_types
+use Rattle.go_expr_core.specs.denote_core.declared.things.Denoted.{Denoted}
+use Rattle.go_expr_core.specs.denote_core.declared.things.Denoted.TheVariants as denotes
 use Rattle.go_statement_core.specs.declared.targets.Target.{Target}
 use Rattle.go_statement_core.specs.declared.targets.Target.TheVariants as targets
 

@@ -2,15 +2,15 @@
 --
 -- docs/RULES.md, "Assignments, declarations, returns, statements". The Go specification, "Assignment statements", "IncDec statements".
 use Rattle.std.specs.Prelude.{Option, Some, None}
-use Rattle.go_text_core.specs.declared.rule.Rule.{Rule}
-use Rattle.go_text_core.specs.declared.rule.Rule.TheVariants.{X1}
-use Rattle.go_token_core.specs.declared.kind.Operator.{Operator}
-use Rattle.go_token_core.specs.declared.kind.Operator.TheVariants as operators
-use Rattle.go_denote_core.specs.operand_core.declared.types.Operand.{Operand}
-use Rattle.go_denote_core.specs.operand_core.TypeRules.{TypeRules}
-use Rattle.go_denote_core.specs.operand_core.Updates.{update, increment}
-use Rattle.go_denote_core.specs.declared.things.Argument.{Argument}
-use Rattle.go_denote_core.specs.declared.things.Argument.TheVariants as arguments
+use Rattle.go_term_core.specs.text_core.declared.rule.Rule.{Rule}
+use Rattle.go_term_core.specs.text_core.declared.rule.Rule.TheVariants.{X1}
+use Rattle.go_expr_core.specs.token_core.declared.kind.Operator.{Operator}
+use Rattle.go_expr_core.specs.token_core.declared.kind.Operator.TheVariants as operators
+use Rattle.go_expr_core.specs.operand_core.declared.types.Operand.{Operand}
+use Rattle.go_expr_core.specs.operand_core.TypeRules.{TypeRules}
+use Rattle.go_expr_core.specs.operand_core.Updates.{update, increment}
+use Rattle.go_expr_core.specs.denote_core.declared.things.Argument.{Argument}
+use Rattle.go_expr_core.specs.denote_core.declared.things.Argument.TheVariants as arguments
 
 -- bit operators and shifts are outside whatever they stand between
 abbrev pub bits_rule : Operator → Option Rule

@@ -1,19 +1,19 @@
 -- Statements, worked out.
 use Rattle.std.specs.Prelude.{◌≡◌, true, false, List, [], ◌∷◌, Some, None, pos}
-use Rattle.go_text_core.specs.declared.rule.Rule.TheVariants.{Y3, Y4, Y7, Y8, X1}
-use Rattle.go_token_core.specs.declared.kind.Operator.TheVariants as operators
-use Rattle.go_denote_core.specs.constant_core.declared.values.Constant.{Constant}
-use Rattle.go_denote_core.specs.constant_core.declared.values.Constant.TheVariants as constant
-use Rattle.go_denote_core.specs.operand_core.declared.types.ValueType.{ValueType}
-use Rattle.go_denote_core.specs.operand_core.declared.types.ValueType.TheVariants as value_types
-use Rattle.go_denote_core.specs.operand_core.declared.types.Operand.{Operand}
-use Rattle.go_denote_core.specs.declared.things.Builtin.TheVariants as builtins
-use Rattle.go_denote_core.specs.declared.things.Argument.{Argument}
-use Rattle.go_denote_core.specs.declared.things.Argument.TheVariants as arguments
-use Rattle.go_denote_core.specs.declared.things.Denoted.{Denoted}
-use Rattle.go_denote_core.specs.declared.things.Denoted.TheVariants as denotes
-use Rattle.go_denote_core.specs.Look.{Look}
-use Rattle.go_denote_core.specs.Arguments.{arguments_of, is_free}
+use Rattle.go_term_core.specs.text_core.declared.rule.Rule.TheVariants.{Y3, Y4, Y7, Y8, X1}
+use Rattle.go_expr_core.specs.token_core.declared.kind.Operator.TheVariants as operators
+use Rattle.go_expr_core.specs.constant_core.declared.values.Constant.{Constant}
+use Rattle.go_expr_core.specs.constant_core.declared.values.Constant.TheVariants as constant
+use Rattle.go_expr_core.specs.operand_core.declared.types.ValueType.{ValueType}
+use Rattle.go_expr_core.specs.operand_core.declared.types.ValueType.TheVariants as value_types
+use Rattle.go_expr_core.specs.operand_core.declared.types.Operand.{Operand}
+use Rattle.go_expr_core.specs.denote_core.declared.things.Builtin.TheVariants as builtins
+use Rattle.go_expr_core.specs.denote_core.declared.things.Argument.{Argument}
+use Rattle.go_expr_core.specs.denote_core.declared.things.Argument.TheVariants as arguments
+use Rattle.go_expr_core.specs.denote_core.declared.things.Denoted.{Denoted}
+use Rattle.go_expr_core.specs.denote_core.declared.things.Denoted.TheVariants as denotes
+use Rattle.go_expr_core.specs.denote_core.Look.{Look}
+use Rattle.go_expr_core.specs.denote_core.Arguments.{arguments_of, is_free}
 use Rattle.go_statement_core.specs.declared.targets.Target.TheVariants as targets
 use Rattle.go_statement_core.specs.Targets.{target_of}
 use Rattle.go_statement_core.specs.Assignments.{assignment_rule}
@@ -22,7 +22,7 @@ use Rattle.go_statement_core.specs.Constants.{answer, constants_rule, constant_a
 use Rattle.go_statement_core.specs.Returns.{return_rule}
 use Rattle.go_statement_core.specs.Statements.{statement_rule, condition_rule}
 use Rattle.go_statement_core.specs.Updates.{update_rule}
-use Rattle.go_denote_core.specs.operand_core.Variables.{operand}
+use Rattle.go_expr_core.specs.operand_core.Variables.{operand}
 
 -- `1`
 abbrev pub sample_one : {T : Type 0} → Operand T

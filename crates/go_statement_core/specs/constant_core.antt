@@ -1,2 +1,2 @@
 -- What the crates above name of go_constant_core.
-pub use Rattle.go_denote_core.specs.constant_core.declared as declared
+pub use Rattle.go_expr_core.specs.constant_core.declared as declared

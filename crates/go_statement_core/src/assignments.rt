@@ -4,9 +4,9 @@ ghost use Rattle.std.specs.List.{list_all};
 ghost use Rattle.go_statement_core.specs.Assignments as assignments;
 
 use crate::targets::Target;
-use go_denote_core::operand_core::{TypeLooks, ValueType};
-use go_denote_core::{Argument, fits_type};
-use go_text_core::Rule;
+use go_expr_core::denote_core::{Argument, fits_type};
+use go_expr_core::operand_core::{TypeLooks, ValueType};
+use go_term_core::text_core::Rule;
 use std::alloc::{AllocError, Global};
 
 fn has_type<T: Drop>(value_type: &ValueType<T>) -> bool
@@ -96,8 +96,8 @@ pub(crate) fn unless(is_well: bool) -> Option<Rule>
 /// The rule that an assignment or a short variable declaration breaks, if it breaks one: Y4.
 ///
 /// The targets are those left of `=` or `:=`, in their order; a name left of `:=` that is declared there is [`Target::New`]. What is given
-/// is what [`go_denote_core::arguments_of`] makes of the list on the right, and nothing is known of it where
-/// [`go_denote_core::is_free`] says so.
+/// is what [`go_expr_core::denote_core::arguments_of`] makes of the list on the right, and nothing is known of it where
+/// [`go_expr_core::denote_core::is_free`] says so.
 ///
 /// Each target is `_`, a new variable or addressable; there is a value for each, of the type of an addressable operand or assignable to
 /// it; `_` and a new variable take each value that has a type, a default type included, so no `nil`. What is refused, and a target

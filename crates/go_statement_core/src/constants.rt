@@ -3,12 +3,12 @@ ghost use Rattle.std.specs.Prelude.{◌≡◌, IfOk};
 ghost use Rattle.std.specs.List.{list_all};
 ghost use Rattle.go_statement_core.specs.Constants as constants;
 
-use go_denote_core::Argument;
-use go_denote_core::constant_core::Constant;
-use go_denote_core::operand_core::{
+use go_expr_core::constant_core::Constant;
+use go_expr_core::denote_core::Argument;
+use go_expr_core::operand_core::{
     Operand, TypeLooks, ValueType, assignable_to, basic_under, form_basic,
 };
-use go_text_core::Rule;
+use go_term_core::text_core::Rule;
 use std::alloc::{AllocError, Global};
 
 /// What a constant is declared as.

@@ -1,15 +1,15 @@
 //! Declarations of variables.
 ghost use Rattle.std.specs.Prelude.{◌≡◌, IfOk, Some, length, map, replicate};
 ghost use Rattle.std.specs.List.{list_all};
-ghost use Rattle.go_denote_core.specs.declared.things.Argument.TheVariants as arguments;
+ghost use Rattle.go_expr_core.specs.denote_core.declared.things.Argument.TheVariants as arguments;
 ghost use Rattle.go_statement_core.specs.Assignments as assignments;
 ghost use Rattle.go_statement_core.specs.Declarations as declarations;
 
 use crate::assignments::{takes, unless};
 use crate::targets::Target;
-use go_denote_core::Argument;
-use go_denote_core::operand_core::{TypeLooks, default_type};
-use go_text_core::Rule;
+use go_expr_core::denote_core::Argument;
+use go_expr_core::operand_core::{TypeLooks, default_type};
+use go_term_core::text_core::Rule;
 use std::alloc::{AllocError, Global};
 
 /// A type once more, or none where there is none.

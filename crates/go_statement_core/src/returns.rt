@@ -4,9 +4,9 @@ ghost use Rattle.go_statement_core.specs.Assignments as assignments;
 ghost use Rattle.go_statement_core.specs.Returns as returns;
 
 use crate::assignments::unless;
-use go_denote_core::operand_core::TypeLooks;
-use go_denote_core::{Argument, fits_type};
-use go_text_core::Rule;
+use go_expr_core::denote_core::{Argument, fits_type};
+use go_expr_core::operand_core::TypeLooks;
+use go_term_core::text_core::Rule;
 use std::alloc::{AllocError, Global};
 
 fn returned<E: TypeLooks>(
@@ -42,7 +42,7 @@ fn all_returned<E: TypeLooks>(
 
 /// The rule that a `return` breaks, if it breaks one: Y4.
 ///
-/// The results are those of the function, none where one has no type; what is given is what [`go_denote_core::arguments_of`] makes of the
+/// The results are those of the function, none where one has no type; what is given is what [`go_expr_core::denote_core::arguments_of`] makes of the
 /// list behind `return`, and nothing where there is none. Without values a `return` stands where the function has no results, or has
 /// names for them. Else there is a value for each result, which is assignable to it. What is refused, and a result without a type, break
 /// no rule, but count, unless nothing is known of the values. The Go specification, "Return statements".

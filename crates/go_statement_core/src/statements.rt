@@ -2,9 +2,9 @@
 ghost use Rattle.std.specs.Prelude.{◌≡◌};
 ghost use Rattle.go_statement_core.specs.Statements as statements;
 
-use go_denote_core::operand_core::{Operand, TypeLooks, is_condition};
-use go_denote_core::{Builtin, Denoted, is_refused};
-use go_text_core::Rule;
+use go_expr_core::denote_core::{Builtin, Denoted, is_refused};
+use go_expr_core::operand_core::{Operand, TypeLooks, is_condition};
+use go_term_core::text_core::Rule;
 
 fn is_statement<T: Drop, S: Drop, D: Drop>(callee: &Denoted<T, S, D>) -> bool
     ensures { result ≡ statements.is_statement callee.now }

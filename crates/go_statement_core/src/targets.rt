@@ -2,8 +2,8 @@
 ghost use Rattle.std.specs.Prelude.{◌≡◌};
 ghost use Rattle.go_statement_core.specs.Targets as targets;
 
-use go_denote_core::Denoted;
-use go_denote_core::operand_core::ValueType;
+use go_expr_core::denote_core::Denoted;
+use go_expr_core::operand_core::ValueType;
 
 /// What a value is given to.
 #[derive(Drop)]
@@ -37,7 +37,7 @@ fn target_of_value<T: Drop>(is_addressable: bool, value_type: ValueType<T>) -> T
 /// and no expression.
 ///
 /// What is no single value is [`Target::Fixed`] where it stands alone; in a list of several it has a rule of its own, which
-/// [`go_denote_core::single_rule`] gives, and is [`Target::Typeless`] as all that is refused. The Go specification, "Assignment statements": each
+/// [`go_expr_core::denote_core::single_rule`] gives, and is [`Target::Typeless`] as all that is refused. The Go specification, "Assignment statements": each
 /// left-hand side operand must be addressable, a map index expression, or the blank identifier; there are no maps here.
 pub fn target_of<T: Drop, S: Drop, D: Drop>(denoted: Denoted<T, S, D>, is_alone: bool) -> Target<T>
     ensures { result ≡ targets.target_of denoted is_alone }

@@ -2,10 +2,10 @@
 ghost use Rattle.std.specs.Prelude.{◌≡◌, IfOk};
 ghost use Rattle.go_statement_core.specs.Updates as updates;
 
-use go_denote_core::Argument;
-use go_denote_core::operand_core::{Operand, TypeLooks, increment, update};
-use go_text_core::Rule;
-use go_token_core::Operator;
+use go_expr_core::denote_core::Argument;
+use go_expr_core::operand_core::{Operand, TypeLooks, increment, update};
+use go_expr_core::token_core::Operator;
+use go_term_core::text_core::Rule;
 use std::alloc::{AllocError, Global};
 
 fn bits_rule(operator: Operator) -> Option<Rule>
@@ -39,7 +39,7 @@ fn update_value<E: TypeLooks>(
 
 /// The rule that `x op= y` breaks as a statement, if it breaks one; the operator is the token, as `+=`.
 ///
-/// Of two values, what [`go_denote_core::operand_core::update`] says. Beside an operand that is refused, or no single value, which has a rule of
+/// Of two values, what [`go_expr_core::operand_core::update`] says. Beside an operand that is refused, or no single value, which has a rule of
 /// its own, X1 for a bit operator or a shift, and else none. The Go specification, "Assignment statements".
 ///
 /// # Errors
@@ -60,7 +60,7 @@ pub fn update_rule<E: TypeLooks>(
     }
 }
 
-/// The rule that `x++` or `x--` breaks as a statement, if it breaks one: what [`go_denote_core::operand_core::increment`] says of a value. What is
+/// The rule that `x++` or `x--` breaks as a statement, if it breaks one: what [`go_expr_core::operand_core::increment`] says of a value. What is
 /// refused, or no single value, which has a rule of its own, breaks none. The Go specification, "IncDec statements".
 ///
 /// # Errors

@@ -1,9 +1,9 @@
 -- What published batches come to, in the words of modules and files.
 use Rattle.std.specs.Prelude.{◌≡◌, ℕ, if◌then◌else◌, List, [], ◌∷◌, ◌++◌, Option, All}
 use Rattle.std.specs.List.{fold}
-use Rattle.go_graph_core.specs.Sources.{SourceModel}
-use Rattle.go_graph_core.specs.Workspaces.{PackageModel, IsWorkspace, files_at, is_path_inside, replaced}
-use Rattle.go_thread_core.specs.snap_core.Snapshots.{SnapshotModel}
+use Rattle.go_snap_core.specs.graph_core.Sources.{SourceModel}
+use Rattle.go_snap_core.specs.graph_core.Workspaces.{PackageModel, IsWorkspace, files_at, is_path_inside, replaced}
+use Rattle.go_snap_core.specs.Snapshots.{SnapshotModel}
 use Rattle.go_submit_core.specs.Published.{IsOneWorker, sources_of}
 use Rattle.go_submit_core.specs.Submitted.{submitted}
 use Rattle.go_submit_core.specs.declared.submission.Submission.{Submission}

@@ -5,10 +5,4 @@ pub mod Published
 pub mod Submitted
 pub mod Trees
 pub mod mirrors
-pub mod block_core
-pub mod make_core
 pub mod part_core
-pub mod snap_core
-pub mod summary_core
-pub mod thread_core_lemmas
-pub mod whole_core

@@ -4,8 +4,8 @@ use Rattle.std.specs.List.{list_any, list_all, starts_with, ends_with}
 use Rattle.std.specs.Coded.{Coded, code_by, coded×, coded_list, coded_ℕ}
 use Rattle.go_text_core.specs.declared.rule.Rule.{Rule}
 use Rattle.go_text_core.specs.declared.rule.Rule.TheVariants.{E1, E2, E3, E4, E5}
-use Rattle.go_graph_core.specs.Sources.{SourceModel}
-use Rattle.go_graph_core.specs.Workspaces.{PackageModel, coded_package, is_path_inside}
+use Rattle.go_snap_core.specs.graph_core.Sources.{SourceModel}
+use Rattle.go_snap_core.specs.graph_core.Workspaces.{PackageModel, coded_package, is_path_inside}
 
 pub record TreeModel : Type 0 where
   pub own : List ℕ

@@ -1,4 +1,2 @@
 -- What the crates above name of go_part_core.
-pub use Rattle.go_thread_core.specs.part_core.Inputs as Inputs
-pub use Rattle.go_thread_core.specs.part_core.Parts as Parts
-pub use Rattle.go_thread_core.specs.part_core.contracts as contracts
+pub use Rattle.go_snap_core.specs.part_core.Parts as Parts

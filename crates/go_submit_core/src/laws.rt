@@ -1,7 +1,7 @@
 //! Laws of published batches, with nothing to run.
 ghost use Rattle.go_submit_core.specs.Laws.{BatchesReplace, LastTrees, OneWorker, SubmissionsReplace};
 
-use go_thread_core::snap_core::one_snapshot;
+use go_snap_core::one_snapshot;
 
 /// A batch replaces the packages of its modules and leaves all others.
 pub fn batches_replace()

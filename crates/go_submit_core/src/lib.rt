@@ -18,22 +18,7 @@ pub use published::PublishedBatch;
 pub use submission::{Submission, Submissions, Ticket, has_ticket};
 pub use tree_rules::{MAX_FILES, MAX_PACKAGES, MAX_TEXT};
 
-/// What the crates above name of `go_make_core`.
-pub mod make_core {
-    pub use go_thread_core::make_core::{Told, input_of, package_of};
-}
-
 /// What the crates above name of `go_part_core`.
 pub mod part_core {
-    pub use go_thread_core::part_core::{Part, PartInput, Parts, compile_part};
-}
-
-/// What the crates above name of `go_snap_core`.
-pub mod snap_core {
-    pub use go_thread_core::snap_core::{SharedSnapshot, Snapshot, join_parts};
-}
-
-/// What the crates above name of `go_whole_core`.
-pub mod whole_core {
-    pub use go_thread_core::whole_core::{inputs_stay, parts_come_in_order};
+    pub use go_snap_core::part_core::Part;
 }

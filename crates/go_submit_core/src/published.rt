@@ -1,6 +1,6 @@
 //! Batches that were published.
 use crate::submission::Submissions;
-use go_thread_core::snap_core::SharedSnapshot;
+use go_snap_core::SharedSnapshot;
 
 /// A batch that was published: what was submitted, in order, and the snapshot of all that was published up to it. Both are shared.
 #[derive(Drop)]

@@ -2,3 +2,4 @@
 pub use Rattle.go_alike_core.specs.embed_core.Faults as Faults
 pub use Rattle.go_alike_core.specs.embed_core.Owners as Owners
 pub use Rattle.go_alike_core.specs.embed_core.Telling as Telling
+pub use Rattle.go_alike_core.specs.embed_core.declared as declared

@@ -28,30 +28,71 @@ pub mod alike_core {
 
 /// What the crates above name of `go_block_core`.
 pub mod block_core {
-    pub use go_alike_core::block_core::{Blocks, Imported, blocks, import_names};
+    pub use go_alike_core::block_core::{
+        Binding, BlockFault, Blocks, DeclKind, DeclRef, Imported, NamedDecl, Target, blocks,
+        import_names, import_specs, one_blocks_alone, workspace_blocks,
+    };
 }
 
-/// What the crates above name of `go_denote_core`.
-pub mod denote_core {
-    pub use go_alike_core::denote_core::Outcome;
+/// What the crates above name of `go_embed_core`.
+pub mod embed_core {
+    pub use go_alike_core::embed_core::{
+        Hits, MemberFault, check_base, check_hidden_fields, check_methods, check_struct,
+    };
+}
+
+/// What the crates above name of `go_entry_core`.
+pub mod entry_core {
+    pub use go_alike_core::entry_core::{FileNames, ImportedNames};
 }
 
 /// What the crates above name of `go_face_core`.
 pub mod face_core {
-    pub use go_alike_core::face_core::{Face, FaceTable, lend};
+    pub use go_alike_core::face_core::{
+        DeclaredFace, Face, FaceTable, PackageFaces, ShownFace, WrittenFaces, hold, lend,
+        written_faces,
+    };
 }
 
 /// What the crates above name of `go_graph_core`.
 pub mod graph_core {
-    pub use go_alike_core::graph_core::Package;
+    pub use go_alike_core::graph_core::{
+        ImportAt, ImportOutcome, Package, PackageSource, Plan, SourceFile, Workspace, assemble,
+        one_outcome, plan_imports,
+    };
+}
+
+/// What the crates above name of `go_handle_core`.
+pub mod handle_core {
+    pub use go_alike_core::handle_core::{Decl, DeclSite, Home, SignatureRef, TypeRef};
+}
+
+/// What the crates above name of `go_mset_core`.
+pub mod mset_core {
+    pub use go_alike_core::mset_core::{implements, implements_by_pointer, method_set};
+}
+
+/// What the crates above name of `go_parse_core`.
+pub mod parse_core {
+    pub use go_alike_core::parse_core::{ParseError, Parsed, one_rule, one_tree, parse, tree_of};
 }
 
 /// What the crates above name of `go_select_core`.
 pub mod select_core {
-    pub use go_alike_core::select_core::EmbedPath;
+    pub use go_alike_core::select_core::{EmbedPath, Member, Owner, Selected, select, selectable};
 }
 
 /// What the crates above name of `go_table_core`.
 pub mod table_core {
-    pub use go_alike_core::table_core::{DeclaredMethod, DefinedType, TypeTable};
+    pub use go_alike_core::table_core::{TypeEntry, TypeTable};
+}
+
+/// What the crates above name of `go_type_core`.
+pub mod type_core {
+    pub use go_alike_core::type_core::{PackageTypes, TypeFault, TypeTable, build_types};
+}
+
+/// What the crates above name of `go_written_core`.
+pub mod written_core {
+    pub use go_alike_core::written_core::TypeNames;
 }

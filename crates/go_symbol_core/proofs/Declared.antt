@@ -5,11 +5,11 @@ use Rattle.std.specs.List.{flat_map}
 use Rattle.std.proofs.lemmas.List.Elements.{All-append, All-cons, All-filter, All-head, All-push, All-tail}
 use Rattle.std.proofs.lemmas.Option.{slice_get-get_or}
 use Rattle.go_tree_nodes.specs.Trees.{FileTree}
-use Rattle.go_decl_core.specs.declared.keys.DeclRef.{DeclRef}
-use Rattle.go_decl_core.specs.TopDecls.{TopDeclTree, kind_of_form, top_decls}
-use Rattle.go_graph_core.specs.Packages.{AllHaveTrees, HasNoClause, Trees, trees_of}
-use Rattle.go_graph_core.specs.Sources.{SourceModel}
-use Rattle.go_graph_core.proofs.Assemblies.{one_more, tree_of}
+use Rattle.go_block_core.specs.decl_core.declared.keys.DeclRef.{DeclRef}
+use Rattle.go_block_core.specs.decl_core.TopDecls.{TopDeclTree, kind_of_form, top_decls}
+use Rattle.go_block_core.specs.graph_core.Packages.{AllHaveTrees, HasNoClause, Trees, trees_of}
+use Rattle.go_block_core.specs.graph_core.Sources.{SourceModel}
+use Rattle.go_block_core.specs.graph_core.Assemblies.{one_more, tree_of}
 use Rattle.go_block_core.specs.Declarations.{PackageDeclaration, decl_ref, declaration, file_declared, files_declared, is_bindable, is_method_form, package_declared, top_declared, unless_method}
 use Rattle.go_block_core.specs.Exports.{exported_names}
 use Rattle.go_block_core.specs.Holding.{declared_block, package_block, with_declared}

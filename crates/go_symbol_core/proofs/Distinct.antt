@@ -7,8 +7,8 @@ use Rattle.std.specs.Map.{lookup}
 use Rattle.std.specs.Str.{bytes_eq}
 use Rattle.std.proofs.lemmas.Slice.Eq.{bytes_eq-Decides}
 use Rattle.std.proofs.lemmas.Map.Keys.{IsDistinct-cons, IsDistinct-head, IsDistinct-push, IsDistinct-tail}
-use Rattle.go_decl_core.specs.declared.keys.DeclRef.{DeclRef}
-use Rattle.go_graph_core.specs.Packages.{Trees}
+use Rattle.go_block_core.specs.decl_core.declared.keys.DeclRef.{DeclRef}
+use Rattle.go_block_core.specs.graph_core.Packages.{Trees}
 use Rattle.go_block_core.specs.Declarations.{PackageDeclaration, is_bindable, package_declared}
 use Rattle.go_block_core.specs.Exports.{exported_names}
 use Rattle.go_block_core.specs.Holding.{declared_block, package_block, with_declared}

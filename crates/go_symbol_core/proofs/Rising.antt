@@ -7,12 +7,12 @@ use Rattle.std.proofs.lemmas.List.Elements.{All-cons, All-weaker}
 use Rattle.std.proofs.lemmas.List.Kept.{AllPairs-cons}
 use Rattle.std.proofs.lemmas.Option.{get_or_from_slice_get, slice_get_within}
 use Rattle.go_tree_nodes.specs.Trees.{FileTree}
-use Rattle.go_decl_core.specs.Laws.{KnownDecl, if_whole, known, wholes}
-use Rattle.go_decl_core.specs.Outer.{Embedded, Manner, Outer, Part, Whole, outer_names}
-use Rattle.go_decl_core.specs.Shown.{decl_shown}
-use Rattle.go_decl_core.specs.TopDecls.{TopDeclTree, top_decls}
-use Rattle.go_decl_core.specs.declared.tops.TopDecl.{TopDecl}
-use Rattle.go_decl_core.proofs.Numbers.{numbers_are_places}
+use Rattle.go_block_core.specs.decl_core.Laws.{KnownDecl, if_whole, known, wholes}
+use Rattle.go_block_core.specs.decl_core.Outer.{Embedded, Manner, Outer, Part, Whole, outer_names}
+use Rattle.go_block_core.specs.decl_core.Shown.{decl_shown}
+use Rattle.go_block_core.specs.decl_core.TopDecls.{TopDeclTree, top_decls}
+use Rattle.go_block_core.specs.decl_core.declared.tops.TopDecl.{TopDecl}
+use Rattle.go_block_core.specs.decl_core.Numbers.{numbers_are_places}
 use Rattle.go_symbol_core.specs.mirrors.Docs.{AreRising, HasNumber, HasNumberAt}
 
 -- the table's numbers rise

@@ -4,19 +4,19 @@ use Rattle.std.specs.Prelude.{option_map}
 use Rattle.std.specs.List.{AllZip}
 use Rattle.std.proofs.lemmas.List.{length-map, map-append, take_more}
 use Rattle.std.proofs.lemmas.Option.{get_or_from_slice_get, same_Some, slice_get-get_or, slice_get-map, slice_get_within}
-use Rattle.go_token_core.specs.declared.token.Comment.{Comment}
+use Rattle.go_tree_nodes.specs.token_core.declared.token.Comment.{Comment}
 use Rattle.go_doc_core.specs.DocComments.{IsDocComment}
 use Rattle.go_tree_nodes.specs.Trees.{FileTree}
-use Rattle.go_decl_core.specs.Shown.{decl_shown}
-use Rattle.go_decl_core.specs.TopDecls.{TopDeclTree, top_decls}
-use Rattle.go_decl_core.specs.declared.tops.TopDecl.{TopDecl}
-use Rattle.go_decl_core.specs.declared.anchoring.Anchor.{Anchor}
-use Rattle.go_decl_core.specs.declared.keys.DeclRef.{DeclRef}
-use Rattle.go_decl_core.proofs.AnchorLemmas.{anchors_are_of_declarations}
-use Rattle.go_decl_core.proofs.Numbers.{numbers_are_places}
-use Rattle.go_graph_core.specs.parse_core.declared.error.SynFault.{SynFault}
-use Rattle.go_graph_core.specs.Sources.{SourceModel}
-use Rattle.go_graph_core.proofs.Zips.{zip_append}
+use Rattle.go_block_core.specs.decl_core.Shown.{decl_shown}
+use Rattle.go_block_core.specs.decl_core.TopDecls.{TopDeclTree, top_decls}
+use Rattle.go_block_core.specs.decl_core.declared.tops.TopDecl.{TopDecl}
+use Rattle.go_block_core.specs.decl_core.declared.anchoring.Anchor.{Anchor}
+use Rattle.go_block_core.specs.decl_core.declared.keys.DeclRef.{DeclRef}
+use Rattle.go_block_core.specs.decl_core.AnchorLemmas.{anchors_are_of_declarations}
+use Rattle.go_block_core.specs.decl_core.Numbers.{numbers_are_places}
+use Rattle.go_block_core.specs.parse_core.declared.error.SynFault.{SynFault}
+use Rattle.go_block_core.specs.graph_core.Sources.{SourceModel}
+use Rattle.go_block_core.specs.graph_core.Zips.{zip_append}
 use Rattle.go_block_core.specs.declared.exports.NamedDecl.{NamedDecl}
 use Rattle.go_block_core.specs.Exports.{name_and_decl}
 use Rattle.go_symbol_core.specs.Symbols.{IsSymbolOf, SymbolOf, comments_found}

@@ -15,11 +15,11 @@ use Rattle.std.proofs.lemmas.List.Sorted.{Contains-permutation, IsPermutation-ma
 use Rattle.std.proofs.lemmas.Map.Keys.{IsDistinct-IsPermutation, apart_from_distinct, sorted_from_all_adjacent}
 use Rattle.std.proofs.lemmas.Option.{get_or_from_slice_get, slice_get-get_or, slice_get_within}
 use Rattle.std.proofs.lemmas.Slice.Eq.{bytes_eq-Decides}
-use Rattle.go_decl_core.specs.declared.keys.DeclRef.{DeclRef}
-use Rattle.go_graph_core.specs.Sources.{SourceModel}
-use Rattle.go_graph_core.specs.Workspaces.{by_bytes}
-use Rattle.go_graph_core.proofs.Places.{equal_texts}
-use Rattle.go_graph_core.proofs.Zips.{zip_at, zip_back}
+use Rattle.go_block_core.specs.decl_core.declared.keys.DeclRef.{DeclRef}
+use Rattle.go_block_core.specs.graph_core.Sources.{SourceModel}
+use Rattle.go_block_core.specs.graph_core.Workspaces.{by_bytes}
+use Rattle.go_block_core.specs.graph_core.Places.{equal_texts}
+use Rattle.go_block_core.specs.graph_core.Zips.{zip_at, zip_back}
 use Rattle.go_symbol_core.specs.declared.symbols.Symbol.{Symbol}
 use Rattle.go_symbol_core.specs.Symbols.{AreSymbols, IsSymbolOf, SymbolOf, symbol_shown}
 use Rattle.go_symbol_core.proofs.Distinct.{AreApart, bytes_eq_flips}

@@ -3,18 +3,18 @@
 -- The Go specification, "Declarations and scope"; "Go Doc Comments".
 use Rattle.std.specs.Prelude.{◌≡◌, ℕ, List, [], Result, Ok, Err, Some, All, Contains, map, slice_get}
 use Rattle.std.specs.List.Sorted.{IsStrictlySortedBy}
-use Rattle.go_token_core.specs.declared.token.Comment.{Comment}
-use Rattle.go_token_core.specs.declared.token.LexFault.{LexFault}
-use Rattle.go_scan_core.specs.Cutting.{comments_of}
+use Rattle.go_tree_nodes.specs.token_core.declared.token.Comment.{Comment}
+use Rattle.go_tree_nodes.specs.token_core.declared.token.LexFault.{LexFault}
+use Rattle.go_doc_core.specs.scan_core.Cutting.{comments_of}
 use Rattle.go_doc_core.specs.DocComments.{IsDocComment}
 use Rattle.go_tree_nodes.specs.Trees.{FileTree}
-use Rattle.go_decl_core.specs.Anchors.{anchors_of}
-use Rattle.go_decl_core.specs.TopDecls.{TopDeclTree, top_decls}
-use Rattle.go_decl_core.specs.declared.anchoring.Anchor.{Anchor}
-use Rattle.go_decl_core.specs.declared.keys.DeclRef.{DeclRef}
-use Rattle.go_decl_core.specs.declared.places.DeclKind.{DeclKind}
-use Rattle.go_graph_core.specs.Sources.{SourceModel}
-use Rattle.go_graph_core.specs.Workspaces.{by_bytes}
+use Rattle.go_block_core.specs.decl_core.Anchors.{anchors_of}
+use Rattle.go_block_core.specs.decl_core.TopDecls.{TopDeclTree, top_decls}
+use Rattle.go_block_core.specs.decl_core.declared.anchoring.Anchor.{Anchor}
+use Rattle.go_block_core.specs.decl_core.declared.keys.DeclRef.{DeclRef}
+use Rattle.go_block_core.specs.decl_core.declared.places.DeclKind.{DeclKind}
+use Rattle.go_block_core.specs.graph_core.Sources.{SourceModel}
+use Rattle.go_block_core.specs.graph_core.Workspaces.{by_bytes}
 use Rattle.go_symbol_core.specs.declared.symbols.Symbol.{Symbol}
 
 -- a name, what it is, and its doc comment: empty where there is none

@@ -1,18 +1,18 @@
 //! What the doc comments of a file are read from.
 ghost use Rattle.std.specs.Prelude.{◌≡◌, ◌<◌, List, All, IfOk, length, map, nat_lt};
-ghost use Rattle.go_decl_core.specs.Shown.{decl_shown};
-ghost use Rattle.go_graph_core.specs.Sources.{SourceModel};
-ghost use Rattle.go_scan_core.specs.Texts.{CommentHasItsText};
-ghost use Rattle.go_scan_core.specs.Tokens.{CommentsInOrder};
+ghost use Rattle.go_block_core.specs.decl_core.Shown.{decl_shown};
+ghost use Rattle.go_block_core.specs.graph_core.Sources.{SourceModel};
+ghost use Rattle.go_doc_core.specs.scan_core.Texts.{CommentHasItsText};
+ghost use Rattle.go_doc_core.specs.scan_core.Tokens.{CommentsInOrder};
 ghost use Rattle.go_symbol_core.specs.Symbols.{comments_found, symbol_shown};
 ghost use Rattle.go_symbol_core.specs.mirrors.Docs.{AreDocsOf, AreRising, HasNumber, HasNumberAt, IsShownIn, docs_shown};
 
 use crate::symbols::Symbol;
-use go_decl_core::{Anchor, DeclRef, Outline, TopDecl, anchors, outline};
+use go_block_core::decl_core::{Anchor, DeclRef, Outline, TopDecl, anchors, outline};
+use go_block_core::graph_core::Package;
 use go_doc_core::doc_comment;
-use go_graph_core::Package;
-use go_scan_core::comments;
-use go_token_core::{Comment, ScanError};
+use go_doc_core::scan_core::comments;
+use go_tree_nodes::token_core::{Comment, ScanError};
 use std::alloc::{AllocError, Global};
 
 /// What the doc comments of a file are read from: its text, its declarations outside functions, where their comments are, and all its comments.

@@ -7,3 +7,8 @@ mod docs;
 mod symbols;
 
 pub use symbols::{Symbol, exported_symbols, own_symbols};
+
+/// What the crates above name of `go_block_core`.
+pub mod block_core {
+    pub use go_block_core::{DeclKey, DeclKind, DeclRef};
+}

@@ -3,18 +3,18 @@ ghost use Rattle.std.specs.Prelude.{◌≡◌, IfOk, map};
 ghost use Rattle.std.specs.List.{AllZip};
 ghost use Rattle.std.specs.List.Sorted.{IsPermutation, IsSortedBy};
 ghost use Rattle.std.specs.Ordering.{is_lt};
-ghost use Rattle.go_graph_core.specs.Packages.{trees_of};
-ghost use Rattle.go_graph_core.specs.Workspaces.{by_bytes};
+ghost use Rattle.go_block_core.specs.graph_core.Packages.{trees_of};
+ghost use Rattle.go_block_core.specs.graph_core.Workspaces.{by_bytes};
 ghost use Rattle.go_block_core.specs.Exports.{exported_names, name_and_decl};
 ghost use Rattle.go_block_core.specs.Holding.{package_block};
 ghost use Rattle.go_symbol_core.specs.Symbols.{AreSymbols, IsSymbolOf, symbol_shown};
 ghost use Rattle.go_symbol_core.specs.mirrors.Docs.{AreDeclaredIn};
 
 use crate::docs::{docs_for, docs_of};
+use go_block_core::decl_core::DeclKind;
+use go_block_core::graph_core::Package;
 use go_block_core::{Blocks, Exports, NamedDecl};
-use go_decl_core::DeclKind;
-use go_graph_core::Package;
-use go_text_core::add;
+use go_tree_nodes::text_core::add;
 use std::alloc::{AllocError, Global};
 use std::cmp::Ordering;
 

@@ -12,7 +12,7 @@ use Rattle.go_table_core.specs.declared.table.Numbered.{Numbered}
 use Rattle.go_table_core.specs.Tables.{ArePackageTypes, AreOthers}
 use Rattle.go_table_core.specs.mirrors.Holding.{packages_of, all_entries, package_at, AreKept, IsTable}
 use Rattle.go_table_core.proofs.Finding.{bytes_turned, none_there}
-use Rattle.go_settle_core.specs.term_core.Terms.{Term}
+use Rattle.go_term_core.specs.Terms.{Term}
 
 lookup_bytes : {Y : Type 0} (path : List ℕ) (es : List (String Y × Numbered)) → lookup (λ k. bytes_eq path (string_bytes k)) es ≡ lookup (bytes_eq path) (map (λ e. (string_bytes e.0, e.1)) es)
 lookup_bytes path [] = refl

@@ -2,10 +2,10 @@
 use Rattle.std.proofs.Common.{◌≡◌, ℕ, List, [], Option, Some, None, false, refl, sym}
 use Rattle.std.specs.Slice.{IsItemAt}
 use Rattle.std.specs.Borrow.{Bor}
-use Rattle.go_settle_core.specs.term_core.declared.term.FieldLine.{FieldLine}
-use Rattle.go_settle_core.specs.term_core.Terms.{NoType}
-use Rattle.go_settle_core.specs.term_core.Shapes.{line_with, line_shape, line_at, line_shapes}
-use Rattle.go_settle_core.specs.term_core.SameLists.{found, missing}
+use Rattle.go_term_core.specs.declared.term.FieldLine.{FieldLine}
+use Rattle.go_term_core.specs.Terms.{NoType}
+use Rattle.go_term_core.specs.Shapes.{line_with, line_shape, line_at, line_shapes}
+use Rattle.go_term_core.proofs.SameLists.{found, missing}
 use Rattle.go_table_core.specs.Shown.{line_shown}
 
 pub lined : (ls : List FieldLine) (n : ℕ) (r : Option (Bor FieldLine)) → IsItemAt ls n r → line_shown r ≡ line_at (line_shapes ls) n

@@ -4,9 +4,9 @@ use Rattle.std.specs.Prelude.{IsTrue, Contains}
 use Rattle.std.proofs.lemmas.Bool.{true≢false}
 use Rattle.std.proofs.lemmas.List.Elements.{Contains-append_left}
 use Rattle.go_settle_core.specs.decl_core.declared.keys.DeclKey.{DeclKey}
-use Rattle.go_settle_core.specs.term_core.declared.term.Basic.TheVariants as basics
-use Rattle.go_settle_core.specs.term_core.Terms.{Term, NoType, Predeclared, ErrorType, Defined, PointerTo, StructOf, InterfaceOf, term_keys}
-use Rattle.go_settle_core.specs.term_core.Identity.{Identical}
+use Rattle.go_term_core.specs.declared.term.Basic.TheVariants as basics
+use Rattle.go_term_core.specs.Terms.{Term, NoType, Predeclared, ErrorType, Defined, PointerTo, StructOf, InterfaceOf, term_keys}
+use Rattle.go_term_core.specs.Identity.{Identical}
 use Rattle.go_table_core.specs.Entries.{Entry, EntryLook, term_in, underlying_in, methods_in, declared_methods, members_keys}
 use Rattle.go_table_core.specs.Underlying.{IdenticalUnder}
 use Rattle.go_table_core.specs.Assign.{Assigned, AValue, ANil, AnInteger, AText, ABoolean, IsNamed, IsInterface, IsPointer, IsValueAssignable, identical, alike, implements_it, IsFitting, IsTermAssignable}

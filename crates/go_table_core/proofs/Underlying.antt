@@ -9,14 +9,14 @@ use Rattle.unicode.specs.Rows.{value_in}
 use Rattle.ucd_category.specs.GeneralCategoryRows.{general_category_rows}
 use Rattle.go_settle_core.specs.text_core.Text.{uppercase, exported, SameId}
 use Rattle.go_settle_core.specs.decl_core.declared.places.DeclKind.TheVariants as kinds
-use Rattle.go_settle_core.specs.term_core.declared.term.Basic.TheVariants as basics
-use Rattle.go_settle_core.specs.term_core.declared.term.Method.{Method}
-use Rattle.go_settle_core.specs.term_core.declared.term.MemberPlace.{MemberPlace}
-use Rattle.go_settle_core.specs.term_core.declared.term.MemberPlace.TheVariants as places
-use Rattle.go_settle_core.specs.term_core.Terms.{Term, NoType, Predeclared, ErrorType, Defined, PointerTo, StructOf, InterfaceOf, Methods, NoMethod, AMethod, Sign, SignOf, Terms, NoTerm, ATerm, term_list, sign_params, sign_results}
-use Rattle.go_settle_core.specs.term_core.Shapes.{sign_of, method_shapes}
-use Rattle.go_settle_core.specs.term_core.Identity.{Identical, IdenticalBy, HasAllBy, SameSignBy, SameTermsBy, IsMethod}
-use Rattle.go_settle_core.specs.term_core.mirrors.Alike.{HasAlike}
+use Rattle.go_term_core.specs.declared.term.Basic.TheVariants as basics
+use Rattle.go_term_core.specs.declared.term.Method.{Method}
+use Rattle.go_term_core.specs.declared.term.MemberPlace.{MemberPlace}
+use Rattle.go_term_core.specs.declared.term.MemberPlace.TheVariants as places
+use Rattle.go_term_core.specs.Terms.{Term, NoType, Predeclared, ErrorType, Defined, PointerTo, StructOf, InterfaceOf, Methods, NoMethod, AMethod, Sign, SignOf, Terms, NoTerm, ATerm, term_list, sign_params, sign_results}
+use Rattle.go_term_core.specs.Shapes.{sign_of, method_shapes}
+use Rattle.go_term_core.specs.Identity.{Identical, IdenticalBy, HasAllBy, SameSignBy, SameTermsBy, IsMethod}
+use Rattle.go_term_core.specs.mirrors.Alike.{HasAlike}
 use Rattle.go_table_core.specs.Entries.{underlying_in}
 use Rattle.go_table_core.specs.Underlying.{text_sign, error_method, IsErrorInterface, written_out, IdenticalUnder}
 use Rattle.go_table_core.specs.mirrors.Meeting.{AreErrors, MeetsError}

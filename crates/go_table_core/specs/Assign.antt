@@ -1,8 +1,8 @@
 -- Which values are assignable to variables of a type: the Go specification, "Assignability".
 use Rattle.std.specs.Prelude.{◌≡◌, ◌⊎◌, ⊤, Bool, true, false}
-use Rattle.go_settle_core.specs.term_core.declared.term.Basic.TheVariants as basics
-use Rattle.go_settle_core.specs.term_core.Terms.{Term, NoType, Predeclared, ErrorType, Defined, PointerTo, StructOf, InterfaceOf}
-use Rattle.go_settle_core.specs.term_core.Identity.{Identical}
+use Rattle.go_term_core.specs.declared.term.Basic.TheVariants as basics
+use Rattle.go_term_core.specs.Terms.{Term, NoType, Predeclared, ErrorType, Defined, PointerTo, StructOf, InterfaceOf}
+use Rattle.go_term_core.specs.Identity.{Identical}
 use Rattle.go_table_core.specs.Entries.{EntryLook, underlying_in}
 use Rattle.go_table_core.specs.Underlying.{IdenticalUnder}
 

@@ -6,10 +6,10 @@ use Rattle.go_settle_core.specs.text_core.Text.{exported}
 use Rattle.go_settle_core.specs.decl_core.contracts.places.DeclKind as decl_kind
 use Rattle.go_settle_core.specs.decl_core.declared.keys.DeclKey.{DeclKey}
 use Rattle.go_settle_core.specs.decl_core.declared.keys.DeclRef.{DeclRef}
-use Rattle.go_settle_core.specs.term_core.declared.term.MemberPlace.{MemberPlace}
+use Rattle.go_term_core.specs.declared.term.MemberPlace.{MemberPlace}
 use Rattle.go_settle_core.specs.declared.kind.Kind.{Kind}
 use Rattle.go_settle_core.specs.Settled.{kind_of_term}
-use Rattle.go_settle_core.specs.term_core.Terms.{Term, NoType, Predeclared, ErrorType, Defined, PointerTo, StructOf, InterfaceOf, Sign, term_keys, sign_keys}
+use Rattle.go_term_core.specs.Terms.{Term, NoType, Predeclared, ErrorType, Defined, PointerTo, StructOf, InterfaceOf, Sign, term_keys, sign_keys}
 
 -- a method that is declared: its name, its place, whether its receiver is a pointer, its signature
 pub record Member : Type 0 where

@@ -1,9 +1,9 @@
 -- Laws of tables of types.
 use Rattle.std.specs.Prelude.{◌≡◌, ◌⊎◌, ◌↔◌, Bool, true, IsTrue, List, [], ◌∷◌, ◌++◌, Some, None, Contains}
 use Rattle.go_settle_core.specs.decl_core.declared.keys.DeclKey.{DeclKey}
-use Rattle.go_settle_core.specs.term_core.declared.term.Basic.TheVariants as basics
-use Rattle.go_settle_core.specs.term_core.Terms.{Term, NoType, Predeclared, ErrorType, Defined, term_keys}
-use Rattle.go_settle_core.specs.term_core.Identity.{Identical, IdenticalBy}
+use Rattle.go_term_core.specs.declared.term.Basic.TheVariants as basics
+use Rattle.go_term_core.specs.Terms.{Term, NoType, Predeclared, ErrorType, Defined, term_keys}
+use Rattle.go_term_core.specs.Identity.{Identical, IdenticalBy}
 use Rattle.go_table_core.specs.Entries.{Entry, EntryLook, find_entry, underlying_in, declared_methods, members_keys, entry_keys}
 use Rattle.go_table_core.specs.Underlying.{IsErrorInterface, IdenticalUnder}
 use Rattle.go_table_core.specs.Assign.{Assigned, AValue, ANil, AnInteger, AText, ABoolean, IsNamed, IsInterface, IsPointer, IsType, IsTermAssignable}

@@ -10,4 +10,3 @@ pub mod Laws
 pub mod mirrors
 pub mod decl_core
 pub mod settle_core
-pub mod term_core

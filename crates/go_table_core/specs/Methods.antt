@@ -1,9 +1,9 @@
 -- Fields by their names, and which of them stand before a method: by file, then by place there.
 use Rattle.std.specs.Prelude.{ℕ, Bool, false, not, ◌&&◌, ◌||◌, List, nat_eq, nat_lt}
 use Rattle.std.specs.Str.{bytes_eq}
-use Rattle.go_settle_core.specs.term_core.declared.term.MemberPlace.{MemberPlace}
-use Rattle.go_settle_core.specs.term_core.declared.term.MemberPlace.TheVariants as places
-use Rattle.go_settle_core.specs.term_core.Terms.{Term, NoType, Predeclared, ErrorType, Defined, PointerTo, StructOf, InterfaceOf, Fields, NoField, AField}
+use Rattle.go_term_core.specs.declared.term.MemberPlace.{MemberPlace}
+use Rattle.go_term_core.specs.declared.term.MemberPlace.TheVariants as places
+use Rattle.go_term_core.specs.Terms.{Term, NoType, Predeclared, ErrorType, Defined, PointerTo, StructOf, InterfaceOf, Fields, NoField, AField}
 use Rattle.go_table_core.specs.Entries.{Member, same_id}
 
 -- a place stands before another of the package: by file, then by place there

@@ -1,6 +1,6 @@
 -- How deep struct types stand in types as they are written.
 use Rattle.std.specs.Prelude.{ℕ, suc, List, [], ◌∷◌, max}
-use Rattle.go_settle_core.specs.term_core.Terms.{Term, NoType, Predeclared, ErrorType, Defined, PointerTo, StructOf, InterfaceOf, Fields, NoField, AField}
+use Rattle.go_term_core.specs.Terms.{Term, NoType, Predeclared, ErrorType, Defined, PointerTo, StructOf, InterfaceOf, Fields, NoField, AField}
 use Rattle.go_table_core.specs.Entries.{Entry}
 
 -- how deep struct types stand in a type as they are written, one embedded by another

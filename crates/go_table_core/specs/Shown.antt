@@ -1,19 +1,19 @@
 -- The entries that values of the program hold.
 use Rattle.std.specs.Prelude.{◌≡◌, ◌||◌, ℕ, Bool, false, List, [], map, Vec, Option, Some, None}
 use Rattle.std.specs.Borrow.{Bor}
-use Rattle.go_settle_core.specs.term_core.declared.term.FieldLine.{FieldLine}
+use Rattle.go_term_core.specs.declared.term.FieldLine.{FieldLine}
 use Rattle.std.specs.Arc.{arc_value}
-use Rattle.go_settle_core.specs.term_core.Shapes.{Line, line_with, line_shape, shape, sign_of}
+use Rattle.go_term_core.specs.Shapes.{Line, line_with, line_shape, shape, sign_of}
 use Rattle.go_table_core.specs.declared.entry.DeclaredMethod.{DeclaredMethod}
 use Rattle.go_table_core.specs.declared.entry.TypeEntry.{TypeEntry}
 use Rattle.std.specs.Global.{Global}
 use Rattle.std.specs.declared.sync.Arc.{Arc}
 use Rattle.go_settle_core.specs.decl_core.declared.keys.DeclKey.{DeclKey}
-use Rattle.go_settle_core.specs.term_core.declared.term.TypeTerm.{TypeTerm}
+use Rattle.go_term_core.specs.declared.term.TypeTerm.{TypeTerm}
 use Rattle.go_table_core.specs.declared.assign.Operand.{Operand}
 use Rattle.go_table_core.specs.declared.assign.Operand.TheVariants as operands
 use Rattle.go_table_core.specs.Assign.{Assigned, AValue, ANil, AnInteger, AText, ABoolean}
-use Rattle.go_settle_core.specs.term_core.Terms.{Term, NoType, StructOf, Fields, NoField, AField}
+use Rattle.go_term_core.specs.Terms.{Term, NoType, StructOf, Fields, NoField, AField}
 use Rattle.go_table_core.specs.Entries.{Member, Entry, has_method}
 
 abbrev pub member_shown : DeclaredMethod → Member

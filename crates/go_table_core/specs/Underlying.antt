@@ -2,11 +2,11 @@
 -- "Errors".
 use Rattle.std.specs.Prelude.{◌≡◌, ℕ, Bool, List, [], codes}
 use Rattle.go_settle_core.specs.decl_core.declared.places.DeclKind.TheVariants as kinds
-use Rattle.go_settle_core.specs.term_core.declared.term.Basic.TheVariants as basics
-use Rattle.go_settle_core.specs.term_core.declared.term.MemberPlace.{MemberPlace}
-use Rattle.go_settle_core.specs.term_core.declared.term.MemberPlace.TheVariants as places
-use Rattle.go_settle_core.specs.term_core.Terms.{Term, NoType, Predeclared, ErrorType, Defined, PointerTo, StructOf, InterfaceOf, Methods, NoMethod, AMethod, Sign, SignOf, NoTerm, ATerm}
-use Rattle.go_settle_core.specs.term_core.Identity.{IdenticalBy}
+use Rattle.go_term_core.specs.declared.term.Basic.TheVariants as basics
+use Rattle.go_term_core.specs.declared.term.MemberPlace.{MemberPlace}
+use Rattle.go_term_core.specs.declared.term.MemberPlace.TheVariants as places
+use Rattle.go_term_core.specs.Terms.{Term, NoType, Predeclared, ErrorType, Defined, PointerTo, StructOf, InterfaceOf, Methods, NoMethod, AMethod, Sign, SignOf, NoTerm, ATerm}
+use Rattle.go_term_core.specs.Identity.{IdenticalBy}
 
 -- no parameter, and one result of type `string`
 abbrev pub text_sign : Sign

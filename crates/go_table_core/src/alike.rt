@@ -1,16 +1,14 @@
 //! Which underlying types are identical.
 ghost use Rattle.std.specs.Prelude.{◌≡◌, ◌↔◌, ◌∷◌, [], true, false, IsTrue, codes};
 ghost use Rattle.std.specs.Str.{bytes_eq};
-ghost use Rattle.go_settle_core.specs.term_core.Shapes.{shape, sign_of, method_shapes};
-ghost use Rattle.go_settle_core.specs.term_core.Terms.{Predeclared, ErrorType, sign_params, sign_results};
-ghost use Rattle.go_settle_core.specs.term_core.declared.term.Basic.TheVariants as basics;
+ghost use Rattle.go_term_core.specs.Shapes.{shape, sign_of, method_shapes};
+ghost use Rattle.go_term_core.specs.Terms.{Predeclared, ErrorType, sign_params, sign_results};
+ghost use Rattle.go_term_core.specs.declared.term.Basic.TheVariants as basics;
 ghost use Rattle.go_table_core.specs.Underlying.{text_sign, IsErrorInterface, IdenticalUnder};
 ghost use Rattle.go_table_core.specs.mirrors.Meeting.{AreErrors, MeetsError};
 
-use go_settle_core::term_core::{
-    Basic, Method, Signature, TypeTerm, identical, identical_but_for_tags,
-};
 use go_settle_core::text_core::Name;
+use go_term_core::{Basic, Method, Signature, TypeTerm, identical, identical_but_for_tags};
 
 /// Whether a type is `string`.
 fn is_text(term: &TypeTerm) -> bool

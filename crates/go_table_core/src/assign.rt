@@ -1,16 +1,16 @@
 //! What is assignable.
 ghost use Rattle.std.specs.Prelude.{◌≡◌, ◌⊎◌, IsTrue, ◌↔◌};
 ghost use Rattle.go_table_core.specs.Entries.{find_entry};
-ghost use Rattle.go_settle_core.specs.term_core.declared.term.Basic.TheVariants as basics;
-ghost use Rattle.go_settle_core.specs.term_core.Shapes.{shape};
-ghost use Rattle.go_settle_core.specs.term_core.Terms.{NoType, Predeclared};
+ghost use Rattle.go_term_core.specs.declared.term.Basic.TheVariants as basics;
+ghost use Rattle.go_term_core.specs.Shapes.{shape};
+ghost use Rattle.go_term_core.specs.Terms.{NoType, Predeclared};
 ghost use Rattle.go_table_core.specs.Assign.{AValue, IsNamed, is_named, IsInterface, IsPointer, IsFitting, IsTermAssignable};
 ghost use Rattle.go_table_core.specs.Shown.{assigned_shown};
 
 use crate::alike::identical_under;
 use crate::table::TypeTable;
-use go_settle_core::term_core::{Basic, TypeTerm, identical};
 use go_settle_core::{Kind, kind_of};
+use go_term_core::{Basic, TypeTerm, identical};
 
 /// What is assigned.
 #[derive(Clone, Copy)]

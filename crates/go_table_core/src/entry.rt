@@ -1,15 +1,15 @@
 //! What is declared of types.
 ghost use Rattle.std.specs.Prelude.{◌≡◌, IfOk, map};
 ghost use Rattle.std.specs.Arc.{arc_value};
-ghost use Rattle.go_settle_core.specs.term_core.Shapes.{shape};
+ghost use Rattle.go_term_core.specs.Shapes.{shape};
 ghost use Rattle.go_table_core.specs.Shown.{member_shown, HidesRightly};
 ghost use Rattle.go_table_core.specs.mirrors.Spots.{spells_some};
 ghost use Rattle.go_table_core.specs.Methods.{term_fields};
 
 use crate::fields::FieldTable;
 use go_settle_core::decl_core::DeclKey;
-use go_settle_core::term_core::{MemberPlace, Signature, TypeTerm};
 use go_settle_core::text_core::Name;
+use go_term_core::{MemberPlace, Signature, TypeTerm};
 use std::alloc::{AllocError, Global};
 use std::marker::Model;
 use std::sync::Arc;

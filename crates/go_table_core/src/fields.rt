@@ -1,14 +1,14 @@
 //! The fields of a struct type by their names.
 ghost use Rattle.std.specs.Prelude.{◌≡◌, IfOk, OnOk, option_map, [], ◌<◌};
-ghost use Rattle.go_settle_core.specs.term_core.Shapes.{shape, shape_found, fields_in, line_at, line_shapes};
+ghost use Rattle.go_term_core.specs.Shapes.{shape, shape_found, fields_in, line_at, line_shapes};
 ghost use Rattle.go_table_core.specs.Shown.{line_shown, member_shown};
 ghost use Rattle.go_table_core.specs.Methods.{has_field_before, field_spelled, term_fields};
 ghost use Rattle.go_table_core.specs.mirrors.Spots.{spot_before, earlier_of, earliest_with, earliest_before, named_places, struct_path, HasPlaces, AddsField};
 
 use crate::entry::DeclaredMethod;
 use go_settle_core::path_core::ImportPath;
-use go_settle_core::term_core::{Field, FieldLine, MemberPlace, TypeTerm};
 use go_settle_core::text_core::is_exported;
+use go_term_core::{Field, FieldLine, MemberPlace, TypeTerm};
 use indexmap::IndexMap;
 use std::alloc::{AllocError, Global};
 use std::marker::Model;
@@ -43,9 +43,9 @@ impl Drop for FieldTable<'_> {
 }
 
 impl<'a> Model for FieldTable<'a> {
-    ghost use Rattle.go_settle_core.specs.term_core.Terms.{Term};
-    ghost use Rattle.go_settle_core.specs.term_core.codes.TermCodes.{coded_term};
-    ghost use Rattle.go_settle_core.specs.term_core.Shapes.{shape};
+    ghost use Rattle.go_term_core.specs.Terms.{Term};
+    ghost use Rattle.go_term_core.specs.codes.TermCodes.{coded_term};
+    ghost use Rattle.go_term_core.specs.Shapes.{shape};
     ghost use Rattle.go_table_core.specs.Methods.{term_fields};
     ghost use Rattle.go_table_core.specs.mirrors.Spots.{named_places, HasPlaces};
 

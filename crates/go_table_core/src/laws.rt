@@ -1,7 +1,7 @@
 //! Laws of tables of types.
 ghost use Rattle.go_table_core.specs.Laws.{UnderlyingIsLocal, ReachIsClosed, AssignabilityByRule, AssignableIsLocal, AssignableToItself, NothingToNoType, AddingKeeps, ErrorIsAnInterface};
 
-use go_settle_core::term_core::{identity_by_form, identity_is_equivalence};
+use go_term_core::{identity_by_form, identity_is_equivalence};
 
 /// A law, with nothing to run: a type's underlying type and its methods are the same in two tables that have the same of all that
 /// the type reaches, and mention what it reaches alone.

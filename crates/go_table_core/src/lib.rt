@@ -24,9 +24,7 @@ pub use table::{Located, PackageTypes, TypeTable};
 
 /// What the crates above name of `go_decl_core`.
 pub mod decl_core {
-    pub use go_settle_core::decl_core::{
-        DeclForm, DeclKey, DeclRef, Outline, Places, TopDecl, place_order,
-    };
+    pub use go_settle_core::decl_core::{DeclForm, DeclKey, DeclRef, Places, TopDecl};
 }
 
 /// What the crates above name of `go_path_core`.
@@ -38,13 +36,5 @@ pub mod path_core {
 pub mod settle_core {
     pub use go_settle_core::{
         Kind, Kinds, SeenNames, can_embed, kind_of, settle, settle_signature,
-    };
-}
-
-/// What the crates above name of `go_term_core`.
-pub mod term_core {
-    pub use go_settle_core::term_core::{
-        Basic, Field, FieldLine, LocalPlace, MemberPlace, Method, Signature, Tag, TypeTerm, copy,
-        has_same_signature, identical, identical_but_for_tags, is_no_type,
     };
 }

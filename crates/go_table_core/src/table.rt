@@ -1,13 +1,13 @@
 //! Tables of defined types.
 ghost use Rattle.std.specs.Prelude.{◌≡◌, ◌↔◌, ◌++◌, [], length, IfOk, OnOk, OnErr, IfSome, option_map, false, All};
 ghost use Rattle.go_table_core.specs.Entries.{find_entry, underlying_in, IsUnnamed};
-ghost use Rattle.go_settle_core.specs.term_core.Shapes.{shape};
+ghost use Rattle.go_term_core.specs.Shapes.{shape};
 ghost use Rattle.go_table_core.specs.Tables.{package_types, AreOf, KeysRise, ArePackageTypes, IsPlaceOf, AreOthers};
 
 use crate::entry::DefinedType;
 use go_settle_core::decl_core::{DeclKey, place_order};
 use go_settle_core::path_core::ImportPath;
-use go_settle_core::term_core::TypeTerm;
+use go_term_core::TypeTerm;
 use indexmap::IndexMap;
 use std::alloc::{AllocError, Global};
 use std::marker::Model;
@@ -75,7 +75,7 @@ impl Drop for TypeTable {
 impl Model for TypeTable {
     ghost use Rattle.std.specs.Prelude.{List};
     ghost use Rattle.std.specs.Coded.{coded_list};
-    ghost use Rattle.go_settle_core.specs.term_core.Shapes.{shape};
+    ghost use Rattle.go_term_core.specs.Shapes.{shape};
     ghost use Rattle.go_table_core.specs.Entries.{Entry};
     ghost use Rattle.go_table_core.specs.codes.EntryCodes.{coded_entry};
     ghost use Rattle.go_table_core.specs.mirrors.Holding.{packages_of, all_entries, IsTable};

@@ -8,5 +8,5 @@ pub mod Forms
 pub mod mirrors
 pub mod codes
 pub mod decl_core
+pub mod text_core
 pub mod tree_core
-pub mod tree_nodes

@@ -38,12 +38,12 @@ pub mod path_core {
     pub use go_decl_core::path_core::ImportPath;
 }
 
-/// What the crates above name of `go_tree_core`.
-pub mod tree_core {
-    pub use go_decl_core::tree_core::Role;
+/// What the crates above name of `go_text_core`.
+pub mod text_core {
+    pub use go_decl_core::text_core::{Name, Rule, add, boxed, is_blank, is_exported, same_id};
 }
 
-/// What the crates above name of `go_tree_nodes`.
-pub mod tree_nodes {
-    pub use go_decl_core::tree_nodes::Usage;
+/// What the crates above name of `go_tree_core`.
+pub mod tree_core {
+    pub use go_decl_core::tree_core::{Occ, Role, occurrences};
 }

@@ -118,10 +118,10 @@ use Rattle.go_block_core.specs.graph_core.contracts.assembly.Package as assemble
 use Rattle.go_block_core.specs.graph_core.contracts.workspace.Workspace as workspace
 use Rattle.go_term_core.specs.contracts.term.TypeTerm as term
 use Rattle.go_term_core.specs.contracts.term.Signature as term_signature
-use Rattle.go_table_core.specs.contracts.entry.DeclaredMethod as declared_method
-use Rattle.go_table_core.specs.contracts.entry.TypeEntry as type_entry
-use Rattle.go_table_core.specs.contracts.entry.DefinedType as defined
-use Rattle.go_table_core.specs.contracts.table.PackageTypes as package_types
+use Rattle.go_level_core.specs.table_core.contracts.entry.DeclaredMethod as declared_method
+use Rattle.go_level_core.specs.table_core.contracts.entry.TypeEntry as type_entry
+use Rattle.go_level_core.specs.table_core.contracts.entry.DefinedType as defined
+use Rattle.go_level_core.specs.table_core.contracts.table.PackageTypes as package_types
 use Rattle.go_face_core.specs.contracts.shown.DeclaredFace as declared_face
 use Rattle.go_face_core.specs.contracts.shown.PackageFaces as package_faces
 use Rattle.go_snap_core.specs.summary_core.contracts.summary.Summary as summary

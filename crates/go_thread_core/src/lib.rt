@@ -52,23 +52,3 @@ pub fn shared_snapshots_cross()
 {
     is_shared_by_threads::<SharedSnapshot>();
 }
-
-/// What the crates above name of `go_make_core`.
-pub mod make_core {
-    pub use go_snap_core::make_core::{Told, input_of, package_of};
-}
-
-/// What the crates above name of `go_part_core`.
-pub mod part_core {
-    pub use go_snap_core::part_core::{Part, PartInput, Parts, compile_part};
-}
-
-/// What the crates above name of `go_snap_core`.
-pub mod snap_core {
-    pub use go_snap_core::{SharedSnapshot, Snapshot, join_parts, one_snapshot};
-}
-
-/// What the crates above name of `go_whole_core`.
-pub mod whole_core {
-    pub use go_snap_core::whole_core::{inputs_stay, parts_come_in_order};
-}

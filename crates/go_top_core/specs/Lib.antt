@@ -3,8 +3,9 @@ pub mod Tops
 pub mod denote_core
 pub mod expr_core
 pub mod inline_core
+pub mod literal_core
 pub mod local_core
+pub mod names_core
 pub mod piece_core
 pub mod statement_core
-pub mod type_core
 pub mod walk_core

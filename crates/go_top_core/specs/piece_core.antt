@@ -4,6 +4,7 @@ pub use Rattle.go_piece_core.specs.Laws as Laws
 pub use Rattle.go_piece_core.proofs.Local as Local
 pub use Rattle.go_piece_core.proofs.Occurring as Occurring
 pub use Rattle.go_piece_core.specs.Pieces as Pieces
+pub use Rattle.go_piece_core.proofs.Shown as Shown
 pub use Rattle.go_piece_core.specs.Specifications as Specifications
 pub use Rattle.go_piece_core.specs.Statements as Statements
 pub use Rattle.go_piece_core.specs.Targets as Targets

@@ -1,6 +1,6 @@
 -- Trees in which each identifier is another: all else is as it was. And files in which the identifier that begins at an offset is spelled otherwise.
 use Rattle.std.specs.Prelude.{ℕ, List, map, nat_eq, Option, Some, None, if◌then◌else◌}
-use Rattle.go_text_core.specs.declared.span.Span.{Span}
+use Rattle.go_tree_nodes.specs.text_core.declared.span.Span.{Span}
 use Rattle.go_tree_nodes.specs.declared.names.Ident.{Ident}
 use Rattle.go_tree_nodes.specs.declared.types.TypeName.{TypeName}
 use Rattle.go_tree_nodes.specs.declared.types.TypeName.TheVariants as type_name

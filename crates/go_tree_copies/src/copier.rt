@@ -2,8 +2,8 @@
 ghost use Rattle.std.specs.Prelude.{◌≡◌, IfOk};
 ghost use Rattle.go_tree_copies.specs.Respelled.{spelled};
 
-use go_text_core::Name;
 use go_tree_nodes::Ident;
+use go_tree_nodes::text_core::Name;
 use std::alloc::{AllocError, Global};
 
 /// The spelling that the identifier at an offset has in the copy.

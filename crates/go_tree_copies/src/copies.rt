@@ -5,7 +5,7 @@
 //! one call.
 
 ghost use Rattle.std.specs.Prelude.{◌≡◌, [], ◌∷◌, ◌++◌, Option, IfOk, OnOk};
-ghost use Rattle.go_text_core.specs.declared.span.Span.{Span as TheSpan};
+ghost use Rattle.go_tree_nodes.specs.text_core.declared.span.Span.{Span as TheSpan};
 ghost use Rattle.go_tree_nodes.specs.declared.names.TextLiteral.{TextLiteral as TheText};
 ghost use Rattle.go_tree_nodes.specs.Trees.{FieldTrees, Binary, Select};
 ghost use Rattle.go_tree_nodes.specs.TypeShapes as type_shapes;
@@ -13,7 +13,7 @@ ghost use Rattle.go_tree_nodes.specs.Shapes as shapes;
 ghost use Rattle.go_tree_copies.specs.Respelled.{spelled, separated_with, some_with, names_with, type_name_with, type_with, fields_with, methods_with, signature_with, result_with, params_with, key_with, expr_with, items_with, exprs_with};
 
 use crate::copier::Copier;
-use go_text_core::{add, boxed};
+use go_tree_nodes::text_core::{add, boxed};
 use go_tree_nodes::{
     BinaryExpr, CallExpr, Expr, Exprs, FieldLine, Fields, Ident, Idents, Item, Key, LiteralExpr,
     MethodLine, NextExpr, NextIdent, Param, Params, Results, SelectExpr, Signature,

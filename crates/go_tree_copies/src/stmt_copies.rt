@@ -12,7 +12,7 @@ use crate::copies::{
     both, copied, copy_boxed, copy_expr, copy_exprs, copy_ident, copy_idents, copy_signature,
     copy_text, copy_type, copy_type_name,
 };
-use go_text_core::{add, boxed};
+use go_tree_nodes::text_core::{add, boxed};
 use go_tree_nodes::{
     Assignment, Branch, Decl, Definition, Expr, Exprs, ForHead, FuncDecl, Ident, IfHead,
     ImportDecl, ImportLine, ImportName, ImportSpec, ImportSpecs, InitPart, Line, Loop, Otherwise,

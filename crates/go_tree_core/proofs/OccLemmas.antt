@@ -3,7 +3,7 @@ use Rattle.std.proofs.Common.{◌≡◌, Vec, List, [], ◌∷◌, ◌++◌, map
 use Rattle.std.specs.Global.{Global, Box}
 use Rattle.std.specs.List.{flat_map}
 use Rattle.std.specs.Prelude.{Option}
-use Rattle.go_text_core.specs.declared.span.Span.{Span}
+use Rattle.go_tree_nodes.specs.text_core.declared.span.Span.{Span}
 use Rattle.go_tree_nodes.specs.declared.types.Signature.{Signature, out-Signature}
 use Rattle.go_tree_nodes.specs.declared.types.Results as declared_results
 use Rattle.go_tree_nodes.specs.declared.types.Results.TheVariants as results

@@ -1,8 +1,8 @@
 -- Laws of the occurrences of a file: which names of the file they are, and that the file writes them.
 use Rattle.std.specs.Prelude.{◌≡◌, ℕ, List, [], ◌∷◌, Option, Some, None, if◌then◌else◌}
 use Rattle.std.specs.List.{filter_map}
-use Rattle.go_text_core.specs.declared.span.Span.{Span}
-use Rattle.go_token_core.specs.declared.kind.Operator.TheVariants as operator
+use Rattle.go_tree_nodes.specs.text_core.declared.span.Span.{Span}
+use Rattle.go_tree_nodes.specs.token_core.declared.kind.Operator.TheVariants as operator
 use Rattle.go_tree_nodes.specs.declared.names.Ident.{Ident}
 use Rattle.go_tree_nodes.specs.declared.names.TextLiteral.{TextLiteral}
 use Rattle.go_tree_nodes.specs.Terminals.{Terminal, TerminalKind, Spelled, Quoted, Mark}

@@ -1,9 +1,9 @@
 -- The identifiers of a file that are used, its imports and its calls, in order of their places.
 use Rattle.std.specs.Prelude.{◌≡◌, ℕ, ◌≤◌, ◌<◌, Bool, true, false, ◌&&◌, nat_le, nat_lt, List, [], ◌∷◌, ◌++◌, length, position, All, HoldsAt, Option, Some, None, if◌then◌else◌, codes}
-use Rattle.go_text_core.specs.declared.span.Span.{Span}
-use Rattle.go_text_core.specs.Text.{is_blank}
-use Rattle.go_token_core.specs.declared.kind.Operator.{Operator}
-use Rattle.go_token_core.specs.declared.kind.Operator.TheVariants as operator
+use Rattle.go_tree_nodes.specs.text_core.declared.span.Span.{Span}
+use Rattle.go_tree_nodes.specs.text_core.Text.{is_blank}
+use Rattle.go_tree_nodes.specs.token_core.declared.kind.Operator.{Operator}
+use Rattle.go_tree_nodes.specs.token_core.declared.kind.Operator.TheVariants as operator
 use Rattle.go_tree_nodes.specs.declared.names.Ident.{Ident}
 use Rattle.go_tree_nodes.specs.declared.types.TypeName.{TypeName}
 use Rattle.go_tree_nodes.specs.declared.types.TypeName.TheVariants as type_name

@@ -7,7 +7,7 @@ ghost use Rattle.go_tree_core.specs.Occurrences as occurrences;
 use crate::occurrence::{Context, Role};
 use crate::type_occurrences::{visit_type, visit_type_name};
 use crate::visitor::{Visitor, visit_call, visit_ident};
-use go_token_core::Operator;
+use go_tree_nodes::token_core::Operator;
 use go_tree_nodes::{
     Expr, Exprs, Ident, Item, Key, TypeDecl, TypeExpr, TypeSpecs, Usage, ValueDecl, ValueSpec,
     ValueSpecs, Values,

@@ -11,7 +11,7 @@ use crate::occurrence::{Occ, Role};
 use crate::stmt_occurrences::visit_lines;
 use crate::type_occurrences::{visit_signature, visit_type_name};
 use crate::visitor::Visitor;
-use go_text_core::{Name, Span};
+use go_tree_nodes::text_core::{Name, Span};
 use go_tree_nodes::{Decl, File, FuncDecl, ImportDecl, ImportSpec, ImportSpecs, Receiver, TopDecl};
 use std::alloc::{AllocError, Global};
 

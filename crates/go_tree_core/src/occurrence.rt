@@ -2,8 +2,8 @@
 ghost use Rattle.std.specs.Prelude.{◌≡◌};
 ghost use Rattle.go_tree_core.specs.Occurrences.{is_identifier, role_word};
 
-use go_text_core::{Name, Span};
 use go_tree_nodes::Usage;
+use go_tree_nodes::text_core::{Name, Span};
 
 /// What an occurrence is.
 #[derive(Clone, Copy, Debug, PartialEq, Eq)]

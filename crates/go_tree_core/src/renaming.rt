@@ -12,9 +12,9 @@ ghost use Rattle.go_tree_core.specs.mirrors.Counting.{counted_next};
 use crate::file_occurrences::visit_file;
 use crate::occurrence::{OccId, Role};
 use crate::visitor::Visitor;
-use go_text_core::Span;
 use go_tree_copies::respelled;
 use go_tree_nodes::File;
+use go_tree_nodes::text_core::Span;
 use std::alloc::{AllocError, Global};
 
 // What a search for the occurrence of a number has come to.

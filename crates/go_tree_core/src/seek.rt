@@ -12,8 +12,8 @@ ghost use Rattle.go_tree_core.specs.mirrors.Seeking.{sought_next};
 use crate::file_occurrences::visit_file;
 use crate::occurrence::{OccId, Role};
 use crate::visitor::Visitor;
-use go_text_core::Span;
 use go_tree_nodes::File;
+use go_tree_nodes::text_core::Span;
 
 // What a search for the identifier that covers an offset has come to.
 #[derive(Clone, Copy)]

@@ -5,8 +5,8 @@ ghost use Rattle.go_tree_core.specs.declared.occurrence.Occ.{Occ as TheOcc};
 ghost use Rattle.go_tree_core.specs.Occurrences.{occ_at, occurrence, call_at};
 
 use crate::occurrence::Role;
-use go_text_core::Span;
 use go_tree_nodes::Ident;
+use go_tree_nodes::text_core::Span;
 
 /// What is done at each occurrence of a file, in order of their places.
 ///

@@ -2,7 +2,7 @@
 use Rattle.std.proofs.Common.{◌≡◌, Vec, refl, ap, ◌∙◌}
 use Rattle.std.specs.Global.{Box, Global}
 use mathlib.Core.Former.{Count}
-use Rattle.go_text_core.specs.declared.span.Span.{Span}
+use Rattle.go_token_core.specs.text_core.declared.span.Span.{Span}
 use Rattle.go_tree_nodes.specs.declared.types.TypeName.{TypeName}
 use Rattle.go_tree_nodes.specs.declared.types.TypeExpr.{TypeExpr}
 use Rattle.go_tree_nodes.specs.declared.exprs.Expr.{Expr}

@@ -3,7 +3,7 @@ use Rattle.std.proofs.Common.{◌≡◌, Vec, refl, ap, ◌∙◌}
 use Rattle.std.specs.Global.{Global}
 use mathlib.Core.Former.{Count}
 use Rattle.std.specs.Prelude.{Option}
-use Rattle.go_text_core.specs.declared.span.Span.{Span}
+use Rattle.go_token_core.specs.text_core.declared.span.Span.{Span}
 use Rattle.go_tree_nodes.specs.declared.names.Ident.{Ident}
 use Rattle.go_tree_nodes.specs.declared.types.TypeExpr.{TypeExpr, Row_of-FieldLine, end_of-FieldLine, more_of-FieldLine, items-the_row-FieldLine, items_hidden-the_row-FieldLine-0, Row_of-MethodLine, end_of-MethodLine, more_of-MethodLine, items-the_row-MethodLine, items_hidden-the_row-MethodLine-1}
 use Rattle.go_tree_nodes.specs.declared.types.TypeExpr.TheVariants as types

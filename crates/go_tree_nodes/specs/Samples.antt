@@ -1,6 +1,6 @@
 -- Parts of trees that worked examples are made of, each of one byte.
 use Rattle.std.specs.Prelude.{ℕ, suc, List, codes}
-use Rattle.go_text_core.specs.declared.span.Span.{Span}
+use Rattle.go_token_core.specs.text_core.declared.span.Span.{Span}
 use Rattle.go_tree_nodes.specs.declared.names.Ident.{Ident}
 use Rattle.go_tree_nodes.specs.declared.types.TypeName.TheVariants as type_names
 use Rattle.go_tree_nodes.specs.Trees.{TypeTree, NamedType, ExprTree, Named}

@@ -1,6 +1,6 @@
 -- What a tree writes.
 use Rattle.std.specs.Prelude.{ℕ, List, [], ◌∷◌, ◌++◌, Option, Some, None}
-use Rattle.go_text_core.specs.declared.span.Span.{Span}
+use Rattle.go_token_core.specs.text_core.declared.span.Span.{Span}
 use Rattle.go_token_core.specs.declared.kind.Keyword.{Keyword}
 use Rattle.go_token_core.specs.declared.kind.Keyword.TheVariants as keyword
 use Rattle.go_token_core.specs.declared.kind.Operator.{Operator}

@@ -1,7 +1,7 @@
 -- Tokens as trees write them: with the spelling of each name and the value of each literal.
 use Rattle.std.specs.Prelude.{ℕ, ◌+◌, ◌≤◌, nat_le, List, [], ◌∷◌, map, Option, Some, None, if◌then◌else◌}
-use Rattle.go_text_core.specs.declared.span.Span.{Span}
-use Rattle.go_text_core.specs.Slices.{slice_of}
+use Rattle.go_token_core.specs.text_core.declared.span.Span.{Span}
+use Rattle.go_token_core.specs.text_core.Slices.{slice_of}
 use Rattle.go_token_core.specs.declared.kind.Keyword.{Keyword}
 use Rattle.go_token_core.specs.declared.kind.Operator.{Operator}
 use Rattle.go_token_core.specs.declared.kind.Operator.TheVariants as operator

@@ -1,6 +1,6 @@
 -- The trees of types that values of the program hold.
 use Rattle.std.specs.Prelude.{List, [], ◌∷◌, Option, Some, None}
-use Rattle.go_text_core.specs.declared.span.Span.{Span}
+use Rattle.go_token_core.specs.text_core.declared.span.Span.{Span}
 use Rattle.go_tree_nodes.specs.declared.names.Ident.{Ident}
 use Rattle.go_tree_nodes.specs.declared.names.Idents.{Idents}
 use Rattle.go_tree_nodes.specs.declared.names.NextIdent.{NextIdent}

@@ -2,7 +2,7 @@
 use crate::exprs::Exprs;
 use crate::names::{Ident, Idents};
 use crate::types::TypeExpr;
-use go_text_core::Span;
+use go_token_core::text_core::Span;
 
 /// What a declaration of values declares.
 #[derive(Clone, Copy, Debug, PartialEq, Eq)]

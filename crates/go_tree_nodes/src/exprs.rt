@@ -5,8 +5,8 @@ ghost use Rattle.go_tree_nodes.specs.Shapes.{shape};
 
 use crate::names::{Ident, TextLiteral};
 use crate::types::{TypeExpr, TypeName};
-use go_text_core::Span;
 use go_token_core::Operator;
+use go_token_core::text_core::Span;
 
 /// An expression.
 #[cycle(expr)]

@@ -3,7 +3,7 @@ use crate::decls::{TypeDecl, ValueDecl};
 use crate::names::{Ident, TextLiteral};
 use crate::stmts::Line;
 use crate::types::{Signature, TypeName};
-use go_text_core::Span;
+use go_token_core::text_core::Span;
 
 /// The receiver of a method, between the places of its parentheses.
 pub struct Receiver {

@@ -37,10 +37,14 @@ pub use usage::Usage;
 
 /// What the crates above name of `go_text_core`.
 pub mod text_core {
-    pub use go_text_core::{Rule, Span, add, boxed};
+    pub use go_token_core::text_core::{
+        Name, Rule, Span, add, boxed, fitted, is_blank, is_digit, is_letter,
+    };
 }
 
 /// What the crates above name of `go_token_core`.
 pub mod token_core {
-    pub use go_token_core::Operator;
+    pub use go_token_core::{
+        Comment, Keyword, Operator, ScanError, Token, TokenKind, integer_value,
+    };
 }

@@ -3,7 +3,7 @@ ghost use Rattle.std.specs.Prelude.{◌≡◌, ◌↔◌, IfOk, IfSome, IsTrue, 
 ghost use Rattle.go_token_core.specs.Values.{IsPlain};
 ghost use Rattle.go_tree_nodes.specs.Terminals.{value_of};
 
-use go_text_core::{Name, Span};
+use go_token_core::text_core::{Name, Span};
 use go_token_core::{plain_value, string_value};
 use std::alloc::{AllocError, Global};
 

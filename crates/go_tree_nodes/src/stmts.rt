@@ -2,8 +2,8 @@
 use crate::decls::ValueDecl;
 use crate::exprs::{Expr, Exprs};
 use crate::names::Idents;
-use go_text_core::Span;
 use go_token_core::Operator;
+use go_token_core::text_core::Span;
 
 /// A statement that may stand in the header of an `if` or a `for`.
 pub enum Simple {

@@ -4,7 +4,7 @@ ghost use Rattle.go_tree_nodes.specs.Naming.{plain_name, type_name_of};
 ghost use Rattle.go_tree_nodes.specs.TypeShapes.{shape_type};
 
 use crate::names::{Ident, Idents, TextLiteral};
-use go_text_core::Span;
+use go_token_core::text_core::Span;
 
 /// The name of a type.
 #[derive(Drop)]

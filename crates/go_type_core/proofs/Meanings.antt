@@ -5,7 +5,7 @@ use Rattle.go_table_core.specs.decl_core.declared.keys.DeclKey.{DeclKey}
 use Rattle.go_table_core.specs.settle_core.declared.kind.Kind.{Kind}
 use Rattle.go_table_core.specs.settle_core.declared.kind.Kind.TheVariants as kinds
 use Rattle.go_table_core.specs.settle_core.Settled.{kind_of_term}
-use Rattle.go_table_core.specs.term_core.Terms.{Term, Defined}
+use Rattle.go_term_core.specs.Terms.{Term, Defined}
 use Rattle.go_table_core.specs.Entries.{Entry, EntryLook, find_entry, term_in}
 use Rattle.go_type_core.specs.declared.build.TypeFault.{TypeFault}
 use Rattle.go_type_core.specs.Built.{IsNoTypeHere, IsUnderlying, kept_over, IsEntry, AreEntries, looped_faults, IsBuilt}

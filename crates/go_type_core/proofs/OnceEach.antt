@@ -6,8 +6,8 @@ use Rattle.std.proofs.lemmas.List.Elements.{Contains-append_left, Contains-appen
 use Rattle.go_table_core.specs.decl_core.declared.keys.DeclKey.{DeclKey}
 use Rattle.go_cycle_core.specs.declared.edge.Edge.{Edge}
 use Rattle.go_cycle_core.specs.Cycle.{InRange, Leads, IsOnCycle, IsRanked, IsRanking}
-use Rattle.go_table_core.specs.term_core.declared.term.Field.{Field}
-use Rattle.go_table_core.specs.term_core.Shapes.{Line, line_at, fields_in, shape}
+use Rattle.go_term_core.specs.declared.term.Field.{Field}
+use Rattle.go_term_core.specs.Shapes.{Line, line_at, fields_in, shape}
 use Rattle.go_table_core.specs.declared.entry.TypeEntry.{TypeEntry}
 use Rattle.go_table_core.specs.Shown.{entry_shown}
 use Rattle.go_table_core.specs.Entries.{Entry}

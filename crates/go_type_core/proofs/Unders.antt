@@ -8,7 +8,7 @@ use Rattle.go_chain_core.specs.Chains.{ChainLeads, EndsAt, AreEnds}
 use Rattle.go_table_core.specs.settle_core.declared.kind.Kind.{Kind}
 use Rattle.go_table_core.specs.settle_core.declared.kind.Kind.TheVariants as kinds
 use Rattle.go_table_core.specs.settle_core.Settled.{kind_of_term, settled, pointer_to, defined_unless}
-use Rattle.go_table_core.specs.term_core.Terms.{Term, NoType, Predeclared, ErrorType, Defined, PointerTo, StructOf, InterfaceOf}
+use Rattle.go_term_core.specs.Terms.{Term, NoType, Predeclared, ErrorType, Defined, PointerTo, StructOf, InterfaceOf}
 use Rattle.go_table_core.specs.Entries.{Entry, EntryLook, find_entry, term_in, IsUnnamed}
 use Rattle.go_type_core.specs.Built.{base, direct_keys, NamesNothing, IsNothingBy, IsNoTypeHere, IsUnderBy, IsUnder, IsUnderlying, AreKinds}
 use Rattle.go_type_core.specs.mirrors.Numbers.{keys_of, number_of, term_at, IsTable}

@@ -1,9 +1,9 @@
 -- What the types of a package are, from what is written of them and from what is known of other packages' types.
 use Rattle.std.specs.Prelude.{◌≡◌, ◌⊎◌, ◌↔◌, ℕ, suc, Bool, ◌||◌, IsTrue, List, [], ◌∷◌, ◌++◌, Some, None, Contains, if◌then◌else◌, ⊤}
-use Rattle.go_text_core.specs.Text.{is_blank}
-use Rattle.go_text_core.specs.declared.rule.Rule.TheVariants as rules
+use Rattle.go_term_core.specs.text_core.Text.{is_blank}
+use Rattle.go_term_core.specs.text_core.declared.rule.Rule.TheVariants as rules
 use Rattle.go_table_core.specs.decl_core.declared.keys.DeclKey.{DeclKey}
-use Rattle.go_table_core.specs.term_core.Terms.{Term, NoType, Predeclared, ErrorType, Defined, PointerTo, StructOf, InterfaceOf, Fields, NoField, AField}
+use Rattle.go_term_core.specs.Terms.{Term, NoType, Predeclared, ErrorType, Defined, PointerTo, StructOf, InterfaceOf, Fields, NoField, AField}
 use Rattle.go_table_core.specs.settle_core.declared.kind.Kind.{Kind}
 use Rattle.go_table_core.specs.settle_core.declared.kind.Kind.TheVariants as kinds
 use Rattle.go_table_core.specs.settle_core.Settled.{kind_of_term, is_among_names, settled, settled_sign}

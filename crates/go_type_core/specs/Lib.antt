@@ -5,4 +5,3 @@ pub mod mirrors
 pub mod decl_core
 pub mod settle_core
 pub mod table_core
-pub mod term_core

@@ -3,8 +3,8 @@ use Rattle.std.specs.Prelude.{false, [], ◌∷◌}
 use Rattle.go_table_core.specs.decl_core.declared.keys.DeclKey.{DeclKey}
 use Rattle.go_table_core.specs.decl_core.declared.keys.DeclRef.{DeclRef}
 use Rattle.go_table_core.specs.decl_core.declared.places.DeclKind.TheVariants as decl_kinds
-use Rattle.go_table_core.specs.term_core.declared.term.MemberPlace.TheVariants as places
-use Rattle.go_table_core.specs.term_core.Terms.{Term, Defined, PointerTo, StructOf, NoField, AField}
+use Rattle.go_term_core.specs.declared.term.MemberPlace.TheVariants as places
+use Rattle.go_term_core.specs.Terms.{Term, Defined, PointerTo, StructOf, NoField, AField}
 use Rattle.go_table_core.specs.Entries.{Entry, EntryLook}
 use Rattle.go_type_core.specs.Built.{IsLooped, IsNoTypeHere}
 

@@ -12,4 +12,5 @@ pub use Rattle.go_table_core.specs.Shown as Shown
 pub use Rattle.go_table_core.specs.Tables as Tables
 pub use Rattle.go_table_core.specs.Underlying as Underlying
 pub use Rattle.go_table_core.specs.codes as codes
+pub use Rattle.go_table_core.specs.contracts as contracts
 pub use Rattle.go_table_core.specs.declared as declared

@@ -15,7 +15,7 @@ use crate::roots::{kinds_of, root_ends};
 use crate::settled::settled_types;
 use go_table_core::path_core::ImportPath;
 use go_table_core::{DefinedType, PackageTypes, TypeEntry, TypeTable};
-use go_text_core::Rule;
+use go_term_core::text_core::Rule;
 use std::alloc::{AllocError, Global};
 
 /// A type that reaches itself outside pointers and interfaces.

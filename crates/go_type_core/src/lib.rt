@@ -16,12 +16,12 @@ mod settled;
 
 pub use build::{TypeFault, build_types};
 pub use go_table_core::settle_core::{Kind, Kinds, can_embed, kind_of, settle, settle_signature};
-pub use go_table_core::term_core::{
-    Basic, Field, LocalPlace, MemberPlace, Method, Signature, Tag, TypeTerm, has_same_signature,
-    identical, identical_but_for_tags,
-};
 pub use go_table_core::{
     DeclaredMethod, DefinedType, Located, Operand, PackageTypes, TypeEntry, TypeTable, assignable,
+};
+pub use go_term_core::{
+    Basic, Field, LocalPlace, MemberPlace, Method, Signature, Tag, TypeTerm, has_same_signature,
+    identical, identical_but_for_tags,
 };
 pub use laws::{
     building_is_local, built_mentions_written, one_settled, underlying_as_defined, worked_types,
@@ -29,9 +29,7 @@ pub use laws::{
 
 /// What the crates above name of `go_decl_core`.
 pub mod decl_core {
-    pub use go_table_core::decl_core::{
-        DeclForm, DeclKey, DeclRef, Outline, Places, TopDecl, place_order,
-    };
+    pub use go_table_core::decl_core::{DeclForm, DeclKey, Places, TopDecl};
 }
 
 /// What the crates above name of `go_path_core`.
@@ -52,9 +50,4 @@ pub mod table_core {
         DeclaredMethod, DefinedType, FieldTable, PackageTypes, StructField, StructFields,
         TypeEntry, TypeTable, identical_under, identical_under_but_for_tags, is_named_type,
     };
-}
-
-/// What the crates above name of `go_term_core`.
-pub mod term_core {
-    pub use go_table_core::term_core::{Field, FieldLine, MemberPlace, TypeTerm, copy};
 }

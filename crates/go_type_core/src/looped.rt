@@ -3,7 +3,7 @@ ghost use Rattle.std.specs.Prelude.{◌≡◌, ◌↔◌, ◌<◌, ◌++◌, ◌
 ghost use Rattle.go_cycle_core.specs.Cycle.{InRange, IsRanking};
 ghost use Rattle.go_table_core.specs.Shown.{entry_shown};
 ghost use Rattle.go_table_core.specs.Tables.{KeysRise};
-ghost use Rattle.go_table_core.specs.term_core.Shapes.{fields_in, line_at, line_shapes, shape};
+ghost use Rattle.go_term_core.specs.Shapes.{fields_in, line_at, line_shapes, shape};
 ghost use Rattle.go_type_core.specs.Built.{direct_fields, direct_keys};
 ghost use Rattle.go_type_core.specs.mirrors.Edges.{all_uses, AreLooped, Falls, HasAlso, LineAdded, MarksTo, SameEdges, marks_if, uses_from};
 ghost use Rattle.go_type_core.specs.mirrors.Numbers.{keys_of};
@@ -12,7 +12,7 @@ use crate::own_keys::OwnKeys;
 use go_cycle_core::{Edge, Ranked, rank_and_order};
 use go_table_core::TypeEntry;
 use go_table_core::decl_core::DeclKey;
-use go_table_core::term_core::{Field, FieldLine, TypeTerm};
+use go_term_core::{Field, FieldLine, TypeTerm};
 use std::alloc::{AllocError, Global};
 
 // Adds the edge to a type, if it is of the package.

@@ -3,7 +3,7 @@ ghost use Rattle.std.specs.Prelude.{◌≡◌, IfOk, length, map};
 ghost use Rattle.go_table_core.specs.Entries.{find_entry};
 ghost use Rattle.go_table_core.specs.Shown.{entry_shown};
 ghost use Rattle.go_table_core.specs.Tables.{KeysRise};
-ghost use Rattle.go_table_core.specs.term_core.Shapes.{shape};
+ghost use Rattle.go_term_core.specs.Shapes.{shape};
 ghost use Rattle.go_type_core.specs.Built.{base};
 ghost use Rattle.go_type_core.specs.mirrors.Chained.{AreNothing, is_bad_end, is_lacking, named_number, next_bare, nothing_at};
 ghost use Rattle.go_type_core.specs.mirrors.Edges.{AreLooped};
@@ -12,8 +12,8 @@ ghost use Rattle.go_type_core.specs.mirrors.Numbers.{IsTable, keys_of, term_at};
 use crate::marks::{end_at, is_marked, next_unless};
 use crate::own_keys::OwnKeys;
 use go_chain_core::chain_ends;
-use go_table_core::term_core::{TypeTerm, is_no_type};
 use go_table_core::{TypeEntry, TypeTable};
+use go_term_core::{TypeTerm, is_no_type};
 use std::alloc::{AllocError, Global};
 
 // A type with all its stars taken off.

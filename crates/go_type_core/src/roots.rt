@@ -3,7 +3,7 @@ ghost use Rattle.std.specs.Prelude.{◌≡◌, IfOk, length, map, slice_index_or
 ghost use Rattle.go_table_core.specs.Entries.{find_entry};
 ghost use Rattle.go_table_core.specs.Shown.{entry_shown};
 ghost use Rattle.go_table_core.specs.Tables.{KeysRise};
-ghost use Rattle.go_table_core.specs.term_core.Shapes.{shape};
+ghost use Rattle.go_term_core.specs.Shapes.{shape};
 ghost use Rattle.go_type_core.specs.mirrors.Chained.{AreRootEnds, kind_at, next_named, root_kind};
 ghost use Rattle.go_type_core.specs.mirrors.Numbers.{IsTable, keys_of};
 
@@ -13,8 +13,8 @@ use crate::own_keys::OwnKeys;
 use go_chain_core::chain_ends;
 use go_table_core::decl_core::DeclKey;
 use go_table_core::settle_core::{Kind, Kinds};
-use go_table_core::term_core::TypeTerm;
 use go_table_core::{TypeEntry, TypeTable};
+use go_term_core::TypeTerm;
 use std::alloc::{AllocError, Global};
 
 /// The kinds of all defined types: those of a package by their numbers, and those of other packages.

@@ -4,21 +4,21 @@ use Rattle.std.proofs.lemmas.List.{length-map}
 use Rattle.go_text_core.specs.Text.{is_blank}
 use Rattle.go_text_core.specs.declared.rule.Rule.{Rule}
 use Rattle.go_text_core.specs.declared.rule.Rule.TheVariants.{M0, N1, N8}
-use Rattle.go_graph_core.specs.Packages.{AllHaveTrees, Trees, trees_of}
-use Rattle.go_graph_core.proofs.Assemblies.{as_many}
-use Rattle.go_block_core.specs.declared.imports.Imported.{Imported}
-use Rattle.go_block_core.specs.Blocks.{BlocksModel}
-use Rattle.go_block_core.specs.Holding.{file_block}
-use Rattle.go_block_core.specs.Naming.{package_named}
-use Rattle.go_block_core.specs.open_core.Blocks.{found_in}
-use Rattle.go_scope_core.specs.Laws.{denotes}
-use Rattle.go_scope_core.specs.Models.{ScopesModel, scopes_model}
-use Rattle.go_scope_core.specs.Scopes.{Denoted, scope_blocks}
+use Rattle.go_query_core.specs.graph_core.Packages.{AllHaveTrees, Trees, trees_of}
+use Rattle.go_query_core.specs.graph_core.Assemblies.{as_many}
+use Rattle.go_query_core.specs.block_core.declared.imports.Imported.{Imported}
+use Rattle.go_query_core.specs.block_core.Blocks.{BlocksModel}
+use Rattle.go_query_core.specs.block_core.Holding.{file_block}
+use Rattle.go_query_core.specs.block_core.Naming.{package_named}
+use Rattle.go_open_core.specs.Blocks.{found_in}
+use Rattle.go_query_core.specs.scope_core.Laws.{denotes}
+use Rattle.go_query_core.specs.scope_core.Models.{ScopesModel, scopes_model}
+use Rattle.go_query_core.specs.scope_core.Scopes.{Denoted, scope_blocks}
 use Rattle.go_term_core.specs.Terms.{Term}
-use Rattle.go_face_core.specs.table_core.Entries.{Entry}
-use Rattle.go_face_core.specs.denote_core.declared.things.Stand.TheVariants as stands
-use Rattle.go_face_core.specs.denote_core.Answers.{found_answer, refused}
-use Rattle.go_face_core.specs.Faces.{TheFace}
+use Rattle.go_member_core.specs.table_core.Entries.{Entry}
+use Rattle.go_member_core.specs.denote_core.declared.things.Stand.TheVariants as stands
+use Rattle.go_member_core.specs.denote_core.Answers.{found_answer, refused}
+use Rattle.go_query_core.specs.face_core.Faces.{TheFace}
 use Rattle.go_query_core.specs.ready_core.Packages.{PackageIn}
 use Rattle.go_query_core.specs.ready_core.Values.{AreDeclared}
 use Rattle.go_query_core.specs.summary_core.Summaries.{SummaryModel}

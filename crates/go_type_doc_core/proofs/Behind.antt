@@ -6,10 +6,10 @@ use Rattle.go_text_core.specs.declared.rule.Rule.{Rule}
 use Rattle.go_text_core.specs.declared.rule.Rule.TheVariants.{M0, S8}
 use Rattle.go_tree_nodes.specs.declared.usage.Usage.TheVariants as usages
 use Rattle.go_term_core.specs.Terms.{Term}
-use Rattle.go_face_core.specs.denote_core.Answers.{refused}
-use Rattle.go_face_core.specs.denote_core.Selectors.{exported_answer}
-use Rattle.go_face_core.specs.declared.shown.ShownFace.{ShownFace}
-use Rattle.go_face_core.specs.Packages.{PackageFacesModel, package_in, shown_by, shown_in_some}
+use Rattle.go_member_core.specs.denote_core.Answers.{refused}
+use Rattle.go_member_core.specs.denote_core.Selectors.{exported_answer}
+use Rattle.go_query_core.specs.face_core.declared.shown.ShownFace.{ShownFace}
+use Rattle.go_query_core.specs.face_core.Packages.{PackageFacesModel, package_in, shown_by, shown_in_some}
 use Rattle.go_query_core.specs.env_core.Found.{exported_shown}
 use Rattle.go_query_core.specs.summary_core.Summaries.{SummaryModel}
 use Rattle.go_query_core.specs.part_core.Inputs.{path_in}

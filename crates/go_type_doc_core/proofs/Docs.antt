@@ -2,7 +2,7 @@
 use Rattle.std.proofs.Common.{◌≡◌, ◌≢◌, ◌⊎◌, inl, inr, ℕ, List, Option, subst}
 use Rattle.go_text_core.specs.declared.rule.Rule.{Rule}
 use Rattle.go_text_core.specs.declared.rule.Rule.TheVariants.{M0}
-use Rattle.go_graph_core.specs.declared.imports.ImportOutcome.TheVariants.{Refused}
+use Rattle.go_query_core.specs.graph_core.declared.imports.ImportOutcome.TheVariants.{Refused}
 use Rattle.go_query_core.specs.list_core.Importing.{IsJudgedAt}
 use Rattle.go_term_core.specs.Terms.{Term}
 use Rattle.go_query_core.specs.part_core.Inputs.{path_in}

@@ -4,18 +4,18 @@ use Rattle.go_text_core.specs.Text.{is_blank}
 use Rattle.go_text_core.specs.declared.rule.Rule.{Rule}
 use Rattle.go_text_core.specs.declared.rule.Rule.TheVariants.{S8}
 use Rattle.go_term_core.specs.Terms.{Term, Sign}
-use Rattle.go_face_core.specs.table_core.Entries.{Entry, EntryLook, find_entry}
-use Rattle.go_face_core.specs.table_core.Laws.{AgreeFrom}
-use Rattle.go_face_core.specs.embed_core.Owners.{Found, AFieldOf, AMethodOf, AnInterfaces, TheErrorMethod}
-use Rattle.go_face_core.specs.denote_core.declared.things.Outcome.{Outcome}
-use Rattle.go_face_core.specs.denote_core.declared.things.Selection.{Selection}
-use Rattle.go_face_core.specs.denote_core.Answers.{refused}
-use Rattle.go_face_core.specs.denote_core.Selectors.{member_answer}
-use Rattle.go_face_core.specs.decide_core.Rules.{term_rules}
-use Rattle.go_face_core.specs.decide_core.Selecting.{Choice, choice, selected_of}
-use Rattle.go_face_core.specs.decide_core.Localities.{decisions_local}
-use Rattle.go_face_core.specs.handle_core.Declarations.{Declaration, declaration_found}
-use Rattle.go_face_core.specs.handle_core.Names.{selection_in, shown_choice}
+use Rattle.go_member_core.specs.table_core.Entries.{Entry, EntryLook, find_entry}
+use Rattle.go_member_core.specs.table_core.Laws.{AgreeFrom}
+use Rattle.go_member_core.specs.embed_core.Owners.{Found, AFieldOf, AMethodOf, AnInterfaces, TheErrorMethod}
+use Rattle.go_member_core.specs.denote_core.declared.things.Outcome.{Outcome}
+use Rattle.go_member_core.specs.denote_core.declared.things.Selection.{Selection}
+use Rattle.go_member_core.specs.denote_core.Answers.{refused}
+use Rattle.go_member_core.specs.denote_core.Selectors.{member_answer}
+use Rattle.go_member_core.specs.decide_core.Rules.{term_rules}
+use Rattle.go_member_core.specs.decide_core.Selecting.{Choice, choice, selected_of}
+use Rattle.go_member_core.specs.decide_core.Localities.{decisions_local}
+use Rattle.go_member_core.specs.handle_core.Declarations.{Declaration, declaration_found}
+use Rattle.go_member_core.specs.handle_core.Names.{selection_in, shown_choice}
 use Rattle.go_member_core.specs.declared.listing.MemberKind.{MemberKind}
 use Rattle.go_member_core.specs.declared.listing.MemberKind.TheVariants as kinds
 use Rattle.go_member_core.specs.Members.{AreLooks, AreMembers, MemberOf, TheLook, behind_variable, usage_of}

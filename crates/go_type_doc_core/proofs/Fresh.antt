@@ -6,26 +6,26 @@ use Rattle.go_text_core.specs.declared.rule.Rule.TheVariants.{N6}
 use Rattle.go_universe_core.specs.declared.Predeclared.{Predeclared}
 use Rattle.go_universe_core.specs.Universe.{found}
 use Rattle.go_decl_core.specs.declared.keys.DeclRef.{DeclRef}
-use Rattle.go_graph_core.specs.Packages.{Trees, tree_shown}
-use Rattle.go_block_core.specs.Blocks.{file_binding, in_some}
-use Rattle.go_block_core.specs.Holding.{package_block}
-use Rattle.go_block_core.specs.Tables.{has, in_block}
-use Rattle.go_scope_core.specs.Laws.{denotes}
-use Rattle.go_scope_core.specs.Models.{scopes_model}
-use Rattle.go_scope_core.specs.Scopes.{Denoted, Universe, Package}
-use Rattle.go_scope_core.proofs.Lookups.{by_parts, in_scope}
+use Rattle.go_query_core.specs.graph_core.Packages.{Trees, tree_shown}
+use Rattle.go_query_core.specs.block_core.Blocks.{file_binding, in_some}
+use Rattle.go_query_core.specs.block_core.Holding.{package_block}
+use Rattle.go_query_core.specs.block_core.Tables.{has, in_block}
+use Rattle.go_query_core.specs.scope_core.Laws.{denotes}
+use Rattle.go_query_core.specs.scope_core.Models.{scopes_model}
+use Rattle.go_query_core.specs.scope_core.Scopes.{Denoted, Universe, Package}
+use Rattle.go_query_core.specs.scope_core_lemmas.Lookups.{by_parts, in_scope}
 use Rattle.go_term_core.specs.Terms.{Term}
 use Rattle.go_term_core.specs.declared.term.MemberPlace.TheVariants as places
-use Rattle.go_face_core.specs.table_core.Entries.{Entry}
-use Rattle.go_face_core.specs.denote_core.declared.things.Denoted.TheVariants as denotes_as
-use Rattle.go_face_core.specs.denote_core.declared.things.Outcome.TheVariants as outcomes
-use Rattle.go_face_core.specs.denote_core.declared.things.Stand.TheVariants as stands
-use Rattle.go_face_core.specs.denote_core.Answers.{found_answer}
-use Rattle.go_face_core.specs.handle_core.Declarations as declarations
-use Rattle.go_face_core.specs.handle_core.Declarations.{Declaration, InFile}
+use Rattle.go_member_core.specs.table_core.Entries.{Entry}
+use Rattle.go_member_core.specs.denote_core.declared.things.Denoted.TheVariants as denotes_as
+use Rattle.go_member_core.specs.denote_core.declared.things.Outcome.TheVariants as outcomes
+use Rattle.go_member_core.specs.denote_core.declared.things.Stand.TheVariants as stands
+use Rattle.go_member_core.specs.denote_core.Answers.{found_answer}
+use Rattle.go_member_core.specs.handle_core.Declarations as declarations
+use Rattle.go_member_core.specs.handle_core.Declarations.{Declaration, InFile}
 use Rattle.go_query_core.specs.names_core.Scope.{some_meaning}
-use Rattle.go_face_core.specs.declared.face.Face.TheVariants as faces
-use Rattle.go_face_core.specs.Faces.{TheFace}
+use Rattle.go_query_core.specs.face_core.declared.face.Face.TheVariants as faces
+use Rattle.go_query_core.specs.face_core.Faces.{TheFace}
 use Rattle.go_query_core.specs.env_core.declared.meaning.Meaning.TheVariants as meanings
 use Rattle.go_query_core.specs.env_core.Found.{TheFound, found_face, found_of, own_face}
 use Rattle.go_query_core.specs.ready_core.Packages.{PackageIn, scene_in}

@@ -10,8 +10,8 @@ use Rattle.std.proofs.lemmas.Bool.{true≢false}
 use Rattle.std.proofs.lemmas.Map.Lookups.{exact_unsigned}
 use Rattle.std.proofs.lemmas.Option.{same_Some, slice_get_past}
 use Rattle.go_decl_core.specs.declared.keys.DeclRef.{DeclRef}
-use Rattle.go_graph_core.specs.Sources.{SourceModel}
-use Rattle.go_graph_core.proofs.Places.{equal_texts}
+use Rattle.go_query_core.specs.graph_core.Sources.{SourceModel}
+use Rattle.go_query_core.specs.graph_core.Places.{equal_texts}
 use Rattle.go_query_core.specs.symbol_core.mirrors.Docs.{AreDocsOf, DocsOf}
 use Rattle.go_query_core.specs.part_core.Parts.{PartModel}
 use Rattle.go_query_core.specs.part_core.Inputs.{path_in}

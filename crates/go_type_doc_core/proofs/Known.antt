@@ -14,27 +14,27 @@ use Rattle.go_decl_core.specs.declared.places.DeclKind.{DeclKind}
 use Rattle.go_decl_core.specs.declared.places.DeclKind.TheVariants as kinds
 use Rattle.go_decl_core.specs.Outer.{kind_of_func, kind_of_value}
 use Rattle.go_decl_core.specs.TopDecls.{FormTree, FuncForm, TypeForm, ValueForm, kind_of_form, top_decls}
-use Rattle.go_graph_core.specs.Packages.{Trees, tree_shown}
-use Rattle.go_block_core.specs.Bindings.{key_of}
-use Rattle.go_block_core.specs.Declarations.{decl_ref}
-use Rattle.go_block_core.specs.Holding.{package_block}
-use Rattle.go_block_core.specs.Tables.{in_block}
+use Rattle.go_query_core.specs.graph_core.Packages.{Trees, tree_shown}
+use Rattle.go_query_core.specs.block_core.Bindings.{key_of}
+use Rattle.go_query_core.specs.block_core.Declarations.{decl_ref}
+use Rattle.go_query_core.specs.block_core.Holding.{package_block}
+use Rattle.go_query_core.specs.block_core.Tables.{in_block}
 use Rattle.go_term_core.specs.Terms.{Defined}
-use Rattle.go_face_core.specs.table_core.Entries.{Entry, find_entry}
-use Rattle.go_face_core.specs.decide_core.Rules.{typed}
-use Rattle.go_face_core.specs.written_core.Written.{InFile, Meaning}
-use Rattle.go_face_core.specs.entry_core.Entries.{file_at, type_key}
-use Rattle.go_face_core.specs.entry_core.Laws.{IsDeclaredInFile}
-use Rattle.go_face_core.specs.entry_core.Meanings.{file_meaning}
-use Rattle.go_face_core.specs.entry_core.Outlines.{FileOutline, IsOutline, outline_of}
-use Rattle.go_face_core.specs.entry_core.Among.{among_to}
+use Rattle.go_member_core.specs.table_core.Entries.{Entry, find_entry}
+use Rattle.go_member_core.specs.decide_core.Rules.{typed}
+use Rattle.go_written_core.specs.Written.{InFile, Meaning}
+use Rattle.go_query_core.specs.entry_core.Entries.{file_at, type_key}
+use Rattle.go_query_core.specs.entry_core.Laws.{IsDeclaredInFile}
+use Rattle.go_query_core.specs.entry_core.Meanings.{file_meaning}
+use Rattle.go_query_core.specs.entry_core.Outlines.{FileOutline, IsOutline, outline_of}
+use Rattle.go_query_core.specs.entry_core.Among.{among_to}
 use Rattle.go_needs_core.specs.Needs.{known_in, needed}
 use Rattle.go_needs_core.proofs.Needed.{endless_never}
-use Rattle.go_face_core.specs.declared.face.Face.TheVariants as faces
-use Rattle.go_face_core.specs.Faces.{TheFace}
-use Rattle.go_face_core.specs.Laws.{FileDecl, Stands, package_decls, written_there}
-use Rattle.go_face_core.specs.Written.{WrittenOf, face_found, form_as_written, package_written, type_face, value_as_written, written_at, written_of}
-use Rattle.go_face_core.proofs.Places.{positions_are_exact}
+use Rattle.go_query_core.specs.face_core.declared.face.Face.TheVariants as faces
+use Rattle.go_query_core.specs.face_core.Faces.{TheFace}
+use Rattle.go_query_core.specs.face_core.Laws.{FileDecl, Stands, package_decls, written_there}
+use Rattle.go_query_core.specs.face_core.Written.{WrittenOf, face_found, form_as_written, package_written, type_face, value_as_written, written_at, written_of}
+use Rattle.go_query_core.specs.face_core.Places.{positions_are_exact}
 use Rattle.go_query_core.specs.env_core.Found.{face_at, own_face}
 use Rattle.go_query_core.specs.env_core.Looks.{TheLooks}
 use Rattle.go_query_core.specs.env_core.Scenes.{SceneModel}

@@ -6,8 +6,8 @@ use Rattle.go_doc_core.specs.DocComments.{IsDocComment}
 use Rattle.go_tree_nodes.specs.Trees.{FileTree}
 use Rattle.go_decl_core.specs.TopDecls.{TopDeclTree, top_decls}
 use Rattle.go_decl_core.specs.declared.anchoring.Anchor.{Anchor}
-use Rattle.go_graph_core.specs.parse_core.declared.error.SynFault.{SynFault}
-use Rattle.go_graph_core.specs.Sources.{SourceModel}
+use Rattle.go_query_core.specs.parse_core.declared.error.SynFault.{SynFault}
+use Rattle.go_query_core.specs.graph_core.Sources.{SourceModel}
 use Rattle.go_query_core.specs.symbol_core.Symbols.{IsDocOf, comments_found}
 use Rattle.go_query_core.specs.symbol_core.mirrors.Docs.{AreDocsOf, DocsOf, HasNumber, HasNumberAt}
 use Rattle.go_type_doc_core.specs.Comments.{HasNoDecl, IsSourceDoc}

@@ -1,9 +1,9 @@
 -- Members are told one after another.
 use Rattle.std.proofs.Common.{◌≡◌, ℕ, Option, Some, None, length, arith, List, [], ◌∷◌, ◌++◌, map, refl, sym, ap, ◌∙◌, subst, append_assoc, append-nil}
 use Rattle.std.specs.List.{AllZip}
-use Rattle.go_graph_core.proofs.Zips.{zip_append}
+use Rattle.go_query_core.specs.graph_core.Zips.{zip_append}
 use Rattle.go_term_core.specs.Terms.{Term}
-use Rattle.go_face_core.specs.table_core.Entries.{Entry}
+use Rattle.go_member_core.specs.table_core.Entries.{Entry}
 use Rattle.go_query_core.specs.snap_core.Snapshots.{SnapshotModel}
 use Rattle.go_member_core.specs.declared.listing.MethodPlace.{MethodPlace}
 use Rattle.go_member_core.specs.declared.listing.TypeMember.{TypeMember}

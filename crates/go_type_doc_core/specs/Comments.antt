@@ -5,7 +5,7 @@ use Rattle.std.specs.Prelude.{◌≡◌, ◌⊎◌, ℕ, List, [], Option, Some,
 use Rattle.go_tree_nodes.specs.Trees.{FileTree}
 use Rattle.go_decl_core.specs.TopDecls.{TopDeclTree, top_decls}
 use Rattle.go_decl_core.specs.declared.keys.DeclRef.{DeclRef}
-use Rattle.go_graph_core.specs.Sources.{SourceModel}
+use Rattle.go_query_core.specs.graph_core.Sources.{SourceModel}
 use Rattle.go_query_core.specs.symbol_core.Symbols.{IsDocOf}
 use Rattle.go_query_core.specs.part_core.Parts.{PartModel}
 use Rattle.go_query_core.specs.snap_core.Snapshots.{IsPartAt, SnapshotModel}

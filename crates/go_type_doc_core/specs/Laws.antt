@@ -1,10 +1,10 @@
 -- Laws of what is asked of a type.
 use Rattle.std.specs.Prelude.{◌≡◌, ℕ, List, Contains}
 use Rattle.go_term_core.specs.Terms.{Term}
-use Rattle.go_face_core.specs.table_core.Entries.{Entry, find_entry}
-use Rattle.go_face_core.specs.table_core.Laws.{AgreeFrom}
-use Rattle.go_face_core.specs.denote_core.declared.things.Outcome.TheVariants as outcomes
-use Rattle.go_face_core.specs.handle_core.Declarations.{Declaration}
+use Rattle.go_member_core.specs.table_core.Entries.{Entry, find_entry}
+use Rattle.go_member_core.specs.table_core.Laws.{AgreeFrom}
+use Rattle.go_member_core.specs.denote_core.declared.things.Outcome.TheVariants as outcomes
+use Rattle.go_member_core.specs.handle_core.Declarations.{Declaration}
 use Rattle.go_query_core.specs.part_core.Inputs.{path_in}
 use Rattle.go_query_core.specs.part_core.Parts.{PartModel, seen_by}
 use Rattle.go_member_core.specs.declared.listing.MemberKind.{MemberKind}

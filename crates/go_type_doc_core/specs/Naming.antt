@@ -5,15 +5,15 @@ use Rattle.std.specs.Prelude.{◌++◌, ℕ, List, [], ◌∷◌, length, Option
 use Rattle.go_text_core.specs.declared.rule.Rule.{Rule}
 use Rattle.go_tree_nodes.specs.declared.usage.Usage.TheVariants as usages
 use Rattle.go_term_core.specs.Terms.{Term}
-use Rattle.go_face_core.specs.table_core.Entries.{Entry}
-use Rattle.go_face_core.specs.entry_core.Outlines.{FileOutline}
-use Rattle.go_face_core.specs.entry_core.Showing.{shown_in}
-use Rattle.go_face_core.specs.denote_core.declared.things.Dot.TheVariants as dots
-use Rattle.go_face_core.specs.denote_core.declared.things.Stand.TheVariants as stands
-use Rattle.go_face_core.specs.denote_core.Answers.{name_answer}
-use Rattle.go_face_core.specs.denote_core.Selectors.{selector_answer}
+use Rattle.go_member_core.specs.table_core.Entries.{Entry}
+use Rattle.go_query_core.specs.entry_core.Outlines.{FileOutline}
+use Rattle.go_query_core.specs.entry_core.Showing.{shown_in}
+use Rattle.go_member_core.specs.denote_core.declared.things.Dot.TheVariants as dots
+use Rattle.go_member_core.specs.denote_core.declared.things.Stand.TheVariants as stands
+use Rattle.go_member_core.specs.denote_core.Answers.{name_answer}
+use Rattle.go_member_core.specs.denote_core.Selectors.{selector_answer}
 use Rattle.go_query_core.specs.expr_core.Looks.{look_of_place}
-use Rattle.go_face_core.specs.handle_core.Declarations.{Package}
+use Rattle.go_member_core.specs.handle_core.Declarations.{Package}
 use Rattle.go_query_core.specs.func_core.Stands.{FileStand, outer_looks}
 use Rattle.go_query_core.specs.ready_core.Packages.{stand_in}
 use Rattle.go_query_core.specs.summary_core.Views.{exports_told, types_told}

@@ -5,9 +5,9 @@ use Rattle.std.specs.Prelude.{◌≡◌, ◌≢◌, ◌⊎◌, ℕ, List, [], Op
 use Rattle.std.specs.List.{AllZip}
 use Rattle.go_text_core.specs.declared.rule.Rule.{Rule}
 use Rattle.go_text_core.specs.declared.rule.Rule.TheVariants.{Q1}
-use Rattle.go_graph_core.specs.Packages.{IsPackageName, trees_of}
+use Rattle.go_query_core.specs.graph_core.Packages.{IsPackageName, trees_of}
 use Rattle.go_term_core.specs.Terms.{Term}
-use Rattle.go_face_core.specs.table_core.Entries.{Entry}
+use Rattle.go_member_core.specs.table_core.Entries.{Entry}
 use Rattle.go_query_core.specs.part_core.Inputs.{path_in}
 use Rattle.go_query_core.specs.part_core.Parts.{PartModel}
 use Rattle.go_query_core.specs.snap_core.Snapshots.{SnapshotModel}

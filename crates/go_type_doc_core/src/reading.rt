@@ -1,7 +1,7 @@
 //! The doc comments of methods, from files that are read once.
 ghost use Rattle.std.specs.Prelude.{◌≡◌, ◌<◌, List, All, IfOk, IfSome, MatchOption, OnOk, [], length, map, nat_lt};
 ghost use Rattle.go_decl_core.specs.Shown.{decl_shown};
-ghost use Rattle.go_graph_core.specs.Sources.{SourceModel};
+ghost use Rattle.go_query_core.specs.graph_core.Sources.{SourceModel};
 ghost use Rattle.go_scan_core.specs.Texts.{CommentHasItsText};
 ghost use Rattle.go_scan_core.specs.Tokens.{CommentsInOrder};
 ghost use Rattle.go_query_core.specs.symbol_core.Symbols.{comments_found};
@@ -13,8 +13,8 @@ ghost use Rattle.go_type_doc_core.specs.mirrors.Read.{AreRead, IsDocIn, read_sho
 
 use go_decl_core::{Anchor, DeclRef, Outline, TopDecl, anchors, outline};
 use go_doc_core::doc_comment;
-use go_graph_core::Package;
 use go_path_core::ImportPath;
+use go_query_core::graph_core::Package;
 use go_query_core::part_core::Part;
 use go_query_core::snap_core::Snapshot;
 use go_scan_core::comments;

@@ -15,7 +15,7 @@ ghost use Rattle.go_type_doc_core.specs.mirrors.Steps.{IsOtherDocOf, IsOtherStop
 use crate::finding::{imported_part, own_part};
 use crate::naming::{other_type, own_type};
 use crate::reading::{ReadFiles, method_doc};
-use go_face_core::table_core::TypeTable;
+use go_member_core::table_core::TypeTable;
 use go_member_core::{MemberKind, MethodPlace, TypeMember, members_of};
 use go_path_core::ImportPath;
 use go_query_core::part_core::{Part, types_of};

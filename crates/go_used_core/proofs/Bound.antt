@@ -4,12 +4,12 @@ use Rattle.std.specs.Str.{bytes_eq}
 use Rattle.std.proofs.lemmas.Bool.{and_from, and_parts}
 use Rattle.std.proofs.lemmas.Slice.Eq.{bytes_eq-Decides}
 use Rattle.go_text_core.specs.declared.rule.Rule.{Rule}
-use Rattle.go_tree_core.specs.declared.occurrence.Role.{Role}
-use Rattle.go_tree_core.specs.declared.occurrence.Role.TheVariants as roles
+use Rattle.go_term_core.specs.tree_core.declared.occurrence.Role.{Role}
+use Rattle.go_term_core.specs.tree_core.declared.occurrence.Role.TheVariants as roles
 use Rattle.go_answer_core.specs.decl_core.declared.keys.DeclRef.{DeclRef}
 use Rattle.go_answer_core.specs.decl_core.declared.keys.DeclKey.{DeclKey}
-use Rattle.go_answer_core.specs.term_core.declared.term.MemberPlace.{MemberPlace}
-use Rattle.go_answer_core.specs.term_core.declared.term.MemberPlace.TheVariants as member
+use Rattle.go_term_core.specs.declared.term.MemberPlace.{MemberPlace}
+use Rattle.go_term_core.specs.declared.term.MemberPlace.TheVariants as member
 use Rattle.go_answer_core.specs.block_core.declared.binding.Target.{Target}
 use Rattle.go_answer_core.specs.block_core.declared.binding.Target.TheVariants as targets
 use Rattle.go_answer_core.specs.handle_core.Declarations.{Universe, OfError, Package, InFile}

@@ -2,7 +2,7 @@
 use Rattle.std.proofs.Common.{◌≡◌, ◌⊎◌, inl, inr, ⊎_elim, ℕ, List, [], ◌∷◌, ◌++◌, refl, sym, ap, subst, ◌∙◌}
 use Rattle.std.specs.Prelude.{AllPairs, Contains}
 use Rattle.go_text_core.specs.declared.rule.Rule.{Rule}
-use Rattle.go_answer_core.specs.term_core.Members.{In, contained_in, in_back, in_contained, in_either, in_front}
+use Rattle.go_term_core.proofs.Members.{In, contained_in, in_back, in_contained, in_either, in_front}
 use Rattle.go_answer_core.specs.report_core.Faults.{ComesBefore, IsSaid, IsSettled}
 use Rattle.go_answer_core.specs.report_core.Laws.{SettledFaultsAreOne}
 use Rattle.go_answer_core.specs.local_core.declared.Fault.{Fault}

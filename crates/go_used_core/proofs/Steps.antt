@@ -7,7 +7,7 @@ use Rattle.go_tree_nodes.specs.declared.files.ImportDecl.{ImportDecl}
 use Rattle.go_tree_nodes.specs.declared.files.ImportLine.{ImportLine}
 use Rattle.go_tree_nodes.specs.Shapes.{import_of, shape_import_line, shape_import_specs}
 use Rattle.go_tree_nodes.specs.Trees.{ImportSpecTree}
-use Rattle.go_tree_core.specs.declared.occurrence.Occ.{Occ}
+use Rattle.go_term_core.specs.tree_core.declared.occurrence.Occ.{Occ}
 use Rattle.go_answer_core.specs.block_core.Blocks.{BlocksModel}
 use Rattle.go_answer_core.specs.block_core.Naming.{specs_in, specs_of}
 use Rattle.go_used_core.specs.Used.{FileUse, blank_place, used_by, used_places}

@@ -1,8 +1,8 @@
 -- Which imports are used, by the occurrences of a file.
 use Rattle.std.proofs.Common.{◌≡◌, ◌⊎◌, inl, inr, ⊎_elim, ℕ, zero, suc, Bool, true, false, List, [], ◌∷◌, Option, Some, None, refl, sym, ap, subst}
 use Rattle.std.specs.Prelude.{if◌then◌else◌, slice_get}
-use Rattle.go_answer_core.specs.term_core.Members.{In, in_back, in_either, in_front}
-use Rattle.go_tree_core.specs.declared.occurrence.Occ.{Occ}
+use Rattle.go_term_core.proofs.Members.{In, in_back, in_either, in_front}
+use Rattle.go_term_core.specs.tree_core.declared.occurrence.Occ.{Occ}
 use Rattle.go_answer_core.specs.block_core.declared.binding.Binding.{Binding}
 use Rattle.go_answer_core.specs.block_core.Blocks.{BlocksModel, file_binding}
 use Rattle.go_used_core.specs.Laws.{IsBoundBy, IsByDot, IsQualified}

@@ -1,11 +1,11 @@
 -- Laws of imports that are used.
 use Rattle.std.specs.Prelude.{◌≡◌, ◌↔◌, ◌⊎◌, ℕ, suc, true, List, Some, slice_get, Contains}
 use Rattle.go_text_core.specs.declared.rule.Rule.{Rule}
-use Rattle.go_tree_core.specs.declared.occurrence.Role.TheVariants as roles
-use Rattle.go_tree_core.specs.declared.occurrence.Occ.{Occ}
+use Rattle.go_term_core.specs.tree_core.declared.occurrence.Role.TheVariants as roles
+use Rattle.go_term_core.specs.tree_core.declared.occurrence.Occ.{Occ}
 use Rattle.go_answer_core.specs.decl_core.declared.keys.DeclRef.{DeclRef}
 use Rattle.go_answer_core.specs.decl_core.declared.keys.DeclKey.{DeclKey}
-use Rattle.go_answer_core.specs.term_core.declared.term.MemberPlace.TheVariants as member
+use Rattle.go_term_core.specs.declared.term.MemberPlace.TheVariants as member
 use Rattle.go_answer_core.specs.block_core.declared.binding.Binding.{Binding}
 use Rattle.go_answer_core.specs.block_core.declared.binding.Target.TheVariants as targets
 use Rattle.go_answer_core.specs.block_core.Blocks.{BlocksModel, file_binding}

@@ -9,13 +9,13 @@ use Rattle.go_text_core.specs.declared.rule.Rule.TheVariants.{I7}
 use Rattle.go_tree_nodes.specs.declared.files.ImportName.{ImportName}
 use Rattle.go_tree_nodes.specs.declared.files.ImportName.TheVariants as written
 use Rattle.go_tree_nodes.specs.Trees.{FileTree, ImportSpecTree}
-use Rattle.go_tree_core.specs.declared.occurrence.Role.{Role}
-use Rattle.go_tree_core.specs.declared.occurrence.Role.TheVariants as roles
-use Rattle.go_tree_core.specs.declared.occurrence.Occ.{Occ}
-use Rattle.go_tree_core.specs.Occurrences.{file_occs}
+use Rattle.go_term_core.specs.tree_core.declared.occurrence.Role.{Role}
+use Rattle.go_term_core.specs.tree_core.declared.occurrence.Role.TheVariants as roles
+use Rattle.go_term_core.specs.tree_core.declared.occurrence.Occ.{Occ}
+use Rattle.go_term_core.specs.tree_core.Occurrences.{file_occs}
 use Rattle.go_answer_core.specs.decl_core.declared.keys.DeclRef.{DeclRef}
-use Rattle.go_answer_core.specs.term_core.declared.term.MemberPlace.{MemberPlace}
-use Rattle.go_answer_core.specs.term_core.declared.term.MemberPlace.TheVariants as member
+use Rattle.go_term_core.specs.declared.term.MemberPlace.{MemberPlace}
+use Rattle.go_term_core.specs.declared.term.MemberPlace.TheVariants as member
 use Rattle.go_answer_core.specs.block_core.declared.binding.Binding.{Binding}
 use Rattle.go_answer_core.specs.block_core.declared.binding.Target.{Target}
 use Rattle.go_answer_core.specs.block_core.declared.binding.Target.TheVariants as targets

@@ -3,11 +3,15 @@ pub use Rattle.go_answer_core.specs.expr_core.Alike as Alike
 pub use Rattle.go_answer_core.specs.expr_core.Denoting as Denoting
 pub use Rattle.go_answer_core.specs.expr_core.Elements as Elements
 pub use Rattle.go_answer_core.specs.expr_core.Faults as Faults
+pub use Rattle.go_answer_core.specs.expr_core.Independence as Independence
 pub use Rattle.go_answer_core.specs.expr_core.Laws as Laws
 pub use Rattle.go_answer_core.specs.expr_core.Lists as Lists
+pub use Rattle.go_answer_core.specs.expr_core.Locality as Locality
 pub use Rattle.go_answer_core.specs.expr_core.Looks as Looks
+pub use Rattle.go_answer_core.specs.expr_core.Needed as Needed
 pub use Rattle.go_answer_core.specs.expr_core.Operators as Operators
 pub use Rattle.go_answer_core.specs.expr_core.Places as Places
+pub use Rattle.go_answer_core.specs.expr_core.Respelling as Respelling
 pub use Rattle.go_answer_core.specs.expr_core.TypeUses as TypeUses
 pub use Rattle.go_answer_core.specs.expr_core.Uses as Uses
 pub use Rattle.go_answer_core.specs.expr_core.declared as declared

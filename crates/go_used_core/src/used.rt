@@ -11,9 +11,9 @@ use go_answer_core::block_core::{Binding, Blocks, Target};
 use go_answer_core::decl_core::DeclRef;
 use go_answer_core::denote_core::Outcome;
 use go_answer_core::handle_core::DeclSite;
-use go_answer_core::term_core::MemberPlace;
 use go_path_core::ImportPath;
-use go_tree_core::{Occ, Role};
+use go_term_core::MemberPlace;
+use go_term_core::tree_core::{Occ, Role};
 use std::alloc::{AllocError, Global};
 
 // Whether a package is declared at a site.

@@ -19,9 +19,9 @@ use Rattle.go_env_core.specs.scope_core.Scopes as scopes
 use Rattle.go_env_core.specs.scope_core.Scopes.{Denoted}
 use Rattle.go_env_core.specs.scope_core.Laws.{denotes}
 use Rattle.go_env_core.specs.names_core.Scope.{some_meaning}
-use Rattle.go_env_core.specs.term_core.Terms.{Term}
-use Rattle.go_piece_core.specs.expr_core.Laws.{AgreeOnIdents, LooksAtNames}
-use Rattle.go_piece_core.specs.expr_core.Looks.{WrittenRules}
+use Rattle.go_term_core.specs.Terms.{Term}
+use Rattle.go_env_core.specs.expr_core.Laws.{AgreeOnIdents, LooksAtNames}
+use Rattle.go_env_core.specs.expr_core.Looks.{WrittenRules}
 use Rattle.go_env_core.specs.inline_core.Types.{InlineOf}
 use Rattle.go_env_core.specs.face_core.declared.face.Face.TheVariants as faces
 use Rattle.go_env_core.specs.face_core.Faces.{TheFace}

@@ -21,7 +21,7 @@ use Rattle.go_tree_nodes.specs.Trees.{FieldTrees}
 use Rattle.go_tree_nodes.specs.TypeShapes.{shape_type, shape_signature, fields_before, fields_of, methods_of, params_of}
 use Rattle.go_tree_nodes.specs.Shapes.{shape, items_of}
 use Rattle.go_tree_nodes.proofs.ShapeLemmas.{call_parts, literal_parts, struct_literal_parts}
-use Rattle.go_piece_core.specs.expr_core.Needed.{needed_idents, needed_by_args}
+use Rattle.go_env_core.specs.expr_core.Needed.{needed_idents, needed_by_args}
 use Rattle.go_tree_nodes.specs.Idents.{type_name_idents, type_idents, fields_idents, methods_idents, signature_type_idents, params_idents}
 use Rattle.go_tree_nodes.specs.Idents.{field_idents}
 

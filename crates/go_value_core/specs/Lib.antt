@@ -13,6 +13,6 @@ pub mod inline_core
 pub mod names_core
 pub mod operand_core
 pub mod scope_core
+pub mod statement_core
 pub mod table_core
-pub mod term_core
 pub mod written_core

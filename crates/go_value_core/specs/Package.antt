@@ -15,7 +15,7 @@ use Rattle.go_env_core.specs.scope_core.Models.{scopes_model}
 use Rattle.go_env_core.specs.scope_core.Scopes as scopes
 use Rattle.go_env_core.specs.scope_core.Scopes.{Denoted}
 use Rattle.go_env_core.specs.scope_core.Laws.{denotes}
-use Rattle.go_piece_core.specs.local_core.Binding.{NameLook}
+use Rattle.go_env_core.specs.local_core.Binding.{NameLook}
 use Rattle.go_env_core.specs.names_core.Scope.{beyond_in}
 use Rattle.go_env_core.specs.entry_core.Outlines.{FileOutline}
 use Rattle.go_env_core.specs.inline_core.Types.{InlineOf}

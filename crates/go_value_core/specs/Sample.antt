@@ -11,11 +11,11 @@ use Rattle.go_env_core.specs.decl_core.declared.places.DeclKind.TheVariants as k
 use Rattle.go_env_core.specs.decl_core.declared.keys.DeclRef.{DeclRef}
 use Rattle.go_env_core.specs.decl_core.TopDecls.{FormTree, ValueForm, top_decl}
 use Rattle.go_env_core.specs.block_core.Blocks.{blocks_model}
-use Rattle.go_piece_core.specs.constant_core.declared.values.Constant.TheVariants as constants
-use Rattle.go_env_core.specs.term_core.declared.term.Basic.TheVariants as basics
-use Rattle.go_env_core.specs.term_core.Terms.{Term, Predeclared}
-use Rattle.go_piece_core.specs.operand_core.declared.types.ValueType.TheVariants as value_types
-use Rattle.go_piece_core.specs.operand_core.declared.types.Operand.{Operand}
+use Rattle.go_constant_core.specs.declared.values.Constant.TheVariants as constants
+use Rattle.go_term_core.specs.declared.term.Basic.TheVariants as basics
+use Rattle.go_term_core.specs.Terms.{Term, Predeclared}
+use Rattle.go_env_core.specs.operand_core.declared.types.ValueType.TheVariants as value_types
+use Rattle.go_env_core.specs.operand_core.declared.types.Operand.{Operand}
 use Rattle.go_env_core.specs.face_core.declared.face.Face.TheVariants as faces
 use Rattle.go_env_core.specs.face_core.Faces.{TheFace, variable_face}
 use Rattle.go_env_core.specs.face_core.Written.{WrittenOf}

@@ -29,6 +29,11 @@ pub mod decl_core {
     pub use go_env_core::decl_core::{DeclForm, Outline};
 }
 
+/// What the crates above name of `go_entry_core`.
+pub mod entry_core {
+    pub use go_env_core::entry_core::{ImportedNames, outlines, type_entries};
+}
+
 /// What the crates above name of `go_env_core`.
 pub mod env_core {
     pub use go_env_core::{Meaning, Scene, outer_names, stand};
@@ -46,20 +51,27 @@ pub mod handle_core {
 
 /// What the crates above name of `go_inline_core`.
 pub mod inline_core {
-    pub use go_env_core::inline_core::InlineTypes;
+    pub use go_env_core::inline_core::{Ground, InlineTypes, function_types, initialiser_types};
 }
 
 /// What the crates above name of `go_names_core`.
 pub mod names_core {
-    pub use go_env_core::names_core::OpenNames;
+    pub use go_env_core::names_core::{Denoted, OpenNames, Outside, function_names};
 }
 
 /// What the crates above name of `go_operand_core`.
 pub mod operand_core {
-    pub use go_piece_core::operand_core::Operand;
+    pub use go_env_core::operand_core::{Operand, TypeForm, ValueType};
 }
 
 /// What the crates above name of `go_scope_core`.
 pub mod scope_core {
-    pub use go_env_core::scope_core::Scopes;
+    pub use go_env_core::scope_core::{DeclId, InScope, Scopes, ShortDecl, ShortName};
+}
+
+/// What the crates above name of `go_table_core`.
+pub mod table_core {
+    pub use go_env_core::table_core::{
+        DeclaredMethod, DefinedType, PackageTypes, StructField, TypeTable,
+    };
 }

@@ -1,7 +1,7 @@
 -- The steps of lists of lines, and of trees that values of the program hold.
 use Rattle.std.proofs.Common.{◌≡◌, List, [], ◌∷◌, map, Vec, refl, ap, ◌∙◌}
 use Rattle.std.specs.Global.{Global}
-use Rattle.go_text_core.specs.declared.span.Span.{Span}
+use Rattle.go_tree_nodes.specs.text_core.declared.span.Span.{Span}
 use Rattle.go_tree_nodes.specs.declared.decls.ValueKind.{ValueKind}
 use Rattle.go_tree_nodes.specs.declared.decls.ValueLine.{ValueLine}
 use Rattle.go_tree_nodes.specs.declared.stmts.«Line» as declared_line

@@ -2,7 +2,7 @@
 --
 -- The Go specification, "Declarations and scope", "Assignment statements".
 use Rattle.std.specs.Prelude.{List, [], ◌++◌, Option, Some, None, if◌then◌else◌}
-use Rattle.go_text_core.specs.declared.span.Span.{Span}
+use Rattle.go_tree_nodes.specs.text_core.declared.span.Span.{Span}
 use Rattle.go_tree_nodes.specs.declared.names.Ident.{Ident}
 use Rattle.go_tree_nodes.specs.Trees.{Separated, One, Then, ExprTree, ValueSpecTree}
 use Rattle.go_tree_nodes.specs.Idents.{expr_idents, list_idents, some_type_idents}

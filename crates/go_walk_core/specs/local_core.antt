@@ -4,7 +4,9 @@ pub use Rattle.go_local_core.specs.Binding as Binding
 pub use Rattle.go_local_core.specs.Faults as Faults
 pub use Rattle.go_local_core.specs.Law as Law
 pub use Rattle.go_local_core.specs.Outline as Outline
+pub use Rattle.go_local_core.proofs.Parts as Parts
 pub use Rattle.go_local_core.specs.Pieces as Pieces
+pub use Rattle.go_local_core.proofs.Placed as Placed
 pub use Rattle.go_local_core.proofs.Short as ShortProofs
 pub use Rattle.go_local_core.specs.Short as Short
 pub use Rattle.go_local_core.specs.Steps as Steps

@@ -4,7 +4,7 @@ ghost use Rattle.go_tree_nodes.specs.Shapes.{shape_stmt, shape_branch, shape_els
 ghost use Rattle.go_walk_core.specs.Ends.{has_break, branch_has_break, else_has_break, lines_have_break, loop_fault, loop_faults, branch_loop_faults, else_loop_faults, lines_loop_faults};
 
 use go_local_core::Fault;
-use go_text_core::{Rule, Span};
+use go_tree_nodes::text_core::{Rule, Span};
 use go_tree_nodes::{Branch, Line, Loop, Otherwise, Stmt};
 use std::alloc::AllocError;
 

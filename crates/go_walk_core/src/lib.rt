@@ -21,5 +21,5 @@ pub mod local_core {
 
 /// What the crates above name of `go_open_core`.
 pub mod open_core {
-    pub use go_local_core::open_core::NameList;
+    pub use go_local_core::open_core::{DeclId, NameList, ShortName};
 }

@@ -5,7 +5,7 @@ ghost use Rattle.go_tree_nodes.specs.Shapes.{shape, shape_some_exprs, shape_valu
 ghost use Rattle.go_local_core.specs.Steps.{Steps as TheSteps, Done, Check, Inner, Condition, Given};
 ghost use Rattle.go_local_core.specs.Outline.{spec_steps, simple_steps};
 
-use go_text_core::Span;
+use go_tree_nodes::text_core::Span;
 use go_tree_nodes::{Expr, Exprs, Simple, ValueKind, ValueSpec};
 
 /// What is done at each step of a function's body, in order of their places.

@@ -3,10 +3,10 @@ use Rattle.std.proofs.Common.{◌≡◌, ◌≢◌, ℕ, zero, suc, ◌+◌, inl
 use Rattle.std.specs.Prelude.{slice_get}
 use Rattle.std.specs.List.{flat_map}
 use Rattle.std.proofs.lemmas.List.Kept.{AllPairs-cons}
-use Rattle.go_block_core.specs.graph_core.Workspaces.{PackageModel, IsWorkspace}
-use Rattle.go_block_core.specs.graph_core.OneTarget.{same_number}
-use Rattle.go_block_core.specs.Blocks.{exports_of}
-use Rattle.go_block_core.specs.Exports.{ExportsModel}
+use Rattle.go_near_core.specs.graph_core.Workspaces.{PackageModel, IsWorkspace}
+use Rattle.go_near_core.specs.graph_core.OneTarget.{same_number}
+use Rattle.go_near_core.specs.block_core.Blocks.{exports_of}
+use Rattle.go_near_core.specs.block_core.Exports.{ExportsModel}
 use Rattle.go_near_core.specs.table_core.Entries.{Entry}
 use Rattle.go_near_core.specs.table_core.Tables.{package_types}
 use Rattle.go_near_core.specs.entry_core.Among.{Among}

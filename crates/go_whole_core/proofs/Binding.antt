@@ -2,22 +2,22 @@
 use Rattle.std.proofs.Common.{◌≡◌, ℕ, zero, suc, Bool, true, false, List, [], ◌∷◌, ◌++◌, inl, inr, if◌then◌else◌, refl, sym, ap, subst, ◌∙◌}
 use Rattle.std.specs.Prelude.{Option, Some, None, slice_get}
 use Rattle.go_tree_nodes.specs.Trees.{ImportSpecTree}
-use Rattle.go_block_core.specs.graph_core.Packages.{Trees}
+use Rattle.go_near_core.specs.graph_core.Packages.{Trees}
 use Rattle.go_text_core.specs.Text.{is_blank}
-use Rattle.go_block_core.specs.declared.binding.Binding.{Binding}
-use Rattle.go_block_core.specs.declared.binding.Target.{Target}
-use Rattle.go_block_core.specs.declared.imports.Imported.{Imported}
-use Rattle.go_block_core.specs.declared.imports.Imported.TheVariants as given
-use Rattle.go_block_core.specs.declared.imports.ImportForm.{ImportForm}
-use Rattle.go_block_core.specs.declared.imports.ImportForm.TheVariants as forms
-use Rattle.go_block_core.specs.declared.imports.NamedImport.{NamedImport}
-use Rattle.go_block_core.specs.Bindings.{Bound, bound_as, bound_if, dot_bound, exported_bound, file_bound, form_bound, import_bound, import_target}
-use Rattle.go_block_core.specs.Holding.{file_block}
-use Rattle.go_block_core.specs.Laws.{HasBinding}
-use Rattle.go_block_core.specs.Naming.{file_named, file_specs, package_named, specs_named}
-use Rattle.go_block_core.specs.Tables.{in_block}
-use Rattle.go_block_core.proofs.BindingLemmas.{imports_list}
-use Rattle.go_block_core.proofs.HoldingLaws.{file_answers, file_holds}
+use Rattle.go_near_core.specs.block_core.declared.binding.Binding.{Binding}
+use Rattle.go_near_core.specs.block_core.declared.binding.Target.{Target}
+use Rattle.go_near_core.specs.block_core.declared.imports.Imported.{Imported}
+use Rattle.go_near_core.specs.block_core.declared.imports.Imported.TheVariants as given
+use Rattle.go_near_core.specs.block_core.declared.imports.ImportForm.{ImportForm}
+use Rattle.go_near_core.specs.block_core.declared.imports.ImportForm.TheVariants as forms
+use Rattle.go_near_core.specs.block_core.declared.imports.NamedImport.{NamedImport}
+use Rattle.go_near_core.specs.block_core.Bindings.{Bound, bound_as, bound_if, dot_bound, exported_bound, file_bound, form_bound, import_bound, import_target}
+use Rattle.go_near_core.specs.block_core.Holding.{file_block}
+use Rattle.go_near_core.specs.block_core.Laws.{HasBinding}
+use Rattle.go_near_core.specs.block_core.Naming.{file_named, file_specs, package_named, specs_named}
+use Rattle.go_near_core.specs.block_core.Tables.{in_block}
+use Rattle.go_near_core.specs.block_core.BindingLemmas.{imports_list}
+use Rattle.go_near_core.specs.block_core.HoldingLaws.{file_answers, file_holds}
 use Rattle.go_near_core.specs.entry_core.Among.{Among, among_to, among_flat, among_map, among_right}
 use Rattle.go_near_core.specs.ready_core.Lists.{mapped_at}
 use Rattle.go_whole_core.specs.Known.{IsImportedPath, IsTargetIn}

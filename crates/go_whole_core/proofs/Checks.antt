@@ -3,11 +3,11 @@ use Rattle.std.proofs.Common.{◌≡◌, ℕ, List, [], ◌∷◌, All, Some, ap
 use Rattle.std.specs.Prelude.{slice_get}
 use Rattle.std.proofs.lemmas.List.Elements.{All-from_recursion, recursion_from_All}
 use Rattle.std.proofs.lemmas.Option.{slice_get_within, get_or_from_slice_get}
-use Rattle.go_block_core.specs.graph_core.Sources.{IsPlacedSource}
-use Rattle.go_block_core.specs.graph_core.Workspaces.{PackageModel, IsPackage, IsWorkspace}
-use Rattle.go_settle_core.specs.decl_core.declared.keys.DeclKey.{DeclKey}
+use Rattle.go_near_core.specs.graph_core.Sources.{IsPlacedSource}
+use Rattle.go_near_core.specs.graph_core.Workspaces.{PackageModel, IsPackage, IsWorkspace}
+use Rattle.go_term_core.specs.decl_core.declared.keys.DeclKey.{DeclKey}
 use Rattle.go_near_core.specs.table_core.Entries.{Entry, EntryLook, find_entry}
-use Rattle.go_settle_core.specs.declared.kind.Kind.{Kind}
+use Rattle.go_near_core.specs.settle_core.declared.kind.Kind.{Kind}
 use Rattle.go_near_core.specs.table_core.Tables.{AreOf}
 use Rattle.go_near_core.specs.type_core.Built.{AreEntries}
 use Rattle.go_near_core.specs.entry_core.Entries.{package_meanings, package_methods}

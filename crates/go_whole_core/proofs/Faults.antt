@@ -10,12 +10,12 @@ use Rattle.go_tree_nodes.specs.declared.types.TypeName.{TypeName}
 use Rattle.go_text_core.specs.Text.{is_blank}
 use Rattle.go_text_core.specs.declared.rule.Rule.TheVariants.{B5, B6}
 use Rattle.go_tree_nodes.specs.Starts.{type_name_start}
-use Rattle.go_settle_core.specs.decl_core.declared.keys.DeclKey.{DeclKey}
-use Rattle.go_settle_core.specs.decl_core.TopDecls.{TopDeclTree, FormTree, ValueForm, TypeForm, FuncForm}
-use Rattle.go_settle_core.specs.term_core.declared.term.MemberPlace.{MemberPlace}
-use Rattle.go_settle_core.specs.term_core.Terms.{Term, NoType, Predeclared, ErrorType, Defined, PointerTo, StructOf, InterfaceOf, AMethod, NoMethod, Sign, term_keys, sign_keys}
-use Rattle.go_settle_core.specs.declared.kind.Kind.{Kind}
-use Rattle.go_settle_core.specs.Settled.{kind_of_term, is_among_names}
+use Rattle.go_term_core.specs.decl_core.declared.keys.DeclKey.{DeclKey}
+use Rattle.go_term_core.specs.decl_core.TopDecls.{TopDeclTree, FormTree, ValueForm, TypeForm, FuncForm}
+use Rattle.go_term_core.specs.declared.term.MemberPlace.{MemberPlace}
+use Rattle.go_term_core.specs.Terms.{Term, NoType, Predeclared, ErrorType, Defined, PointerTo, StructOf, InterfaceOf, AMethod, NoMethod, Sign, term_keys, sign_keys}
+use Rattle.go_near_core.specs.settle_core.declared.kind.Kind.{Kind}
+use Rattle.go_near_core.specs.settle_core.Settled.{kind_of_term, is_among_names}
 use Rattle.go_near_core.specs.table_core.Entries.{Entry, Member, find_entry, members_keys, term_in}
 use Rattle.go_near_core.specs.table_core.Methods.{has_field_before}
 use Rattle.go_near_core.specs.type_core.declared.build.TypeFault.{TypeFault}
@@ -28,7 +28,7 @@ use Rattle.go_near_core.specs.fault_core.Places.{all_located, fault_in}
 use Rattle.go_near_core.specs.fault_core.TypeFaults.{entries_faults, entry_faults, faults_of_types, form_fault, loops_faults, met_in, met_type, received_fault, receivers_faults}
 use Rattle.go_whole_core.proofs.Names.{AllInside, none_inside}
 use Rattle.go_whole_core.proofs.Types.{IsEntryInside}
-use Rattle.go_settle_core.specs.Settled.{can_be_pointed}
+use Rattle.go_near_core.specs.settle_core.Settled.{can_be_pointed}
 use Rattle.go_near_core.specs.table_core.Entries.{kinds_in}
 
 module _ (Inside : List ℕ → Type 0) (es fs : List Entry) (same : (k : DeclKey) → Inside k.path → find_entry es k ≡ find_entry fs k) where

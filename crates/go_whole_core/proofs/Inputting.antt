@@ -5,22 +5,22 @@ use Rattle.std.proofs.lemmas.List.Kept.{AllPairs-from_increasing}
 use Rattle.std.proofs.lemmas.Option.{slice_get_within, slice_get-get_or}
 use Rattle.go_cycle_core.specs.declared.edge.Edge.{Edge}
 use Rattle.go_reach_core.specs.Numbers.{Numbers}
-use Rattle.go_block_core.specs.graph_core.declared.imports.ImportAt.{ImportAt}
-use Rattle.go_block_core.specs.graph_core.declared.imports.ImportOutcome.{ImportOutcome}
-use Rattle.go_block_core.specs.graph_core.declared.imports.ImportOutcome.TheVariants as outcomes
-use Rattle.go_block_core.specs.graph_core.Imports.{IsImport, IsNoImport, IsOutcome}
-use Rattle.go_block_core.specs.graph_core.Packages.{IsAssembled, trees_of}
-use Rattle.go_block_core.specs.graph_core.Plans.{PlanModel, AreReached, IsAssembledAt, IsPlan, ReachesByImports, outcome_at}
-use Rattle.go_block_core.specs.graph_core.Plans as plans
-use Rattle.go_block_core.specs.graph_core.Sources.{source}
-use Rattle.go_block_core.specs.graph_core.Workspaces.{PackageModel, IsWorkspace}
-use Rattle.go_block_core.specs.graph_core.OutcomeLaws.{has_one_outcome}
-use Rattle.go_block_core.specs.declared.imports.Imported.{Imported}
-use Rattle.go_block_core.specs.Exports.{ExportsModel}
-use Rattle.go_block_core.specs.Naming.{AreInPackage, import_at}
-use Rattle.go_block_core.specs.mirrors.Steps.{AreReady, HasExports, IsPlanned, IsReady, IsShownIn}
-use Rattle.go_block_core.proofs.Growing.{given_weaker, package_weaker}
-use Rattle.go_block_core.proofs.AllLemmas.{import_there}
+use Rattle.go_near_core.specs.graph_core.declared.imports.ImportAt.{ImportAt}
+use Rattle.go_near_core.specs.graph_core.declared.imports.ImportOutcome.{ImportOutcome}
+use Rattle.go_near_core.specs.graph_core.declared.imports.ImportOutcome.TheVariants as outcomes
+use Rattle.go_near_core.specs.graph_core.Imports.{IsImport, IsNoImport, IsOutcome}
+use Rattle.go_near_core.specs.graph_core.Packages.{IsAssembled, trees_of}
+use Rattle.go_near_core.specs.graph_core.Plans.{PlanModel, AreReached, IsAssembledAt, IsPlan, ReachesByImports, outcome_at}
+use Rattle.go_near_core.specs.graph_core.Plans as plans
+use Rattle.go_near_core.specs.graph_core.Sources.{source}
+use Rattle.go_near_core.specs.graph_core.Workspaces.{PackageModel, IsWorkspace}
+use Rattle.go_near_core.specs.graph_core.OutcomeLaws.{has_one_outcome}
+use Rattle.go_near_core.specs.block_core.declared.imports.Imported.{Imported}
+use Rattle.go_near_core.specs.block_core.Exports.{ExportsModel}
+use Rattle.go_near_core.specs.block_core.Naming.{AreInPackage, import_at}
+use Rattle.go_near_core.specs.block_core.mirrors.Steps.{AreReady, HasExports, IsPlanned, IsReady, IsShownIn}
+use Rattle.go_near_core.specs.block_core.Growing.{given_weaker, package_weaker}
+use Rattle.go_near_core.specs.block_core.AllLemmas.{import_there}
 use Rattle.go_near_core.specs.summary_core.Summaries.{SummaryModel, path_of}
 use Rattle.go_near_core.specs.summary_core.Views.{PathsAreApart}
 use Rattle.go_near_core.specs.entry_core.Among.{among_to}

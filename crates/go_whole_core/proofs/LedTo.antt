@@ -4,10 +4,10 @@ use Rattle.std.specs.Prelude.{Option, Some, None, Contains, slice_index_or}
 use Rattle.std.specs.List.{AllZip, enumerate_from}
 use Rattle.go_tree_nodes.specs.Trees.{FileTree}
 use Rattle.go_tree_nodes.specs.declared.types.TypeName.{TypeName}
-use Rattle.go_settle_core.specs.decl_core.declared.keys.DeclKey.{DeclKey}
-use Rattle.go_settle_core.specs.decl_core.declared.keys.DeclRef.{DeclRef}
-use Rattle.go_settle_core.specs.decl_core.TopDecls.{top_decls}
-use Rattle.go_settle_core.specs.term_core.Terms.{term_keys}
+use Rattle.go_term_core.specs.decl_core.declared.keys.DeclKey.{DeclKey}
+use Rattle.go_term_core.specs.decl_core.declared.keys.DeclRef.{DeclRef}
+use Rattle.go_term_core.specs.decl_core.TopDecls.{top_decls}
+use Rattle.go_term_core.specs.Terms.{term_keys}
 use Rattle.go_near_core.specs.table_core.Entries.{Entry, find_entry, entry_keys}
 use Rattle.go_near_core.specs.type_core.Built.{IsBuilt}
 use Rattle.go_near_core.specs.type_core.Laws.{written_keys}
@@ -17,7 +17,7 @@ use Rattle.go_near_core.specs.entry_core.Outlines.{FileOutline, outline_of}
 use Rattle.go_near_core.specs.entry_core.Among.{Among}
 use Rattle.go_near_core.specs.fault_core.TypeFaults.{faults_of_types}
 use Rattle.go_near_core.specs.handle_core.Declarations.{Declaration}
-use Rattle.go_near_core.specs.local_core.declared.Fault.{Fault}
+use Rattle.go_local_core.specs.declared.Fault.{Fault}
 use Rattle.go_near_core.specs.report_core.Faults.{IsSettled}
 use Rattle.go_near_core.specs.face_core.Faces.{TheFace}
 use Rattle.go_near_core.specs.face_core.Packages.{PackageFacesModel, face_among, face_by, face_in}

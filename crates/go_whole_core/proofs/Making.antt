@@ -7,15 +7,15 @@ use Rattle.std.proofs.lemmas.List.{take_more, length-take, length-set, get_or-ta
 use Rattle.std.proofs.lemmas.List.Elements.{Contains-append_left, Contains-append_right, Contains-push_cases}
 use Rattle.std.proofs.lemmas.Map.Keys.{apart_from_distinct}
 use Rattle.std.proofs.lemmas.Option.{slice_get_within, slice_get-get_or, get_or_from_slice_get}
-use Rattle.go_block_core.specs.graph_core.declared.imports.ImportAt.{ImportAt}
-use Rattle.go_block_core.specs.graph_core.Packages.{IsAssembled, trees_of}
-use Rattle.go_block_core.specs.graph_core.Plans.{PlanModel, IsPlan}
-use Rattle.go_block_core.specs.graph_core.Workspaces.{PackageModel, IsWorkspace}
-use Rattle.go_block_core.specs.graph_core.Zips.{zip_append}
-use Rattle.go_block_core.specs.declared.imports.Imported.{Imported}
-use Rattle.go_block_core.specs.Exports.{ExportsModel}
-use Rattle.go_block_core.proofs.Growing.{given_weaker, package_weaker}
-use Rattle.go_block_core.proofs.AllLemmas.{no_number, nothing_at, numbered_from}
+use Rattle.go_near_core.specs.graph_core.declared.imports.ImportAt.{ImportAt}
+use Rattle.go_near_core.specs.graph_core.Packages.{IsAssembled, trees_of}
+use Rattle.go_near_core.specs.graph_core.Plans.{PlanModel, IsPlan}
+use Rattle.go_near_core.specs.graph_core.Workspaces.{PackageModel, IsWorkspace}
+use Rattle.go_near_core.specs.graph_core.Zips.{zip_append}
+use Rattle.go_near_core.specs.block_core.declared.imports.Imported.{Imported}
+use Rattle.go_near_core.specs.block_core.Exports.{ExportsModel}
+use Rattle.go_near_core.specs.block_core.Growing.{given_weaker, package_weaker}
+use Rattle.go_near_core.specs.block_core.AllLemmas.{no_number, nothing_at, numbered_from}
 use Rattle.go_near_core.specs.entry_core.Showing.{shown_in, with_shown}
 use Rattle.go_near_core.specs.entry_core.Among.{Among, among_from}
 use Rattle.go_near_core.specs.table_core.Entries.{Entry}

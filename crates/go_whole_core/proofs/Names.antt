@@ -6,21 +6,21 @@ use Rattle.go_tree_nodes.specs.declared.types.TypeName.TheVariants as type_names
 use Rattle.go_universe_core.specs.declared.Predeclared.{Predeclared}
 use Rattle.go_universe_core.specs.declared.Predeclared.TheVariants as universe
 use Rattle.go_universe_core.specs.Universe.{found}
-use Rattle.go_settle_core.specs.decl_core.declared.places.DeclKind.{DeclKind}
-use Rattle.go_settle_core.specs.decl_core.declared.places.DeclKind.TheVariants as kinds
-use Rattle.go_settle_core.specs.decl_core.declared.keys.DeclKey.{DeclKey}
-use Rattle.go_settle_core.specs.decl_core.declared.keys.DeclRef.{DeclRef}
-use Rattle.go_block_core.specs.declared.binding.Binding.{Binding}
-use Rattle.go_block_core.specs.declared.binding.Target.{Target}
-use Rattle.go_block_core.specs.declared.binding.Target.TheVariants as targets
-use Rattle.go_block_core.specs.Blocks.{BlocksModel, file_binding}
-use Rattle.go_block_core.specs.Tables.{in_block}
-use Rattle.go_settle_core.specs.term_core.Terms.{term_keys}
+use Rattle.go_term_core.specs.decl_core.declared.places.DeclKind.{DeclKind}
+use Rattle.go_term_core.specs.decl_core.declared.places.DeclKind.TheVariants as kinds
+use Rattle.go_term_core.specs.decl_core.declared.keys.DeclKey.{DeclKey}
+use Rattle.go_term_core.specs.decl_core.declared.keys.DeclRef.{DeclRef}
+use Rattle.go_near_core.specs.block_core.declared.binding.Binding.{Binding}
+use Rattle.go_near_core.specs.block_core.declared.binding.Target.{Target}
+use Rattle.go_near_core.specs.block_core.declared.binding.Target.TheVariants as targets
+use Rattle.go_near_core.specs.block_core.Blocks.{BlocksModel, file_binding}
+use Rattle.go_near_core.specs.block_core.Tables.{in_block}
+use Rattle.go_term_core.specs.Terms.{term_keys}
 use Rattle.go_near_core.specs.entry_core.Entries.{package_meanings}
 use Rattle.go_near_core.specs.entry_core.Meanings.{Shows, file_meaning, outside_meaning, plain_meaning, qualified_meaning, shown_type, type_in_binding, type_in_target, type_of_kind, type_of_predeclared, type_of_target, type_of_universe}
 use Rattle.go_near_core.specs.entry_core.Among.{among_from}
 use Rattle.go_whole_core.specs.Known.{IsTargetIn}
-use Rattle.go_block_core.specs.Bindings.{key_of}
+use Rattle.go_near_core.specs.block_core.Bindings.{key_of}
 
 module _ (Inside : List ℕ → Type 0) where
   -- what mentions types of these packages alone

@@ -2,13 +2,13 @@
 use Rattle.std.proofs.Common.{◌≡◌, ℕ, ◌+◌, ◌<◌, ◌≤◌, List, [], ◌∷◌, ◌++◌, length, take, Option, Some, None, refl, sym, ap, subst, ◌∙◌, arith}
 use Rattle.std.specs.Prelude.{slice_get, slice_set, Contains, replicate}
 use Rattle.std.proofs.lemmas.List.{take_all, length-take, get_or-take, get_or_default}
-use Rattle.go_block_core.specs.graph_core.Sources.{SourceModel}
+use Rattle.go_near_core.specs.graph_core.Sources.{SourceModel}
 use Rattle.std.proofs.lemmas.Option.{slice_get_within}
-use Rattle.go_block_core.specs.graph_core.Imports.{IsNumbered}
-use Rattle.go_block_core.specs.graph_core.Packages.{IsAssembled}
-use Rattle.go_block_core.specs.graph_core.Plans.{PlanModel, IsPlan, IsAssembledAt}
-use Rattle.go_block_core.specs.graph_core.Workspaces.{PackageModel, IsWorkspace}
-use Rattle.go_block_core.specs.Exports.{ExportsModel}
+use Rattle.go_near_core.specs.graph_core.Imports.{IsNumbered}
+use Rattle.go_near_core.specs.graph_core.Packages.{IsAssembled}
+use Rattle.go_near_core.specs.graph_core.Plans.{PlanModel, IsPlan, IsAssembledAt}
+use Rattle.go_near_core.specs.graph_core.Workspaces.{PackageModel, IsWorkspace}
+use Rattle.go_near_core.specs.block_core.Exports.{ExportsModel}
 use Rattle.go_near_core.specs.table_core.Entries.{Entry}
 use Rattle.go_near_core.specs.table_core.Tables.{AreOthers}
 use Rattle.go_near_core.specs.entry_core.Showing.{shown_in, with_shown}

@@ -2,17 +2,17 @@
 use Rattle.std.proofs.Common.{◌≡◌, ◌≢◌, ℕ, zero, suc, ◌+◌, ◌<◌, ◌≤◌, ◌⊎◌, inl, inr, List, [], ◌∷◌, length, map, take, Option, Some, None, refl, sym, ap, subst, ◌∙◌, arith}
 use Rattle.std.specs.Prelude.{slice_get, slice_index, Contains}
 use Rattle.std.proofs.lemmas.Bool.{cases_eq}
-use Rattle.go_block_core.specs.graph_core.Lists.{AllNumbered}
-use Rattle.go_block_core.specs.graph_core.Packages.{IsAssembled, Trees, trees_of}
-use Rattle.go_block_core.specs.graph_core.Plans.{PlanModel, IsPlan, IsAssembledAt}
-use Rattle.go_block_core.specs.graph_core.Workspaces.{PackageModel, IsWorkspace}
-use Rattle.go_block_core.specs.graph_core.PlanLaws.{has_plan}
-use Rattle.go_block_core.specs.graph_core.Zips.{numbered_at, numbered_back, numbered_length}
-use Rattle.go_block_core.specs.declared.imports.Imported.{Imported}
-use Rattle.go_block_core.specs.All.{AreAllBlocks, AreImported, AreBlocksOrNone, IsImported, IsShown}
-use Rattle.go_block_core.specs.Blocks.{BlocksModel, exports_of}
-use Rattle.go_block_core.specs.Exports.{ExportsModel}
-use Rattle.go_block_core.proofs.OneBlocks.{one_blocks}
+use Rattle.go_near_core.specs.graph_core.Lists.{AllNumbered}
+use Rattle.go_near_core.specs.graph_core.Packages.{IsAssembled, Trees, trees_of}
+use Rattle.go_near_core.specs.graph_core.Plans.{PlanModel, IsPlan, IsAssembledAt}
+use Rattle.go_near_core.specs.graph_core.Workspaces.{PackageModel, IsWorkspace}
+use Rattle.go_near_core.specs.graph_core.PlanLaws.{has_plan}
+use Rattle.go_near_core.specs.graph_core.Zips.{numbered_at, numbered_back, numbered_length}
+use Rattle.go_near_core.specs.block_core.declared.imports.Imported.{Imported}
+use Rattle.go_near_core.specs.block_core.AllPackages.{AreAllBlocks, AreImported, AreBlocksOrNone, IsImported, IsShown}
+use Rattle.go_near_core.specs.block_core.Blocks.{BlocksModel, exports_of}
+use Rattle.go_near_core.specs.block_core.Exports.{ExportsModel}
+use Rattle.go_near_core.specs.block_core.OneBlocks.{one_blocks}
 use Rattle.go_near_core.specs.entry_core.Showing.{shown_in}
 use Rattle.go_near_core.specs.entry_core.Among.{Among, among_from, among_map, among_to, map_among}
 use Rattle.go_near_core.specs.summary_core.Summaries.{SummaryModel, IsOfOne}

@@ -5,12 +5,12 @@ use Rattle.std.proofs.lemmas.List.{get_or_default}
 use Rattle.std.proofs.lemmas.List.Elements.{All-append, All-contains, Contains-append_left, Contains-append_right}
 use Rattle.go_cycle_core.specs.declared.edge.Edge.{Edge}
 use Rattle.go_cycle_core.specs.Cycle.{Leads}
-use Rattle.go_block_core.specs.graph_core.declared.imports.ImportAt.{ImportAt}
-use Rattle.go_block_core.specs.graph_core.declared.imports.ImportOutcome.TheVariants.{Package}
-use Rattle.go_block_core.specs.graph_core.Imports.{IsOutcome}
-use Rattle.go_block_core.specs.graph_core.Plans.{PlanModel, IsPlan, IsAssembledAt}
-use Rattle.go_block_core.specs.graph_core.Workspaces.{PackageModel}
-use Rattle.go_block_core.proofs.AllLemmas.{found_at}
+use Rattle.go_near_core.specs.graph_core.declared.imports.ImportAt.{ImportAt}
+use Rattle.go_near_core.specs.graph_core.declared.imports.ImportOutcome.TheVariants.{Package}
+use Rattle.go_near_core.specs.graph_core.Imports.{IsOutcome}
+use Rattle.go_near_core.specs.graph_core.Plans.{PlanModel, IsPlan, IsAssembledAt}
+use Rattle.go_near_core.specs.graph_core.Workspaces.{PackageModel}
+use Rattle.go_near_core.specs.block_core.AllLemmas.{found_at}
 use Rattle.go_whole_core.specs.Inputs.{IsPassingImport, ReachesPackage}
 
 -- reaching

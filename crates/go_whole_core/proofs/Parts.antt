@@ -3,12 +3,12 @@ use Rattle.std.proofs.Common.{◌≡◌, ◌≢◌, ℕ, ◌⊎◌, inl, inr, Li
 use Rattle.std.specs.Prelude.{slice_get, AllPairs, Contains}
 use Rattle.std.specs.List.{AllZip}
 use Rattle.std.proofs.lemmas.List.Kept.{AllPairs-from_increasing}
-use Rattle.go_block_core.specs.graph_core.Packages.{trees_of}
-use Rattle.go_block_core.specs.graph_core.Plans.{PlanModel, IsPlan}
-use Rattle.go_block_core.specs.graph_core.Workspaces.{PackageModel, IsWorkspace}
-use Rattle.go_block_core.specs.Blocks.{BlocksModel, AreBlocks}
-use Rattle.go_block_core.specs.Naming.{package_named}
-use Rattle.go_block_core.specs.Exports.{ExportsModel}
+use Rattle.go_near_core.specs.graph_core.Packages.{trees_of}
+use Rattle.go_near_core.specs.graph_core.Plans.{PlanModel, IsPlan}
+use Rattle.go_near_core.specs.graph_core.Workspaces.{PackageModel, IsWorkspace}
+use Rattle.go_near_core.specs.block_core.Blocks.{BlocksModel, AreBlocks}
+use Rattle.go_near_core.specs.block_core.Naming.{package_named}
+use Rattle.go_near_core.specs.block_core.Exports.{ExportsModel}
 use Rattle.go_near_core.specs.entry_core.Showing.{shown_in}
 use Rattle.go_near_core.specs.entry_core.Among.{Among, among_from, among_map, among_to, map_among}
 use Rattle.go_near_core.specs.summary_core.Summaries.{SummaryModel, IsOfOne, path_of}

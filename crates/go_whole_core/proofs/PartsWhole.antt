@@ -2,18 +2,18 @@
 use Rattle.std.proofs.Common.{◌≡◌, ◌≢◌, ℕ, suc, ◌+◌, List, [], ◌∷◌, Option, Some, None, refl, sym, ap, subst, ◌∙◌, arith}
 use Rattle.std.specs.Prelude.{slice_get, ⊤}
 use Rattle.std.specs.List.{AllZip}
-use Rattle.go_block_core.specs.graph_core.declared.imports.ImportAt.{ImportAt}
-use Rattle.go_block_core.specs.graph_core.Lists.{AllNumbered}
-use Rattle.go_block_core.specs.graph_core.Packages.{IsAssembled, trees_of}
-use Rattle.go_block_core.specs.graph_core.Plans.{PlanModel, IsPlan}
-use Rattle.go_block_core.specs.graph_core.Workspaces.{PackageModel, IsWorkspace}
-use Rattle.go_block_core.specs.graph_core.PlanLaws.{has_plan}
-use Rattle.go_block_core.specs.graph_core.Zips.{numbered_back, numbered_length, zip_at, zip_back, zip_length}
-use Rattle.go_block_core.specs.declared.imports.Imported.{Imported}
-use Rattle.go_block_core.specs.All.{IsImported, IsShown}
-use Rattle.go_block_core.specs.Exports.{ExportsModel}
-use Rattle.go_block_core.proofs.Growing.{given_weaker, package_weaker}
-use Rattle.go_block_core.proofs.AllLemmas.{numbered_from}
+use Rattle.go_near_core.specs.graph_core.declared.imports.ImportAt.{ImportAt}
+use Rattle.go_near_core.specs.graph_core.Lists.{AllNumbered}
+use Rattle.go_near_core.specs.graph_core.Packages.{IsAssembled, trees_of}
+use Rattle.go_near_core.specs.graph_core.Plans.{PlanModel, IsPlan}
+use Rattle.go_near_core.specs.graph_core.Workspaces.{PackageModel, IsWorkspace}
+use Rattle.go_near_core.specs.graph_core.PlanLaws.{has_plan}
+use Rattle.go_near_core.specs.graph_core.Zips.{numbered_back, numbered_length, zip_at, zip_back, zip_length}
+use Rattle.go_near_core.specs.block_core.declared.imports.Imported.{Imported}
+use Rattle.go_near_core.specs.block_core.AllPackages.{IsImported, IsShown}
+use Rattle.go_near_core.specs.block_core.Exports.{ExportsModel}
+use Rattle.go_near_core.specs.block_core.Growing.{given_weaker, package_weaker}
+use Rattle.go_near_core.specs.block_core.AllLemmas.{numbered_from}
 use Rattle.go_near_core.specs.entry_core.Among.{Among}
 use Rattle.go_near_core.specs.summary_core.Summaries.{SummaryModel, IsOfOne}
 use Rattle.go_near_core.specs.summary_core.Views.{exports_told, faces_told, types_told}

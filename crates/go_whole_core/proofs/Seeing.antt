@@ -3,14 +3,14 @@ use Rattle.std.proofs.Common.{◌≡◌, ◌++◌, ℕ, List, [], ◌∷◌, ref
 use Rattle.std.specs.Prelude.{Option, Some, None, slice_index_or}
 use Rattle.go_universe_core.specs.declared.Predeclared.{Predeclared}
 use Rattle.go_universe_core.specs.declared.Predeclared.TheVariants as universe
-use Rattle.go_settle_core.specs.decl_core.declared.keys.DeclRef.{DeclRef}
-use Rattle.go_block_core.specs.declared.binding.Binding.{Binding}
-use Rattle.go_block_core.specs.declared.binding.Target.{Target}
-use Rattle.go_block_core.specs.declared.binding.Target.TheVariants as targets
-use Rattle.go_block_core.specs.Blocks.{file_binding}
-use Rattle.go_block_core.specs.Tables.{in_block}
-use Rattle.go_settle_core.specs.term_core.declared.term.MemberPlace.TheVariants as places
-use Rattle.go_settle_core.specs.term_core.Terms.{Term}
+use Rattle.go_term_core.specs.decl_core.declared.keys.DeclRef.{DeclRef}
+use Rattle.go_near_core.specs.block_core.declared.binding.Binding.{Binding}
+use Rattle.go_near_core.specs.block_core.declared.binding.Target.{Target}
+use Rattle.go_near_core.specs.block_core.declared.binding.Target.TheVariants as targets
+use Rattle.go_near_core.specs.block_core.Blocks.{file_binding}
+use Rattle.go_near_core.specs.block_core.Tables.{in_block}
+use Rattle.go_term_core.specs.declared.term.MemberPlace.TheVariants as places
+use Rattle.go_term_core.specs.Terms.{Term}
 use Rattle.go_near_core.specs.operand_core.declared.types.ValueType.{ValueType}
 use Rattle.go_near_core.specs.operand_core.declared.types.ValueType.TheVariants as value_types
 use Rattle.go_near_core.specs.operand_core.declared.types.Operand.{Operand}

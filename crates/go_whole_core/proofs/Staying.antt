@@ -5,10 +5,10 @@ use Rattle.std.proofs.lemmas.List.Elements.{All-contains}
 use Rattle.std.proofs.lemmas.Option.{slice_get_within}
 use Rattle.go_cycle_core.specs.declared.edge.Edge.{Edge}
 use Rattle.go_cycle_core.specs.Cycle.{Leads}
-use Rattle.go_block_core.specs.graph_core.Imports.{IsNumbered}
-use Rattle.go_block_core.specs.graph_core.Sources.{SourceModel}
-use Rattle.go_block_core.specs.graph_core.Workspaces.{PackageModel}
-use Rattle.go_block_core.proofs.AllLemmas.{numbered_from}
+use Rattle.go_near_core.specs.graph_core.Imports.{IsNumbered}
+use Rattle.go_near_core.specs.graph_core.Sources.{SourceModel}
+use Rattle.go_near_core.specs.graph_core.Workspaces.{PackageModel}
+use Rattle.go_near_core.specs.block_core.AllLemmas.{numbered_from}
 use Rattle.go_near_core.specs.summary_core.Summaries.{SummaryModel, path_of}
 use Rattle.go_near_core.specs.part_core.Inputs.{InputModel}
 use Rattle.go_near_core.specs.part_core.Parts.{PartModel}

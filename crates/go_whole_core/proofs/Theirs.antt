@@ -1,17 +1,17 @@
 -- What the imports of a package come to, and what they lead to.
 use Rattle.std.proofs.Common.{◌≡◌, ℕ, suc, inl, inr, List, [], ◌∷◌, refl, sym, ap, subst, ◌∙◌}
-use Rattle.go_block_core.specs.graph_core.declared.imports.ImportAt.{ImportAt}
-use Rattle.go_block_core.specs.graph_core.declared.imports.ImportOutcome.{ImportOutcome}
-use Rattle.go_block_core.specs.graph_core.declared.imports.ImportOutcome.TheVariants as outcomes
-use Rattle.go_block_core.specs.graph_core.Imports.{IsOutcome}
-use Rattle.go_block_core.specs.graph_core.Lists.{AllNumbered}
-use Rattle.go_block_core.specs.graph_core.Packages.{Trees}
-use Rattle.go_block_core.specs.graph_core.Workspaces.{PackageModel, IsWorkspace}
-use Rattle.go_block_core.specs.graph_core.OutcomeLaws.{has_one_outcome}
-use Rattle.go_block_core.specs.declared.imports.Imported.{Imported}
-use Rattle.go_block_core.specs.declared.imports.Imported.TheVariants as given
-use Rattle.go_block_core.specs.Exports.{ExportsModel}
-use Rattle.go_block_core.specs.Naming.{IsGiven, AreInFile, AreInPackage, import_at, file_specs}
+use Rattle.go_near_core.specs.graph_core.declared.imports.ImportAt.{ImportAt}
+use Rattle.go_near_core.specs.graph_core.declared.imports.ImportOutcome.{ImportOutcome}
+use Rattle.go_near_core.specs.graph_core.declared.imports.ImportOutcome.TheVariants as outcomes
+use Rattle.go_near_core.specs.graph_core.Imports.{IsOutcome}
+use Rattle.go_near_core.specs.graph_core.Lists.{AllNumbered}
+use Rattle.go_near_core.specs.graph_core.Packages.{Trees}
+use Rattle.go_near_core.specs.graph_core.Workspaces.{PackageModel, IsWorkspace}
+use Rattle.go_near_core.specs.graph_core.OutcomeLaws.{has_one_outcome}
+use Rattle.go_near_core.specs.block_core.declared.imports.Imported.{Imported}
+use Rattle.go_near_core.specs.block_core.declared.imports.Imported.TheVariants as given
+use Rattle.go_near_core.specs.block_core.Exports.{ExportsModel}
+use Rattle.go_near_core.specs.block_core.Naming.{IsGiven, AreInFile, AreInPackage, import_at, file_specs}
 use Rattle.go_near_core.specs.entry_core.Among.{Among, among_from}
 use Rattle.go_whole_core.specs.Known.{IsImportedPath}
 

@@ -1,11 +1,11 @@
 -- What is known by summaries, and what it mentions.
 use Rattle.std.proofs.Common.{◌≡◌, ℕ, ◌⊎◌, inl, inr, Bool, true, false, List, [], ◌∷◌, All, if◌then◌else◌, refl, sym, subst, ◌∙◌}
 use Rattle.std.specs.Prelude.{Some, None, Contains}
-use Rattle.go_settle_core.specs.decl_core.declared.keys.DeclKey.{DeclKey}
-use Rattle.go_settle_core.specs.decl_core.declared.keys.DeclRef.{DeclRef}
-use Rattle.go_block_core.specs.graph_core.Packages.{Trees}
-use Rattle.go_block_core.specs.Blocks.{AreBlocks}
-use Rattle.go_block_core.specs.Naming.{package_named}
+use Rattle.go_term_core.specs.decl_core.declared.keys.DeclKey.{DeclKey}
+use Rattle.go_term_core.specs.decl_core.declared.keys.DeclRef.{DeclRef}
+use Rattle.go_near_core.specs.graph_core.Packages.{Trees}
+use Rattle.go_near_core.specs.block_core.Blocks.{AreBlocks}
+use Rattle.go_near_core.specs.block_core.Naming.{package_named}
 use Rattle.go_near_core.specs.table_core.Entries.{Entry, entry_keys, find_entry, same_key}
 use Rattle.go_near_core.specs.entry_core.Showing.{shown_in}
 use Rattle.go_near_core.specs.entry_core.Among.{Among, among_to}
@@ -15,8 +15,8 @@ use Rattle.go_near_core.specs.summary_core.Summaries.{SummaryModel, IsOfOne, pat
 use Rattle.go_near_core.specs.summary_core.Views.{PathsAreApart, exports_told, faces_told, types_told}
 use Rattle.go_near_core.specs.summary_core.Telling.{nothing_else, views_tell}
 use Rattle.go_near_core.specs.ready_core.Packages.{PackageIn}
-use Rattle.go_block_core.specs.declared.binding.Target.{Target}
-use Rattle.go_block_core.specs.declared.binding.Target.TheVariants as targets
+use Rattle.go_near_core.specs.block_core.declared.binding.Target.{Target}
+use Rattle.go_near_core.specs.block_core.declared.binding.Target.TheVariants as targets
 use Rattle.go_whole_core.specs.Known.{IsImportedPath, IsTargetIn, KnownAlike, MentionsInside, face_keys}
 use Rattle.go_whole_core.specs.LocalLaws.{ImportsBindTheirs, StandsAmong}
 use Rattle.go_tree_nodes.specs.Spelling.{IsPlaced}

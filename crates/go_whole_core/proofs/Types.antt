@@ -6,9 +6,9 @@ use Rattle.std.proofs.lemmas.List.Elements.{Contains-append_left, Contains-appen
 use Rattle.go_tree_nodes.specs.declared.files.Receiver.{Receiver}
 use Rattle.go_tree_nodes.specs.declared.types.TypeName.{TypeName}
 use Rattle.go_tree_nodes.specs.Trees.{FuncTree, TypeSpecTree}
-use Rattle.go_settle_core.specs.decl_core.declared.keys.DeclKey.{DeclKey}
-use Rattle.go_settle_core.specs.decl_core.TopDecls.{TopDeclTree, FormTree, ValueForm, TypeForm, FuncForm}
-use Rattle.go_settle_core.specs.term_core.Terms.{term_keys, sign_keys}
+use Rattle.go_term_core.specs.decl_core.declared.keys.DeclKey.{DeclKey}
+use Rattle.go_term_core.specs.decl_core.TopDecls.{TopDeclTree, FormTree, ValueForm, TypeForm, FuncForm}
+use Rattle.go_term_core.specs.Terms.{term_keys, sign_keys}
 use Rattle.go_near_core.specs.table_core.Entries.{Entry, Member, find_entry, entry_keys, members_keys}
 use Rattle.go_near_core.specs.table_core.ByRule.{adding}
 use Rattle.go_near_core.specs.type_core.declared.build.TypeFault.{TypeFault}

@@ -8,10 +8,10 @@ use Rattle.go_tree_nodes.specs.declared.decls.ValueKind.{ValueKind}
 use Rattle.go_tree_nodes.specs.declared.decls.ValueKind.TheVariants as kinds
 use Rattle.go_tree_nodes.specs.declared.types.TypeName.{TypeName}
 use Rattle.go_tree_nodes.specs.Trees.{TypeTree, ValueSpecTree}
-use Rattle.go_settle_core.specs.decl_core.TopDecls.{TopDeclTree, FormTree, ValueForm, TypeForm, FuncForm}
-use Rattle.go_settle_core.specs.Settled.{settled}
-use Rattle.go_settle_core.proofs.Mentions.{settled_mentions_written, sign_mentions}
-use Rattle.go_settle_core.specs.term_core.Terms.{Term, Defined, term_keys}
+use Rattle.go_term_core.specs.decl_core.TopDecls.{TopDeclTree, FormTree, ValueForm, TypeForm, FuncForm}
+use Rattle.go_near_core.specs.settle_core.Settled.{settled}
+use Rattle.go_near_core.specs.settle_core.Mentions.{settled_mentions_written, sign_mentions}
+use Rattle.go_term_core.specs.Terms.{Term, Defined, term_keys}
 use Rattle.go_near_core.specs.table_core.Entries.{Entry, find_entry}
 use Rattle.go_near_core.specs.decide_core.Conversion.{is_type_term}
 use Rattle.go_near_core.specs.decide_core.Rules.{typed}

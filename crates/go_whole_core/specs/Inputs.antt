@@ -6,17 +6,17 @@ use Rattle.std.specs.List.{AllZip}
 use Rattle.std.specs.List.Sorted.{IsStrictlyIncreasing}
 use Rattle.go_reach_core.specs.Reach.{ReachesByEdges}
 use Rattle.go_cycle_core.specs.declared.edge.Edge.{Edge}
-use Rattle.go_block_core.specs.graph_core.declared.imports.ImportAt.{ImportAt}
-use Rattle.go_block_core.specs.graph_core.declared.imports.ImportOutcome.{ImportOutcome}
-use Rattle.go_block_core.specs.graph_core.declared.imports.ImportOutcome.TheVariants.{Package}
-use Rattle.go_block_core.specs.graph_core.Imports.{IsNumbered, IsOutcome}
-use Rattle.go_block_core.specs.graph_core.Lists.{AllNumbered}
-use Rattle.go_block_core.specs.graph_core.Packages.{IsAssembled, trees_of}
-use Rattle.go_block_core.specs.graph_core.Sources.{SourceModel}
-use Rattle.go_block_core.specs.graph_core.Workspaces.{PackageModel}
-use Rattle.go_block_core.specs.declared.imports.Imported.{Imported}
-use Rattle.go_block_core.specs.Exports.{ExportsModel}
-use Rattle.go_block_core.specs.Naming.{AreInPackage, IsGiven}
+use Rattle.go_near_core.specs.graph_core.declared.imports.ImportAt.{ImportAt}
+use Rattle.go_near_core.specs.graph_core.declared.imports.ImportOutcome.{ImportOutcome}
+use Rattle.go_near_core.specs.graph_core.declared.imports.ImportOutcome.TheVariants.{Package}
+use Rattle.go_near_core.specs.graph_core.Imports.{IsNumbered, IsOutcome}
+use Rattle.go_near_core.specs.graph_core.Lists.{AllNumbered}
+use Rattle.go_near_core.specs.graph_core.Packages.{IsAssembled, trees_of}
+use Rattle.go_near_core.specs.graph_core.Sources.{SourceModel}
+use Rattle.go_near_core.specs.graph_core.Workspaces.{PackageModel}
+use Rattle.go_near_core.specs.block_core.declared.imports.Imported.{Imported}
+use Rattle.go_near_core.specs.block_core.Exports.{ExportsModel}
+use Rattle.go_near_core.specs.block_core.Naming.{AreInPackage, IsGiven}
 use Rattle.go_near_core.specs.summary_core.Summaries.{SummaryModel, path_of}
 use Rattle.go_near_core.specs.part_core.Inputs.{InputModel}
 use Rattle.go_near_core.specs.part_core.Parts.{IsPart, PartModel}

@@ -2,19 +2,19 @@
 --
 -- The Go specification, "Packages", "Import declarations", "Exported identifiers".
 use Rattle.std.specs.Prelude.{◌≡◌, ℕ, List, [], Option, Some, None, Contains, ⊤}
-use Rattle.go_settle_core.specs.decl_core.declared.keys.DeclKey.{DeclKey}
-use Rattle.go_settle_core.specs.decl_core.declared.keys.DeclRef.{DeclRef}
-use Rattle.go_block_core.specs.declared.binding.Binding.{Binding}
-use Rattle.go_block_core.specs.declared.binding.Target.{Target}
-use Rattle.go_block_core.specs.declared.binding.Target.TheVariants as targets
-use Rattle.go_block_core.specs.declared.imports.Imported.{Imported}
-use Rattle.go_block_core.specs.declared.imports.Imported.TheVariants as given
-use Rattle.go_block_core.specs.Exports.{ExportsModel}
-use Rattle.go_block_core.specs.Blocks.{BlocksModel, file_binding}
+use Rattle.go_term_core.specs.decl_core.declared.keys.DeclKey.{DeclKey}
+use Rattle.go_term_core.specs.decl_core.declared.keys.DeclRef.{DeclRef}
+use Rattle.go_near_core.specs.block_core.declared.binding.Binding.{Binding}
+use Rattle.go_near_core.specs.block_core.declared.binding.Target.{Target}
+use Rattle.go_near_core.specs.block_core.declared.binding.Target.TheVariants as targets
+use Rattle.go_near_core.specs.block_core.declared.imports.Imported.{Imported}
+use Rattle.go_near_core.specs.block_core.declared.imports.Imported.TheVariants as given
+use Rattle.go_near_core.specs.block_core.Exports.{ExportsModel}
+use Rattle.go_near_core.specs.block_core.Blocks.{BlocksModel, file_binding}
 use Rattle.go_near_core.specs.operand_core.declared.types.ValueType.{ValueType}
 use Rattle.go_near_core.specs.operand_core.declared.types.ValueType.TheVariants as value_types
 use Rattle.go_near_core.specs.operand_core.declared.types.Operand.{Operand}
-use Rattle.go_settle_core.specs.term_core.Terms.{Term, term_keys, sign_keys}
+use Rattle.go_term_core.specs.Terms.{Term, term_keys, sign_keys}
 use Rattle.go_near_core.specs.table_core.Entries.{Entry, find_entry, entry_keys}
 use Rattle.go_near_core.specs.face_core.declared.face.Face.TheVariants as faces
 use Rattle.go_near_core.specs.face_core.Faces.{TheFace}

@@ -2,7 +2,7 @@
 use Rattle.std.specs.Prelude.{◌≡◌, ℕ, List, Option, Some, None, length, slice_get, slice_set}
 use Rattle.std.specs.List.{AllZip}
 use Rattle.go_cycle_core.specs.declared.edge.Edge.{Edge}
-use Rattle.go_block_core.specs.graph_core.Workspaces.{PackageModel, IsWorkspace}
+use Rattle.go_near_core.specs.graph_core.Workspaces.{PackageModel, IsWorkspace}
 use Rattle.go_near_core.specs.part_core.Inputs.{InputModel}
 use Rattle.go_near_core.specs.part_core.Parts.{IsPart, PartModel}
 use Rattle.go_whole_core.specs.Inputs.{AreParts, HasReached, IsInputAt, IsPartOf, IsPassingImport}

@@ -8,8 +8,8 @@ pub mod mirrors
 pub mod answer_core
 pub mod block_core
 pub mod body_core
-pub mod decide_core
 pub mod denote_core
+pub mod emit_core
 pub mod entry_core
 pub mod env_core
 pub mod expr_core
@@ -17,11 +17,17 @@ pub mod face_core
 pub mod fault_core
 pub mod file_core
 pub mod func_core
+pub mod graph_core
 pub mod handle_core
+pub mod literal_core
+pub mod meaning_core
 pub mod names_core
 pub mod near_core
+pub mod operand_core
 pub mod package_core
+pub mod parse_core
 pub mod part_core
+pub mod piece_core
 pub mod ready_core
 pub mod report_core
 pub mod summary_core

@@ -2,10 +2,10 @@
 --
 -- The Go specification, "Packages", "Import declarations", "Exported identifiers".
 use Rattle.std.specs.Prelude.{◌≡◌, ℕ, List, All, Contains}
-use Rattle.go_block_core.specs.graph_core.Packages.{Trees}
-use Rattle.go_block_core.specs.declared.imports.Imported.{Imported}
-use Rattle.go_block_core.specs.Blocks.{BlocksModel, AreBlocks}
-use Rattle.go_block_core.specs.Naming.{package_named}
+use Rattle.go_near_core.specs.graph_core.Packages.{Trees}
+use Rattle.go_near_core.specs.block_core.declared.imports.Imported.{Imported}
+use Rattle.go_near_core.specs.block_core.Blocks.{BlocksModel, AreBlocks}
+use Rattle.go_near_core.specs.block_core.Naming.{package_named}
 use Rattle.go_near_core.specs.ready_core.Packages.{PackageIn}
 use Rattle.go_near_core.specs.package_core.Checked.{CheckedOf}
 use Rattle.go_whole_core.specs.Known.{CheckGives, KnownAlike, BindsInside, MentionsInside, GivesInside, IsImportedPath}

@@ -4,14 +4,14 @@
 use Rattle.std.specs.Prelude.{◌≡◌, ℕ, zero, suc, List, [], ◌∷◌, Option, Some, None, map}
 use Rattle.std.specs.List.{flat_map}
 use Rattle.std.specs.Option.{option_map}
-use Rattle.go_block_core.specs.graph_core.Lists.{AllNumbered}
-use Rattle.go_block_core.specs.graph_core.Packages.{IsAssembled, trees_of}
-use Rattle.go_block_core.specs.graph_core.Workspaces.{PackageModel}
-use Rattle.go_block_core.specs.declared.imports.Imported.{Imported}
-use Rattle.go_block_core.specs.All.{AreImported}
-use Rattle.go_block_core.specs.Blocks.{BlocksModel, AreBlocks, exports_of}
-use Rattle.go_block_core.specs.Exports.{ExportsModel}
-use Rattle.go_block_core.specs.Naming.{package_named}
+use Rattle.go_near_core.specs.graph_core.Lists.{AllNumbered}
+use Rattle.go_near_core.specs.graph_core.Packages.{IsAssembled, trees_of}
+use Rattle.go_near_core.specs.graph_core.Workspaces.{PackageModel}
+use Rattle.go_near_core.specs.block_core.declared.imports.Imported.{Imported}
+use Rattle.go_near_core.specs.block_core.AllPackages.{AreImported}
+use Rattle.go_near_core.specs.block_core.Blocks.{BlocksModel, AreBlocks, exports_of}
+use Rattle.go_near_core.specs.block_core.Exports.{ExportsModel}
+use Rattle.go_near_core.specs.block_core.Naming.{package_named}
 use Rattle.go_near_core.specs.table_core.Entries.{Entry}
 use Rattle.go_near_core.specs.entry_core.Showing.{shown_in}
 use Rattle.go_near_core.specs.face_core.Packages.{PackageFacesModel}

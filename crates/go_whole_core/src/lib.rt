@@ -18,7 +18,7 @@ pub mod answer_core {
 
 /// What the crates above name of `go_block_core`.
 pub mod block_core {
-    pub use go_block_core::{Imported, import_specs};
+    pub use go_near_core::block_core::{Imported, import_specs};
 }
 
 /// What the crates above name of `go_denote_core`.
@@ -26,19 +26,30 @@ pub mod denote_core {
     pub use go_near_core::denote_core::Outcome;
 }
 
-/// What the crates above name of `go_entry_core`.
-pub mod entry_core {
-    pub use go_near_core::entry_core::outlines;
+/// What the crates above name of `go_emit_core`.
+pub mod emit_core {
+    pub use go_near_core::emit_core::{
+        bodies_are_between_braces, calls_name_their_own, emit, emit_all, objects_are_of_faultless,
+        one_object,
+    };
 }
 
 /// What the crates above name of `go_face_core`.
 pub mod face_core {
-    pub use go_near_core::face_core::{Face, FaceTable, lend};
+    pub use go_near_core::face_core::Face;
 }
 
-/// What the crates above name of `go_handle_core`.
-pub mod handle_core {
-    pub use go_near_core::handle_core::{Decl, DeclSite, SignatureRef, TypeRef};
+/// What the crates above name of `go_graph_core`.
+pub mod graph_core {
+    pub use go_near_core::graph_core::{
+        ImportAt, ImportOutcome, Package, PackageSource, Plan, SourceFile, Workspace, assemble,
+        plan_imports,
+    };
+}
+
+/// What the crates above name of `go_operand_core`.
+pub mod operand_core {
+    pub use go_near_core::operand_core::{Operand, ValueType};
 }
 
 /// What the crates above name of `go_package_core`.
@@ -59,11 +70,6 @@ pub mod ready_core {
     pub use go_near_core::ready_core::{PackageAt, package_outlines};
 }
 
-/// What the crates above name of `go_select_core`.
-pub mod select_core {
-    pub use go_near_core::select_core::EmbedPath;
-}
-
 /// What the crates above name of `go_summary_core`.
 pub mod summary_core {
     pub use go_near_core::summary_core::{
@@ -73,5 +79,5 @@ pub mod summary_core {
 
 /// What the crates above name of `go_table_core`.
 pub mod table_core {
-    pub use go_near_core::table_core::{DeclaredMethod, DefinedType, TypeTable};
+    pub use go_near_core::table_core::{DefinedType, PackageTypes, StructField, TypeTable};
 }

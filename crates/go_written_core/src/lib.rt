@@ -23,13 +23,3 @@ pub mod decl_core {
 pub mod path_core {
     pub use go_term_core::path_core::ImportPath;
 }
-
-/// What the crates above name of `go_term_core`.
-pub mod term_core {
-    pub use go_term_core::{Basic, MemberPlace, TypeTerm};
-}
-
-/// What the crates above name of `go_tree_nodes`.
-pub mod tree_nodes {
-    pub use go_tree_nodes::{FuncDecl, Receiver, TypeName, TypeSpec};
-}

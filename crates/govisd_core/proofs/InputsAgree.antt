@@ -5,9 +5,9 @@ use Rattle.go_token_core.specs.declared.token.Token.{Token}
 use Rattle.go_scan_core.proofs.Answered.{one_fault, not_both as not_scanned}
 use Rattle.go_scan_core.specs.Tokens.{IsAnswer}
 use Rattle.go_tree_nodes.specs.Trees.{FileTree}
-use Rattle.go_parse_core.specs.Refusing.{HasOneRule, IsRuleRead}
-use Rattle.go_parse_core.specs.Correct.{HasOneTree}
-use Rattle.go_graph_core.specs.Packages.{blank}
+use Rattle.go_part_core.specs.parse_core.Refusing.{HasOneRule, IsRuleRead}
+use Rattle.go_part_core.specs.parse_core.Correct.{HasOneTree}
+use Rattle.go_part_core.specs.graph_core.Packages.{blank}
 use Rattle.go_part_core.specs.Parts.{FileOf}
 use Rattle.govisd_core.specs.Alone.{StandsInFile}
 use Rattle.govisd_core.specs.Reports.{TooLong, NoText, BadToken, NoTree, TooHigh, NoName, AFile, IsFile, OneInput, max_bytes}

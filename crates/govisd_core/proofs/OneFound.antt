@@ -6,18 +6,18 @@ use Rattle.std.proofs.lemmas.List.Elements.{All-cons}
 use Rattle.go_path_core.specs.Path.{IsElement, IsPath, IsPathByte, elements}
 use Rattle.go_path_core.proofs.Paths.{not_cut}
 use Rattle.go_tree_nodes.specs.Trees.{FileTree, ImportSpecTree}
-use Rattle.go_graph_core.specs.declared.imports.ImportAt.{ImportAt}
-use Rattle.go_graph_core.specs.declared.imports.ImportOutcome.TheVariants as outcomes
-use Rattle.go_graph_core.specs.ImportLaws.{HasOneOutcome}
-use Rattle.go_graph_core.specs.Lists.{AllNumbered}
-use Rattle.go_graph_core.specs.Packages.{trees_of}
-use Rattle.go_graph_core.specs.Sources.{IsPlacedSource, IsRead}
-use Rattle.go_graph_core.specs.Workspaces.{AreAllRead, IsPackage, IsWorkspace, PackageModel}
-use Rattle.go_block_core.specs.declared.imports.Imported.{Imported}
-use Rattle.go_block_core.specs.declared.imports.Imported.TheVariants as given
-use Rattle.go_block_core.specs.Blocks.{BlocksModel}
-use Rattle.go_block_core.specs.Laws.{OneBlocksAlone}
-use Rattle.go_block_core.specs.Naming.{file_specs, import_at, package_named}
+use Rattle.go_part_core.specs.graph_core.declared.imports.ImportAt.{ImportAt}
+use Rattle.go_part_core.specs.graph_core.declared.imports.ImportOutcome.TheVariants as outcomes
+use Rattle.go_part_core.specs.graph_core.ImportLaws.{HasOneOutcome}
+use Rattle.go_part_core.specs.graph_core.Lists.{AllNumbered}
+use Rattle.go_part_core.specs.graph_core.Packages.{trees_of}
+use Rattle.go_part_core.specs.graph_core.Sources.{IsPlacedSource, IsRead}
+use Rattle.go_part_core.specs.graph_core.Workspaces.{AreAllRead, IsPackage, IsWorkspace, PackageModel}
+use Rattle.go_part_core.specs.block_core.declared.imports.Imported.{Imported}
+use Rattle.go_part_core.specs.block_core.declared.imports.Imported.TheVariants as given
+use Rattle.go_part_core.specs.block_core.Blocks.{BlocksModel}
+use Rattle.go_part_core.specs.block_core.Laws.{OneBlocksAlone}
+use Rattle.go_part_core.specs.block_core.Naming.{file_specs, import_at, package_named}
 use Rattle.govisd_lines.specs.handle_core.Declarations.{Declaration}
 use Rattle.go_local_core.specs.declared.Fault.{Fault}
 use Rattle.go_part_core.specs.report_core.Faults.{IsSaid}

@@ -9,20 +9,20 @@ use Rattle.std.proofs.lemmas.List.Sorted.{length_permutation, Contains-permutati
 use Rattle.go_text_core.specs.declared.rule.Rule.{Rule}
 use Rattle.go_tree_nodes.specs.Terminals.{value_of}
 use Rattle.go_tree_nodes.specs.Trees.{FileTree, ImportSpecTree}
-use Rattle.go_graph_core.specs.declared.imports.ImportAt.{ImportAt}
-use Rattle.go_graph_core.specs.declared.imports.ImportOutcome.{ImportOutcome}
-use Rattle.go_graph_core.specs.declared.imports.ImportOutcome.TheVariants as outcomes
-use Rattle.go_graph_core.specs.Imports.{IsEdge, IsImport, IsNoImport, IsOutcome, content_texts, edge, texts_of}
-use Rattle.go_graph_core.specs.Lists.{AllNumbered}
-use Rattle.go_graph_core.specs.Plans.{IsPlan, PlanModel, outcome_at}
-use Rattle.go_graph_core.specs.Packages.{trees_of, tree_shown}
-use Rattle.go_graph_core.specs.Sources.{SourceModel, IsRead, source}
-use Rattle.go_graph_core.specs.Workspaces.{PackageModel, AreReadFrom, HaveDistinctNames, Puts, put_package}
-use Rattle.go_graph_core.proofs.Zips.{numbered_length}
-use Rattle.go_block_core.specs.declared.imports.Imported.{Imported}
-use Rattle.go_block_core.specs.declared.imports.Imported.TheVariants as given
-use Rattle.go_block_core.specs.Naming.{AreInFile, HaveOneEach, file_specs, import_at, imported_in}
-use Rattle.go_block_core.proofs.NamingLemmas.{same_texts}
+use Rattle.go_part_core.specs.graph_core.declared.imports.ImportAt.{ImportAt}
+use Rattle.go_part_core.specs.graph_core.declared.imports.ImportOutcome.{ImportOutcome}
+use Rattle.go_part_core.specs.graph_core.declared.imports.ImportOutcome.TheVariants as outcomes
+use Rattle.go_part_core.specs.graph_core.Imports.{IsEdge, IsImport, IsNoImport, IsOutcome, content_texts, edge, texts_of}
+use Rattle.go_part_core.specs.graph_core.Lists.{AllNumbered}
+use Rattle.go_part_core.specs.graph_core.Plans.{IsPlan, PlanModel, outcome_at}
+use Rattle.go_part_core.specs.graph_core.Packages.{trees_of, tree_shown}
+use Rattle.go_part_core.specs.graph_core.Sources.{SourceModel, IsRead, source}
+use Rattle.go_part_core.specs.graph_core.Workspaces.{PackageModel, AreReadFrom, HaveDistinctNames, Puts, put_package}
+use Rattle.go_part_core.specs.graph_core.Zips.{numbered_length}
+use Rattle.go_part_core.specs.block_core.declared.imports.Imported.{Imported}
+use Rattle.go_part_core.specs.block_core.declared.imports.Imported.TheVariants as given
+use Rattle.go_part_core.specs.block_core.Naming.{AreInFile, HaveOneEach, file_specs, import_at, imported_in}
+use Rattle.go_part_core.specs.block_core.NamingLemmas.{same_texts}
 use Rattle.go_part_core.specs.ready_core.Packages.{trees_in}
 use Rattle.go_part_core.specs.summary_core.Summaries.{SummaryModel}
 use Rattle.go_part_core.specs.declared.files.PartFile.{PartFile}

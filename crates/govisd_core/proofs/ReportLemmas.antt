@@ -7,14 +7,14 @@ use Rattle.std.specs.Io.KnownBytes.{Appends, Keeps}
 use Rattle.go_text_core.specs.declared.rule.Rule.TheVariants.{E3, K3, L1}
 use Rattle.go_tree_nodes.specs.declared.names.Ident.{Ident}
 use Rattle.go_tree_nodes.specs.Trees.{FileTree}
-use Rattle.go_parse_core.specs.declared.error.SynFault.{SynFault}
-use Rattle.go_parse_core.specs.Correct.{IsSynFault, IsTreeFault}
-use Rattle.go_parse_core.specs.Refusing.{IsRuleRead}
-use Rattle.go_graph_core.specs.declared.assembly.KFault.{KFault}
-use Rattle.go_graph_core.specs.Packages.{IsAssembled, IsAssembly, IsClause, blank}
-use Rattle.go_graph_core.specs.Sources.{SourceModel, IsContent, IsRead, clause_in, clause_of, source}
-use Rattle.go_graph_core.specs.Workspaces.{PackageModel}
-use Rattle.go_block_core.specs.Naming.{AreInFile}
+use Rattle.go_part_core.specs.parse_core.declared.error.SynFault.{SynFault}
+use Rattle.go_part_core.specs.parse_core.Correct.{IsSynFault, IsTreeFault}
+use Rattle.go_part_core.specs.parse_core.Refusing.{IsRuleRead}
+use Rattle.go_part_core.specs.graph_core.declared.assembly.KFault.{KFault}
+use Rattle.go_part_core.specs.graph_core.Packages.{IsAssembled, IsAssembly, IsClause, blank}
+use Rattle.go_part_core.specs.graph_core.Sources.{SourceModel, IsContent, IsRead, clause_in, clause_of, source}
+use Rattle.go_part_core.specs.graph_core.Workspaces.{PackageModel}
+use Rattle.go_part_core.specs.block_core.Naming.{AreInFile}
 use Rattle.go_part_core.specs.Inputs.{InputModel, input_with}
 use Rattle.go_part_core.specs.Parts.{IsPart}
 use Rattle.govisd_lines.specs.Lines.{file_lines}

@@ -3,14 +3,14 @@
 -- docs/RULES.md, "Packages", "Imports", "Output". The Go specification, "Packages", "Import declarations".
 use Rattle.std.specs.Prelude.{◌≡◌, ℕ, List, [], ◌∷◌, Ok, codes}
 use Rattle.go_tree_nodes.specs.Trees.{FileTree}
-use Rattle.go_graph_core.specs.declared.imports.ImportAt.{ImportAt}
-use Rattle.go_graph_core.specs.declared.imports.ImportOutcome.TheVariants as outcomes
-use Rattle.go_graph_core.specs.Imports.{IsOutcome}
-use Rattle.go_graph_core.specs.Sources.{SourceModel, source}
-use Rattle.go_graph_core.specs.Workspaces.{PackageModel}
-use Rattle.go_block_core.specs.declared.imports.Imported.{Imported}
-use Rattle.go_block_core.specs.declared.imports.Imported.TheVariants as given
-use Rattle.go_block_core.specs.Naming.{AreInFile}
+use Rattle.go_part_core.specs.graph_core.declared.imports.ImportAt.{ImportAt}
+use Rattle.go_part_core.specs.graph_core.declared.imports.ImportOutcome.TheVariants as outcomes
+use Rattle.go_part_core.specs.graph_core.Imports.{IsOutcome}
+use Rattle.go_part_core.specs.graph_core.Sources.{SourceModel, source}
+use Rattle.go_part_core.specs.graph_core.Workspaces.{PackageModel}
+use Rattle.go_part_core.specs.block_core.declared.imports.Imported.{Imported}
+use Rattle.go_part_core.specs.block_core.declared.imports.Imported.TheVariants as given
+use Rattle.go_part_core.specs.block_core.Naming.{AreInFile}
 use Rattle.go_part_core.specs.Inputs.{input_with}
 use Rattle.go_part_core.specs.Parts.{ContentOf, FileOf, IsPart}
 

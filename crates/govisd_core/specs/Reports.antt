@@ -8,12 +8,12 @@ use Rattle.go_token_core.specs.declared.token.LexFault.{LexFault}
 use Rattle.go_token_core.specs.declared.token.Token.{Token}
 use Rattle.go_scan_core.specs.Tokens.{IsAnswer}
 use Rattle.go_tree_nodes.specs.Trees.{FileTree}
-use Rattle.go_graph_core.specs.Packages.{blank}
+use Rattle.go_part_core.specs.graph_core.Packages.{blank}
 use Rattle.go_part_core.specs.Parts.{FileOf}
 use Rattle.govisd_lines.specs.Lines.{fault_line, file_lines}
-use Rattle.go_parse_core.specs.Correct.{HasNoTree, HasNoLowTree}
-use Rattle.go_parse_core.specs.Parsing.{IsParse}
-use Rattle.go_parse_core.specs.Refusing.{IsRuleRead}
+use Rattle.go_part_core.specs.parse_core.Correct.{HasNoTree, HasNoLowTree}
+use Rattle.go_part_core.specs.parse_core.Parsing.{IsParse}
+use Rattle.go_part_core.specs.parse_core.Refusing.{IsRuleRead}
 use Rattle.govisd_core.specs.declared.input.InputFault.{InputFault}
 use Rattle.govisd_core.specs.declared.input.InputFault.TheVariants as input_faults
 use Rattle.govisd_core.specs.declared.run.ResolveEnd.{ResolveEnd}

@@ -1,15 +1,15 @@
 //! A file as the one file of the one package of a workspace.
 ghost use Rattle.std.specs.Prelude.{◌≡◌, [], ◌∷◌, IfOk, map, string_bytes};
 ghost use Rattle.go_tree_nodes.specs.Shapes.{file_of};
-ghost use Rattle.go_graph_core.specs.Packages.{trees_of};
-ghost use Rattle.go_graph_core.specs.Workspaces.{PackageModel, given_files};
-ghost use Rattle.go_block_core.specs.Naming.{AreInFile, HaveOneEach, import_at, imported_in};
+ghost use Rattle.go_part_core.specs.graph_core.Packages.{trees_of};
+ghost use Rattle.go_part_core.specs.graph_core.Workspaces.{PackageModel, given_files};
+ghost use Rattle.go_part_core.specs.block_core.Naming.{AreInFile, HaveOneEach, import_at, imported_in};
 ghost use Rattle.go_part_core.specs.Inputs.{input_with};
 ghost use Rattle.govisd_core.specs.Alone.{the_name};
 ghost use Rattle.govisd_core.specs.mirrors.Making.{AreRefusedAlone, AreRefusedIn, HasText, IsGivenIn, IsInputIn, IsOwn, IsRefusedIn};
 
-use go_block_core::{Imported, import_specs};
-use go_graph_core::{ImportAt, ImportOutcome, Package, Plan, Workspace, plan_imports};
+use go_part_core::block_core::{Imported, import_specs};
+use go_part_core::graph_core::{ImportAt, ImportOutcome, Package, Plan, Workspace, plan_imports};
 use go_part_core::summary_core::ReachedSummaries;
 use go_part_core::{Part, PartInput, compile_part};
 use go_path_core::ImportPath;

@@ -12,6 +12,11 @@ pub use laws::one_input;
 pub use output::write_report;
 pub use run::{ResolveEnd, run_resolve};
 
+/// What the crates above name of `go_block_core`.
+pub mod block_core {
+    pub use go_part_core::block_core::{Blocks, DeclKind, DeclRef, Target, workspace_blocks};
+}
+
 /// What the crates above name of `go_file_core`.
 pub mod file_core {
     pub use go_part_core::file_core::functions_are_placed;
@@ -20,4 +25,19 @@ pub mod file_core {
 /// What the crates above name of `go_func_core`.
 pub mod func_core {
     pub use go_part_core::func_core::{functions_have_one_table, locals_are_declarations};
+}
+
+/// What the crates above name of `go_names_core`.
+pub mod names_core {
+    pub use go_part_core::names_core::{Denoted, Outside, function_names};
+}
+
+/// What the crates above name of `go_parse_core`.
+pub mod parse_core {
+    pub use go_part_core::parse_core::{ParseError, Parsed, parse, tree_of};
+}
+
+/// What the crates above name of `go_scope_core`.
+pub mod scope_core {
+    pub use go_part_core::scope_core::{DeclId, InScope, Scopes, ShortDecl, ShortName};
 }

@@ -3,8 +3,8 @@ use Rattle.std.proofs.Common.{◌≡◌, ◌⊎◌, ℕ, List, [], ◌∙◌, ap
 use Rattle.go_text_core.specs.declared.rule.Rule.{Rule}
 use Rattle.go_text_core.specs.declared.rule.Rule.TheVariants.{M0, O2}
 use Rattle.go_path_core.specs.Path.{IsPath}
-use Rattle.go_crossing_core.specs.hall.Refusals.{IsOpenRefusal}
-use Rattle.go_crossing_core.specs.submit_core.Trees.{TreeModel, tree_with}
+use Rattle.go_hall.specs.Refusals.{IsOpenRefusal}
+use Rattle.go_hall.specs.submit_core.Trees.{TreeModel, tree_with}
 use Rattle.govisd_desk.specs.Sessions.{RefusesOpen}
 
 pub opened_is : (text shown own : List ℕ) (draft : TreeModel) (submits : ℕ) → (own ≡ shown) × IsPath shown → shown ≡ text → (draft ≡ tree_with own []) × (submits ≡ 0)

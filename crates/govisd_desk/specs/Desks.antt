@@ -2,7 +2,7 @@
 use Rattle.std.specs.Prelude.{◌≡◌, ◌-◌, ℕ, List, Option, Some, None, slice_get, slice_set, replicate}
 use Rattle.go_wire_core.specs.declared.request.Request.{Request}
 use Rattle.go_wire_core.specs.declared.reply.WireReply.{WireReply}
-use Rattle.go_crossing_core.specs.hall.Seat.{Seat}
+use Rattle.go_hall.specs.Seat.{Seat}
 use Rattle.govisd_desk.specs.Sessions.{SeatReplies}
 
 -- the session of a number, 1 to 32, replies, and the others stay

@@ -7,17 +7,17 @@ use Rattle.go_wire_core.specs.declared.request.Command.{Command}
 use Rattle.go_wire_core.specs.declared.request.Command.TheVariants.{Open, Edit, Build, List as ListOf, Doc, Complete, Define, Close}
 use Rattle.go_wire_core.specs.declared.reply.WireReply.{WireReply}
 use Rattle.go_wire_core.specs.declared.reply.WireReply.TheVariants.{Opened, Done, Built, Refused}
-use Rattle.go_crossing_core.specs.submit_core.Published.{BeginsWith}
-use Rattle.go_crossing_core.specs.submit_core.Trees.{tree_with}
-use Rattle.go_crossing_core.specs.submit_core.declared.published.PublishedBatch.{PublishedBatch}
-use Rattle.go_crossing_core.specs.snap_core.Snapshots.{SnapshotModel}
-use Rattle.go_crossing_core.specs.hall.Asked.{IsAnswer}
-use Rattle.go_crossing_core.specs.hall.Built.{IsBuilt}
-use Rattle.go_crossing_core.specs.hall.declared.faults.Fault.{Fault}
-use Rattle.go_crossing_core.specs.hall.Edits.{IsEditOf, IsEditRefusal}
-use Rattle.go_crossing_core.specs.hall.Queries.{IsCompleteAnswer, IsDefineAnswer, IsDocAnswer, IsListAnswer, IsTypeDocAnswer}
-use Rattle.go_crossing_core.specs.hall.Refusals.{IsBuildRefusal, IsOpenRefusal}
-use Rattle.go_crossing_core.specs.hall.Seat.{Seat}
+use Rattle.go_hall.specs.submit_core.Published.{BeginsWith}
+use Rattle.go_hall.specs.submit_core.Trees.{tree_with}
+use Rattle.go_hall.specs.submit_core.declared.published.PublishedBatch.{PublishedBatch}
+use Rattle.go_hall.specs.snap_core.Snapshots.{SnapshotModel}
+use Rattle.go_hall.specs.Asked.{IsAnswer}
+use Rattle.go_hall.specs.Built.{IsBuilt}
+use Rattle.go_hall.specs.declared.faults.Fault.{Fault}
+use Rattle.go_hall.specs.Edits.{IsEditOf, IsEditRefusal}
+use Rattle.go_hall.specs.Queries.{IsCompleteAnswer, IsDefineAnswer, IsDocAnswer, IsListAnswer, IsTypeDocAnswer}
+use Rattle.go_hall.specs.Refusals.{IsBuildRefusal, IsOpenRefusal}
+use Rattle.go_hall.specs.Seat.{Seat}
 use Rattle.govisd_desk.specs.Told.{TellsDeclaration, TellsDoc, TellsListing, TellsNames, TellsTypeDoc, place_of}
 
 -- ---- open

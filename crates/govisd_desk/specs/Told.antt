@@ -12,17 +12,17 @@ use Rattle.go_wire_core.specs.declared.reply.SymbolKind.TheVariants.{Const, Var,
 use Rattle.go_wire_core.specs.declared.reply.WireReply.{WireReply}
 use Rattle.go_wire_core.specs.declared.reply.WireReply.TheVariants.{Built, Listed, Described, Completed, Defined, Refused}
 use Rattle.go_graph_core.specs.Packages.{IsPackageName, trees_of}
-use Rattle.go_crossing_core.specs.query_core.Entries.{AreDeps, AreImports, EntryOf}
+use Rattle.go_hall.specs.query_core.Entries.{AreDeps, AreImports, EntryOf}
 use Rattle.go_decl_core.specs.declared.places.DeclKind.{DeclKind}
 use Rattle.go_decl_core.specs.declared.places.DeclKind.TheVariants as decl
-use Rattle.go_crossing_core.specs.hall.declared.faults.Fault.{Fault}
-use Rattle.go_crossing_core.specs.query_core.declared.listing.Listing.{Listing}
-use Rattle.go_crossing_core.specs.query_core.declared.documenting.PackageDoc.{PackageDoc}
-use Rattle.go_crossing_core.specs.symbol_core.declared.symbols.Symbol.{Symbol as FoundSymbol}
-use Rattle.go_crossing_core.specs.member_core.declared.listing.MemberKind.{MemberKind}
-use Rattle.go_crossing_core.specs.member_core.declared.listing.MemberKind.TheVariants as member
-use Rattle.go_crossing_core.specs.type_doc_core.declared.telling.Member.{Member}
-use Rattle.go_crossing_core.specs.type_doc_core.declared.telling.TypeDoc.{TypeDoc}
+use Rattle.go_hall.specs.declared.faults.Fault.{Fault}
+use Rattle.go_hall.specs.query_core.declared.listing.Listing.{Listing}
+use Rattle.go_hall.specs.query_core.declared.documenting.PackageDoc.{PackageDoc}
+use Rattle.go_symbol_core.specs.declared.symbols.Symbol.{Symbol as FoundSymbol}
+use Rattle.go_hall.specs.member_core.declared.listing.MemberKind.{MemberKind}
+use Rattle.go_hall.specs.member_core.declared.listing.MemberKind.TheVariants as member
+use Rattle.go_hall.specs.type_doc_core.declared.telling.Member.{Member}
+use Rattle.go_hall.specs.type_doc_core.declared.telling.TypeDoc.{TypeDoc}
 
 -- a fault, with where it stands
 abbrev pub place_of : Fault → FaultPlace

@@ -1,2 +1,2 @@
 -- What the crates above name of go_hall.
-pub use Rattle.go_crossing_core.specs.hall.Seat as Seat
+pub use Rattle.go_hall.specs.Seat as Seat

@@ -1,12 +1,12 @@
 //! What an open session replies to each command.
 ghost use Rattle.std.specs.Prelude.{◌≡◌, option_map, string_bytes};
-ghost use Rattle.go_crossing_core.specs.hall.Queries.{IsCompleteAnswer, IsDefineAnswer, IsDocAnswer, IsListAnswer, IsTypeDocAnswer};
+ghost use Rattle.go_hall.specs.Queries.{IsCompleteAnswer, IsDefineAnswer, IsDocAnswer, IsListAnswer, IsTypeDocAnswer};
 ghost use Rattle.govisd_desk.specs.Sessions.{IsBuildReply, IsDocReply, IsEditReply, IsReply, IsTold};
 ghost use Rattle.govisd_desk.specs.Told.{TellsBuild, TellsDeclaration, TellsDoc, TellsListing, TellsNames, TellsTypeDoc};
 
 use crate::telling::{described, described_type, listed, names_told, or_memory, places};
-use go_crossing_core::hall::{Built, Look, Session};
-use go_crossing_core::hall_core::Named;
+use go_hall::hall_core::Named;
+use go_hall::{Built, Look, Session};
 use go_text_core::Rule;
 use go_wire_core::{Text, WireReply};
 use std::alloc::Global;

@@ -2,8 +2,8 @@
 ghost use Rattle.std.specs.Prelude.{◌≡◌, None};
 
 use crate::seating::{answer_at, close};
-use go_crossing_core::hall::{Hall, Session};
-use go_crossing_core::hall_core::Named;
+use go_hall::hall_core::Named;
+use go_hall::{Hall, Session};
 use go_wire_core::{Desk, Request, WireReply};
 use std::alloc::Global;
 use std::marker::Model;
@@ -20,8 +20,8 @@ pub struct ConnectionDesk<'a, L: Named> {
 impl<'a, L: Named> Model for ConnectionDesk<'a, L> {
     ghost use Rattle.std.specs.Prelude.{Option};
     ghost use Rattle.std.specs.Coded.{coded_option};
-    ghost use Rattle.go_crossing_core.specs.hall.Coding.{coded_seat};
-    ghost use Rattle.go_crossing_core.specs.hall.Seat.{Seat};
+    ghost use Rattle.go_hall.specs.Coding.{coded_seat};
+    ghost use Rattle.go_hall.specs.Seat.{Seat};
 
     ghost Value = { Option Seat };
 

@@ -12,10 +12,10 @@ pub use script::ScriptDesk;
 
 /// What the crates above name of `go_hall`.
 pub mod hall {
-    pub use go_crossing_core::hall::{Hall, OpenGate, work};
+    pub use go_hall::{Hall, OpenGate, work};
 }
 
 /// What the crates above name of `go_hall_core`.
 pub mod hall_core {
-    pub use go_crossing_core::hall_core::Named;
+    pub use go_hall::hall_core::Named;
 }

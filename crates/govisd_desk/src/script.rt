@@ -3,8 +3,8 @@ ghost use Rattle.std.specs.Prelude.{◌≡◌, IfOk};
 ghost use Rattle.govisd_desk.specs.Desks.{no_sessions};
 
 use crate::seating::{answer_at, close};
-use go_crossing_core::hall::{Hall, Session};
-use go_crossing_core::hall_core::Named;
+use go_hall::hall_core::Named;
+use go_hall::{Hall, Session};
 use go_wire_core::{Desk, Request, WireReply};
 use std::alloc::{AllocError, Global};
 use std::marker::Model;
@@ -24,8 +24,8 @@ pub struct ScriptDesk<'a, L: Named> {
 impl<'a, L: Named> Model for ScriptDesk<'a, L> {
     ghost use Rattle.std.specs.Prelude.{◌≡◌, List, Option, length};
     ghost use Rattle.std.specs.Coded.{coded_list, coded_option};
-    ghost use Rattle.go_crossing_core.specs.hall.Coding.{coded_seat};
-    ghost use Rattle.go_crossing_core.specs.hall.Seat.{Seat};
+    ghost use Rattle.go_hall.specs.Coding.{coded_seat};
+    ghost use Rattle.go_hall.specs.Seat.{Seat};
 
     ghost Value = { List (Option Seat) };
 

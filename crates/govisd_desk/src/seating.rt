@@ -1,12 +1,12 @@
 //! A place for one session.
 ghost use Rattle.std.specs.Prelude.{◌≡◌, [], IfErr, IfOk, None};
 ghost use Rattle.go_path_core.specs.Path.{IsPath};
-ghost use Rattle.go_crossing_core.specs.submit_core.Trees.{tree_with};
+ghost use Rattle.go_hall.specs.submit_core.Trees.{tree_with};
 ghost use Rattle.govisd_desk.specs.Sessions.{GoesOn, IsOpenReply, RefusesOpen, RepliesOfNone, SeatReplies, is_close, module_of};
 
 use crate::asking::{build, complete, define, doc_of, edit, list};
-use go_crossing_core::hall::{Hall, Session};
-use go_crossing_core::hall_core::Named;
+use go_hall::hall_core::Named;
+use go_hall::{Hall, Session};
 use go_path_core::Module;
 use go_text_core::Rule;
 use go_wire_core::{Command, Text, WireReply};

@@ -1,15 +1,15 @@
 //! What is found, as it goes out.
 ghost use Rattle.std.specs.Prelude.{◌≡◌, IfOk, map, string_bytes};
 ghost use Rattle.std.specs.List.{AllZip};
-ghost use Rattle.go_crossing_core.specs.shown_core.Shown.{texts};
+ghost use Rattle.go_hall.specs.shown_core.Shown.{texts};
 ghost use Rattle.govisd_desk.specs.Told.{AreNamesTold, IsEntryFor, TellsDoc, TellsListing, TellsTypeDoc, kind_told, member_kind_told, member_told, or_memory, place_of, symbol_shown, symbol_told};
 
-use go_crossing_core::hall::Fault;
-use go_crossing_core::query_core::{Listing, PackageDoc, PackageEntry as FoundEntry};
-use go_crossing_core::symbol_core::Symbol as FoundSymbol;
-use go_crossing_core::type_doc_core::{Member, MemberKind, TypeDoc};
 use go_decl_core::DeclKind;
 use go_graph_core::SourceFile;
+use go_hall::Fault;
+use go_hall::query_core::{Listing, PackageDoc, PackageEntry as FoundEntry};
+use go_hall::type_doc_core::{Member, MemberKind, TypeDoc};
+use go_symbol_core::Symbol as FoundSymbol;
 use go_text_core::{Name, Rule, add};
 use go_wire_core::{FaultPlace, PackageEntry, Symbol, SymbolKind, Text, WireReply};
 use std::alloc::{AllocError, Global};

@@ -5,12 +5,12 @@ use Rattle.std.proofs.lemmas.List.{append-nil, length-drop, take_more, take_all}
 use Rattle.std.proofs.lemmas.Option.{none-some}
 use Rattle.std.proofs.Math.Seq.{take-add}
 use Rattle.go_text_core.specs.declared.rule.Rule.TheVariants.{L1}
-use Rattle.go_graph_core.specs.Workspaces.{PackageModel}
+use Rattle.go_snap_core.specs.graph_core.Workspaces.{PackageModel}
 use Rattle.go_snap_core.specs.declared.fault.PlacedFault.{PlacedFault}
 use Rattle.go_folder_core.specs.Folders.{joined_path}
 use Rattle.go_folder_core.specs.Places.{IsPosition}
 use Rattle.go_snap_core.specs.Faults.{LiesIn}
-use Rattle.go_graph_core.specs.Sources.{SourceModel}
+use Rattle.go_snap_core.specs.graph_core.Sources.{SourceModel}
 use Rattle.govisd_folders.specs.Telling.{AddsFault, AddsLine, AddsLines, AreLines, IsFolderOf, IsLine, fault_text, source_at}
 
 -- what is made of an answer, by what the answer is

@@ -3,7 +3,7 @@ use Rattle.std.specs.Prelude.{◌≡◌, ◌⊎◌, ℕ, List, [], ◌∷◌, �
 use Rattle.go_text_core.specs.declared.rule.Rule.TheVariants.{E1}
 use Rattle.go_path_core.specs.Path.{IsPath}
 use Rattle.go_folder_core.specs.Folders.{joined_path}
-use Rattle.go_graph_core.specs.Workspaces.{PackageModel, Puts, given_files}
+use Rattle.go_snap_core.specs.graph_core.Workspaces.{PackageModel, Puts, given_files}
 use Rattle.govisd_folders.specs.declared.reading.FolderFiles.{FolderFiles}
 use Rattle.govisd_folders.specs.Notes.{refusal_line}
 

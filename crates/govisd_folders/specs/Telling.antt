@@ -6,8 +6,8 @@ use Rattle.go_explain_core.specs.Meanings.{rule_meaning}
 use Rattle.go_folder_core.specs.Folders.{joined_path}
 use Rattle.go_folder_core.specs.Places.{IsPosition}
 use Rattle.go_folder_core.specs.declared.places.Position.{Position}
-use Rattle.go_graph_core.specs.Sources.{SourceModel}
-use Rattle.go_graph_core.specs.Workspaces.{PackageModel}
+use Rattle.go_snap_core.specs.graph_core.Sources.{SourceModel}
+use Rattle.go_snap_core.specs.graph_core.Workspaces.{PackageModel}
 use Rattle.go_snap_core.specs.declared.fault.PlacedFault.{PlacedFault}
 
 -- a place of a file, as `cart/cart.go:7:9`

@@ -8,7 +8,7 @@ use crate::finding::{ReadFolder, read_folder};
 use crate::notes::push;
 use crate::progress::Progress;
 use crate::telling::told;
-use go_graph_core::Workspace;
+use go_snap_core::graph_core::Workspace;
 use go_snap_core::{PlacedFault, Snapshot, compile, faults_lie_in_files};
 use std::alloc::{AllocError, Global};
 

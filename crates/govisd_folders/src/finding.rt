@@ -10,8 +10,8 @@ use crate::notes::{name_or_quotes, note, note_rule, passed_text, push, why_unrea
 use crate::progress::Progress;
 use crate::putting::put_all;
 use crate::reading::{FolderFiles, FoundFolders, found_below};
-use go_graph_core::Workspace;
 use go_path_core::ImportPath;
+use go_snap_core::graph_core::Workspace;
 use go_text_core::Rule;
 use std::alloc::{AllocError, Global};
 use std::path::PathBuf;

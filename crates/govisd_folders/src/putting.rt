@@ -3,15 +3,15 @@ ghost use Rattle.std.specs.Prelude.{◌≡◌, IfOk, OnOk, [], map, string_bytes
 ghost use Rattle.std.specs.List.Sorted.{IsStrictlySortedBy};
 ghost use Rattle.std.specs.Map.{keys_of};
 ghost use Rattle.std.specs.String.{string_cmp};
-ghost use Rattle.go_graph_core.specs.Workspaces.{HaveDistinctNames, given_files};
+ghost use Rattle.go_snap_core.specs.graph_core.Workspaces.{HaveDistinctNames, given_files};
 ghost use Rattle.govisd_folders.specs.Puts.{ArePut, IsPathOf, IsPut, folder_of};
 
 use crate::notes::note_rule;
 use crate::progress::Progress;
 use crate::reading::FolderFiles;
 use go_folder_core::package_path;
-use go_graph_core::Workspace;
 use go_path_core::ImportPath;
+use go_snap_core::graph_core::Workspace;
 use go_text_core::Rule;
 use std::alloc::{AllocError, Global};
 use std::collections::BTreeMap;

@@ -7,8 +7,8 @@ ghost use Rattle.govisd_folders.specs.Telling.{AddsFault, AddsLines, AreTold, co
 use crate::notes::{push, push_number};
 use go_explain_core::meaning;
 use go_folder_core::{LineCounter, Position, below};
-use go_graph_core::{SourceFile, Workspace};
 use go_snap_core::PlacedFault;
+use go_snap_core::graph_core::{SourceFile, Workspace};
 use go_text_core::Rule;
 use std::alloc::{AllocError, Global};
 

@@ -1,8 +1,8 @@
 -- The lines of the elements of lists, one element after the other.
 use Rattle.std.proofs.Common.{◌≡◌, ℕ, ◌+◌, ◌<◌, ◌≤◌, List, [], ◌∷◌, ◌++◌, length, get_or, take, flat_map, refl, sym, ap, ◌∙◌}
 use Rattle.std.proofs.lemmas.List.{append_assoc, append-nil, take_more, take_all, flat_map_more}
-use Rattle.go_tree_core.specs.declared.occurrence.Occ.{Occ}
-use Rattle.go_decl_core.specs.declared.places.Place.{Place}
+use Rattle.go_term_core.specs.tree_core.declared.occurrence.Occ.{Occ}
+use Rattle.go_term_core.specs.decl_core.declared.places.Place.{Place}
 use Rattle.go_answer_core.specs.handle_core.Declarations.{Declaration}
 use Rattle.go_answer_core.specs.expr_core.declared.things.Use.{Use}
 use Rattle.govisd_lines.specs.Lines.{occurrence_line, occurrence_lines}

@@ -6,18 +6,18 @@ use Rattle.std.specs.Option.{unwrap_or}
 use Rattle.go_text_core.specs.Rules.{rule_number}
 use Rattle.go_universe_core.specs.Universe.{spelling_of}
 use Rattle.go_tree_nodes.specs.Trees.{FileTree}
-use Rattle.go_tree_core.specs.declared.occurrence.Occ.{Occ}
-use Rattle.go_tree_core.specs.Occurrences.{file_occs, role_word}
-use Rattle.go_decl_core.specs.declared.places.Place.{Place}
-use Rattle.go_decl_core.specs.Outer.{places_of}
-use Rattle.go_decl_core.specs.Table.{offset_of}
+use Rattle.go_term_core.specs.tree_core.declared.occurrence.Occ.{Occ}
+use Rattle.go_term_core.specs.tree_core.Occurrences.{file_occs, role_word}
+use Rattle.go_term_core.specs.decl_core.declared.places.Place.{Place}
+use Rattle.go_term_core.specs.decl_core.Outer.{places_of}
+use Rattle.go_term_core.specs.decl_core.Table.{offset_of}
 use Rattle.go_term_core.specs.declared.term.MemberPlace.{MemberPlace}
 use Rattle.go_term_core.specs.declared.term.MemberPlace.TheVariants as places
 use Rattle.go_answer_core.specs.handle_core.Declarations.{Declaration, Universe, OfError, Package, InFile}
-use Rattle.go_denote_core.specs.declared.things.Outcome.{Outcome}
-use Rattle.go_denote_core.specs.declared.things.Outcome.TheVariants as outcomes
+use Rattle.go_answer_core.specs.denote_core.declared.things.Outcome.{Outcome}
+use Rattle.go_answer_core.specs.denote_core.declared.things.Outcome.TheVariants as outcomes
 use Rattle.go_answer_core.specs.expr_core.declared.things.Use.{Use}
-use Rattle.go_local_core.specs.declared.Fault.{Fault}
+use Rattle.go_answer_core.specs.local_core.declared.Fault.{Fault}
 
 -- an identifier of a file of the package of a path, by its offset
 abbrev pub place_text : List ℕ → List ℕ → ℕ → List ℕ

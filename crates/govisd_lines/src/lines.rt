@@ -7,10 +7,10 @@ ghost use Rattle.go_tree_nodes.specs.Spelling.{IsPlaced};
 use crate::bytes::{push, push_number};
 use crate::places::push_declaration;
 use go_answer_core::Answer;
-use go_decl_core::{Places, outline};
-use go_denote_core::Outcome;
-use go_local_core::Fault;
-use go_tree_core::{Occ, occurrences};
+use go_answer_core::denote_core::Outcome;
+use go_answer_core::local_core::Fault;
+use go_term_core::decl_core::{Places, outline};
+use go_term_core::tree_core::{Occ, occurrences};
 use go_tree_nodes::File;
 use std::alloc::{AllocError, Global};
 

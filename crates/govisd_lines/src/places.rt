@@ -5,8 +5,8 @@ ghost use Rattle.govisd_lines.specs.Lines.{declaration_text, offset_in, place_te
 
 use crate::bytes::{push, push_number};
 use go_answer_core::handle_core::DeclSite;
-use go_decl_core::Places;
 use go_term_core::MemberPlace;
+use go_term_core::decl_core::Places;
 use std::alloc::AllocError;
 
 // The offset of an identifier of a file, in bytes from the file's start.

@@ -1,8 +1,8 @@
 //! What the imports, the blocks and the faults of the packages of a workspace are.
-use go_block_core::{Blocks, DeclKind, DeclRef, Target};
-use go_graph_core::{ImportAt, ImportOutcome, Plan};
 use go_tree_core::{Role, occurrences};
 use go_tree_nodes::File;
+use govisd_core::block_core::{Blocks, DeclKind, DeclRef, Target};
+use govisd_show::graph_core::{ImportAt, ImportOutcome, Plan};
 use govisd_show::{Lines, Named};
 use std::alloc::Global;
 

@@ -4,9 +4,9 @@ ghost use Rattle.go_local_core.specs.Tables.{IsFuncPlaced};
 ghost use Rattle.go_tree_nodes.specs.Spelling.{IsPlaced};
 
 use crate::blocks::{PackageBlocks, kind_word};
-use go_graph_core::PackageSource;
-use go_names_core::{Denoted, Outside, function_names};
 use go_tree_nodes::{Decl, File, FuncDecl};
+use govisd_core::names_core::{Denoted, Outside, function_names};
+use govisd_show::graph_core::PackageSource;
 use govisd_show::{Lines, Named, identifier_at};
 use std::alloc::Global;
 

@@ -1,7 +1,7 @@
 //! What the imports of a workspace come to, counted.
-use go_graph_core::{ImportAt, ImportOutcome, Plan, Workspace};
 use go_text_core::Rule;
 use govisd_show::Lines;
+use govisd_show::graph_core::{ImportAt, ImportOutcome, Plan, Workspace};
 
 /// The rules that may refuse an import.
 const IMPORT_RULES: [Rule; 6] = [Rule::I1, Rule::I2, Rule::I3, Rule::I4, Rule::I5, Rule::I6];

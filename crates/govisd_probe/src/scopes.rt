@@ -3,9 +3,9 @@ ghost use Rattle.std.specs.Prelude.{◌<◌, length};
 
 use crate::blocks::{PackageBlocks, add_decl, add_target, place_of};
 use crate::words::pair;
-use go_block_core::Blocks;
-use go_scope_core::{DeclId, InScope, Scopes, ShortDecl, ShortName};
 use go_text_core::{Rule, add};
+use govisd_core::block_core::Blocks;
+use govisd_core::scope_core::{DeclId, InScope, Scopes, ShortDecl, ShortName};
 use govisd_show::{Lines, Named, member_place};
 use std::alloc::{AllocError, Global};
 

@@ -1,14 +1,14 @@
 //! What is answered of workspaces.
-ghost use Rattle.go_graph_core.specs.Plans.{IsPlan};
+ghost use Rattle.govisd_show.specs.graph_core.Plans.{IsPlan};
 
 use crate::blocks::{add_blocks, add_imports, add_order, place_of};
 use crate::names::{add_keys, add_names};
 use crate::plans::add_plan;
 use crate::scopes::add_scope;
-use go_block_core::workspace_blocks;
-use go_graph_core::{ImportAt, Plan, Workspace, plan_imports};
 use go_path_core::Module;
 use go_text_core::Rule;
+use govisd_core::block_core::workspace_blocks;
+use govisd_show::graph_core::{ImportAt, Plan, Workspace, plan_imports};
 use govisd_show::{Lines, Named, add_counts, add_files, add_package, name_packages, put_archive};
 use std::alloc::Global;
 

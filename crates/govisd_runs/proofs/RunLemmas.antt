@@ -6,7 +6,7 @@ use Rattle.std.proofs.lemmas.List.{drop_more}
 use Rattle.go_text_core.specs.declared.rule.Rule.{Rule}
 use Rattle.go_text_core.specs.declared.rule.Rule.TheVariants as rules
 use Rattle.go_path_core.specs.Path.{IsPath}
-use Rattle.go_graph_core.specs.Workspaces.{PackageModel}
+use Rattle.go_site_core.specs.graph_core.Workspaces.{PackageModel}
 use Rattle.go_link_core.specs.Linked.{HasNoMain, HasNoneOutside, IsBeyond, IsCut, ProgramOf}
 use Rattle.go_run_core.specs.Laws.{AnswersAreOne}
 use Rattle.go_run_core.specs.Runs.{GetsStuck}

@@ -1,6 +1,6 @@
 -- What the run of a folder's program answers.
 use Rattle.std.specs.Prelude.{ℕ, Bool, true, false, List, [], ◌∷◌, ◌++◌, Option}
-use Rattle.go_graph_core.specs.Workspaces.{PackageModel}
+use Rattle.go_site_core.specs.graph_core.Workspaces.{PackageModel}
 use Rattle.govisd_folders.specs.snap_core.declared.fault.PlacedFault.{PlacedFault}
 use Rattle.govisd_folders.specs.emit_core.Emitted.{objects_of}
 use Rattle.govisd_folders.specs.part_core.Parts.{PartModel}

@@ -2,7 +2,7 @@
 use Rattle.std.specs.Prelude.{◌≡◌, ◌⊎◌, ℕ, List, [], ◌∷◌, ◌++◌, Option, Some, None, codes}
 use Rattle.go_text_core.specs.declared.rule.Rule.TheVariants.{I1, J1, J2}
 use Rattle.go_path_core.specs.Path.{IsPath}
-use Rattle.go_graph_core.specs.Workspaces.{PackageModel}
+use Rattle.go_site_core.specs.graph_core.Workspaces.{PackageModel}
 use Rattle.go_site_core.specs.handle_core.Declarations.{Declaration}
 use Rattle.go_object_core.specs.Objects.{FunctionOf, ObjectOf}
 use Rattle.go_link_core.specs.Linked.{HasNoMain, IsBeyond, IsCut, IsOutsideOf, ProgramOf, program_of}

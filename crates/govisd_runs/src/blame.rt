@@ -6,13 +6,13 @@ ghost use Rattle.go_link_core.specs.Linked.{IsBeyond, program_of};
 ghost use Rattle.govisd_runs.specs.Runs.{IsBlamed, IsToBlame, function_text};
 
 use crate::answers::refuse;
-use go_graph_core::Workspace;
 use go_launch_core::SitePlaces;
 use go_link_core::outside;
 use go_object_core::{FunctionCode, Object};
 use go_path_core::ImportPath;
 use go_run_core::answers_are_one;
 use go_site_core::answer_core::Site;
+use go_site_core::graph_core::Workspace;
 use go_site_core::site_text_of;
 use go_text_core::Rule;
 use govisd_folders::{CheckAnswer, push};

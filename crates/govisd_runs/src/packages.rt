@@ -6,11 +6,11 @@ ghost use Rattle.govisd_runs.specs.Runs.{AnswersMain, AnswersMains, AnswersNamed
 use crate::answers::{answer_of, refuse, refuse_for};
 use crate::blame::refuse_beyond;
 use crate::choosing::{mains_in, refuse_several};
-use go_graph_core::Workspace;
 use go_launch_core::run;
 use go_object_core::Object;
 use go_path_core::ImportPath;
 use go_site_core::answer_core::Site;
+use go_site_core::graph_core::Workspace;
 use go_text_core::Rule;
 use govisd_folders::{CheckAnswer, name_or_quotes, path_of};
 use std::alloc::{AllocError, Global};

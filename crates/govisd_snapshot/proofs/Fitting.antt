@@ -7,8 +7,8 @@ use Rattle.std.proofs.lemmas.List.Elements.{All-cons, All-nil}
 use Rattle.std.proofs.lemmas.List.Sorted.{IsPermutation-reverse}
 use Rattle.std.proofs.lemmas.Option.{slice_get_within, slice_get-get_or, get_or_from_slice_get}
 use Rattle.go_snap_core.specs.part_core.Laws.{OnePart}
-use Rattle.go_graph_core.specs.Workspaces.{PackageModel, AreAllRead, IsWorkspace}
-use Rattle.go_graph_core.proofs.Zips.{numbered_back}
+use Rattle.govisd_show.specs.graph_core.Workspaces.{PackageModel, AreAllRead, IsWorkspace}
+use Rattle.govisd_show.specs.graph_core.Zips.{numbered_back}
 use Rattle.go_snap_core.specs.ready_core.Packages.{trees_in}
 use Rattle.go_snap_core.specs.part_core.Inputs.{InputModel}
 use Rattle.go_snap_core.specs.part_core.Parts.{ContentOf, IsPart, PartModel, part_with}

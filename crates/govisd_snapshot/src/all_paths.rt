@@ -1,8 +1,8 @@
 //! A second opinion on selectors: all paths of embedded fields, one after another.
 use go_path_core::ImportPath;
-use go_select_core::embed_core::Hits;
-use go_select_core::{Member, Owner, Selected};
-use go_table_core::TypeTable;
+use go_site_core::embed_core::Hits;
+use go_site_core::select_core::{Member, Owner, Selected};
+use go_snap_core::table_core::TypeTable;
 use go_term_core::TypeTerm;
 use go_text_core::{Rule, add};
 use govisd_show::Lines;

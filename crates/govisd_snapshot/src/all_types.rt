@@ -2,8 +2,8 @@
 use crate::selectors::{add_selectable, add_selector, starred};
 use crate::types::Typed;
 use go_path_core::ImportPath;
-use go_select_core::select;
-use go_table_core::{DefinedType, PackageTypes, StructField};
+use go_site_core::select_core::select;
+use go_snap_core::table_core::{DefinedType, PackageTypes, StructField};
 use go_term_core::TypeTerm;
 use go_text_core::add;
 use govisd_show::Lines;

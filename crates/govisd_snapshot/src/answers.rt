@@ -1,8 +1,8 @@
 //! How faults and what occurrences have are written.
-use go_denote_core::Outcome;
 use go_path_core::ImportPath;
 use go_site_core::SiteSpelling;
 use go_site_core::answer_core::{Answer, Site};
+use go_snap_core::denote_core::Outcome;
 use go_snap_core::{PlacedFault, Snapshot};
 use go_term_core::MemberPlace;
 use go_tree_core::OccId;

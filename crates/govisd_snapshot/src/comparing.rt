@@ -1,6 +1,6 @@
 //! Whether an edit leaves a package as it was for those that import it.
 ghost use Rattle.std.specs.Prelude.{IfSome};
-ghost use Rattle.go_graph_core.specs.Workspaces.{AreAllRead};
+ghost use Rattle.govisd_show.specs.graph_core.Workspaces.{AreAllRead};
 
 use go_path_core::ImportPath;
 use go_snap_core::Snapshot;

@@ -2,11 +2,11 @@
 use crate::answers::{add_answer, add_place, spelling_at};
 use crate::shot::Shot;
 use go_constant_core::Constant;
-use go_denote_core::Outcome;
-use go_operand_core::{Operand, ValueType};
 use go_site_core::SiteSpelling;
 use go_site_core::answer_core::HeldLocal;
+use go_snap_core::denote_core::Outcome;
 use go_snap_core::face_core::Face;
+use go_snap_core::operand_core::{Operand, ValueType};
 use go_snap_core::package_core::FileAnswers;
 use go_snap_core::part_core::Part;
 use go_term_core::{Basic, MemberPlace, Signature, TypeTerm};

@@ -66,7 +66,7 @@ mod shot;
 mod type_questions;
 mod types;
 
-use go_table_core::TypeTable;
+use go_snap_core::table_core::TypeTable;
 use govisd_show::{Lines, name_packages};
 use shot::{Shot, shot_of, snapshot_of};
 use std::alloc::{AllocError, Global};

@@ -2,7 +2,7 @@
 use crate::answers::add_steps;
 use crate::selectors::add_member;
 use crate::types::Typed;
-use go_mset_core::{implements, implements_by_pointer, method_set};
+use go_site_core::mset_core::{implements, implements_by_pointer, method_set};
 use go_term_core::TypeTerm;
 use govisd_show::Lines;
 use std::alloc::Global;

@@ -1,8 +1,8 @@
 //! Snapshots, with the names of their packages, and how their declarations are written.
-use go_graph_core::Workspace;
 use go_site_core::SiteSpelling;
 use go_snap_core::{Snapshot, compile};
 use go_text_core::Rule;
+use govisd_show::graph_core::Workspace;
 use govisd_show::{Named, put_archive};
 use std::alloc::{AllocError, Global};
 

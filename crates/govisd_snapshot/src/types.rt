@@ -1,6 +1,6 @@
 //! The types of the packages of a snapshot.
 use go_snap_core::PlacedFault;
-use go_table_core::{PackageTypes, TypeTable};
+use go_snap_core::table_core::{PackageTypes, TypeTable};
 use go_text_core::add;
 use govisd_show::Named;
 use std::alloc::AllocError;

@@ -1,8 +1,8 @@
 -- What one step of a loop adds.
 use Rattle.std.specs.Prelude.{Bool, false, List, [], Option, Some, None}
 use Rattle.go_fault_core.specs.decl_core.declared.keys.DeclRef.{DeclRef}
-use Rattle.go_face_core.specs.Faces.{TheFace}
-use Rattle.go_face_core.specs.Packages.{DeclaredOf}
+use Rattle.go_fault_core.specs.face_core.Faces.{TheFace}
+use Rattle.go_fault_core.specs.face_core.Packages.{DeclaredOf}
 use Rattle.go_answer_core.specs.Shown.{is_decl_listed, shown_if}
 
 -- the face of the declaration at a place

@@ -3,7 +3,7 @@ use Rattle.std.specs.Prelude.{ℕ, suc, nat_eq, Bool, true, false, List, [], ◌
 use Rattle.go_tree_nodes.specs.declared.exprs.«Item» as declared_item
 use Rattle.go_tree_nodes.specs.declared.exprs.Key.{Key}
 use Rattle.go_tree_nodes.specs.Shapes.{shape_key}
-use Rattle.go_expr_core.specs.Elements.{key_names}
+use Rattle.go_spot_core.specs.expr_core.Elements.{key_names}
 
 abbrev pub key_unless : Bool → Option Key → List (List ℕ)
 key_unless true k = []

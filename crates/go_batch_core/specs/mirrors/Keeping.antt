@@ -1,12 +1,12 @@
 -- What a batch keeps.
 use Rattle.std.specs.Prelude.{◌≡◌, ℕ, List, Option, Some, None, All, ⊤, map, length, slice_get}
-use Rattle.go_graph_core.specs.Workspaces.{PackageModel, AreAllRead, IsWorkspace}
-use Rattle.go_graph_core.specs.Plans.{AreImporters, AreReached, IsAssembledAt, IsPlan, PlanModel}
+use Rattle.go_snap_core.specs.graph_core.Workspaces.{PackageModel, AreAllRead, IsWorkspace}
+use Rattle.go_snap_core.specs.graph_core.Plans.{AreImporters, AreReached, IsAssembledAt, IsPlan, PlanModel}
 use Rattle.go_reach_core.specs.Numbers.{Numbers}
-use Rattle.go_submit_core.specs.summary_core.Summaries.{SummaryModel}
-use Rattle.go_submit_core.specs.part_core.Parts.{PartModel, IsPart}
-use Rattle.go_submit_core.specs.whole_core.Inputs.{IsInputAt}
-use Rattle.go_submit_core.specs.make_core.Telling.{told_of}
+use Rattle.go_snap_core.specs.summary_core.Summaries.{SummaryModel}
+use Rattle.go_snap_core.specs.part_core.Parts.{PartModel, IsPart}
+use Rattle.go_snap_core.specs.whole_core.Inputs.{IsInputAt}
+use Rattle.go_snap_core.specs.make_core.Telling.{told_of}
 use Rattle.go_turn_core.specs.declared.mark.Mark.{Mark}
 use Rattle.go_turn_core.specs.declared.mark.Mark.TheVariants as mark
 use Rattle.go_turn_core.specs.Turns.{TurnsModel}

@@ -1,11 +1,11 @@
 -- Which of the fields of a struct type keys may name, as the loop over them goes.
 use Rattle.std.specs.Prelude.{ℕ, Bool, true, false, ◌||◌, ◌&&◌, not, List, [], ◌∷◌, ◌++◌, Option, Some, None, if◌then◌else◌}
 use Rattle.go_text_core.specs.Text.{is_blank}
-use Rattle.go_literal_core.specs.declared.things.NamedField.{NamedField}
-use Rattle.go_literal_core.specs.declared.things.NamedField.TheVariants as nameds
-use Rattle.go_literal_core.specs.Look.{FieldOf, LiteralLook}
-use Rattle.go_literal_core.specs.Literals.{is_struct}
-use Rattle.go_literal_core.specs.Repeats.{has_name}
+use Rattle.go_expr_core.specs.literal_core.declared.things.NamedField.{NamedField}
+use Rattle.go_expr_core.specs.literal_core.declared.things.NamedField.TheVariants as nameds
+use Rattle.go_expr_core.specs.literal_core.Look.{FieldOf, LiteralLook}
+use Rattle.go_expr_core.specs.literal_core.Literals.{is_struct}
+use Rattle.go_expr_core.specs.literal_core.Repeats.{has_name}
 use Rattle.go_behind_core.specs.mirrors.Kept.{named_if}
 
 -- a visible field that no name before it has

@@ -5,11 +5,11 @@ use Rattle.go_text_core.specs.declared.name.Name.{Name}
 use Rattle.go_tree_nodes.specs.declared.usage.Usage.{Usage}
 use Rattle.go_tree_nodes.specs.declared.usage.Usage.TheVariants as usages
 use Rattle.go_term_core.specs.Terms.{Term}
-use Rattle.go_select_core.specs.embed_core.Owners.{Found, AFieldOf, AMethodOf, AnInterfaces, TheErrorMethod}
-use Rattle.go_select_core.specs.embed_core.OwnersShown.{found_shown}
-use Rattle.go_select_core.specs.level_core.declared.search.Selected.{Selected}
-use Rattle.go_denote_core.specs.Selectors.{member_answer}
-use Rattle.go_table_core.specs.Entries.{Entry}
+use Rattle.go_handle_core.specs.embed_core.Owners.{Found, AFieldOf, AMethodOf, AnInterfaces, TheErrorMethod}
+use Rattle.go_handle_core.specs.embed_core.OwnersShown.{found_shown}
+use Rattle.go_handle_core.specs.level_core.declared.search.Selected.{Selected}
+use Rattle.go_expr_core.specs.denote_core.Selectors.{member_answer}
+use Rattle.go_handle_core.specs.table_core.Entries.{Entry}
 use Rattle.go_handle_core.specs.Names.{selection_in}
 use Rattle.go_behind_core.specs.Names.{AreNames, is_declared}
 use Rattle.go_behind_core.specs.mirrors.Kept.{kept_names}

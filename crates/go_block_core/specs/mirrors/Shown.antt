@@ -1,9 +1,9 @@
 -- What the code's references show.
 use Rattle.std.specs.Prelude.{ℕ, Bool, List, [], ◌∷◌, Option, Some, None}
 use denote.Ref.{Bor}
-use Rattle.go_decl_core.specs.tree_nodes.declared.files.ImportSpec.{ImportSpec}
-use Rattle.go_decl_core.specs.tree_nodes.Shapes.{shape_import_spec}
-use Rattle.go_decl_core.specs.tree_nodes.Trees.{ImportSpecTree}
+use Rattle.go_tree_nodes.specs.declared.files.ImportSpec.{ImportSpec}
+use Rattle.go_tree_nodes.specs.Shapes.{shape_import_spec}
+use Rattle.go_tree_nodes.specs.Trees.{ImportSpecTree}
 use Rattle.go_decl_core.specs.declared.places.DeclKind.{DeclKind}
 use Rattle.go_decl_core.specs.declared.tops.TopDecl.{TopDecl}
 use Rattle.go_block_core.specs.declared.binding.BoundName.{BoundName}

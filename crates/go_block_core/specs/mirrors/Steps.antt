@@ -1,6 +1,6 @@
 -- What the imports of a package come to, by a plan and by what packages before it show.
 use Rattle.std.specs.Prelude.{◌≡◌, ℕ, ◌<◌, ⊤, List, length, Option, Some, slice_get}
-use Rattle.go_decl_core.specs.tree_nodes.Trees.{FileTree}
+use Rattle.go_tree_nodes.specs.Trees.{FileTree}
 use Rattle.go_graph_core.specs.declared.imports.ImportAt.{ImportAt}
 use Rattle.go_graph_core.specs.declared.imports.ImportOutcome.{ImportOutcome}
 use Rattle.go_graph_core.specs.declared.imports.ImportOutcome.TheVariants as outcomes

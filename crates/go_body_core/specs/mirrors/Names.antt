@@ -1,15 +1,15 @@
 -- The rules of the checker look at the names of a piece alone.
 use Rattle.std.proofs.Common.{◌≡◌, ℕ, Bool, List, [], ◌∷◌, Option, refl, ap}
 use Rattle.go_tree_nodes.specs.Trees.{TypeTree}
-use Rattle.go_env_core.specs.term_core.Terms.{Term, Sign}
+use Rattle.go_term_core.specs.Terms.{Term, Sign}
 use Rattle.go_env_core.specs.handle_core.Declarations.{Declaration}
-use Rattle.go_local_core.specs.Binding.{NameLook}
-use Rattle.go_local_core.specs.Alike.{LookAtNames}
-use Rattle.go_piece_core.specs.expr_core.Locality.{SameType}
-use Rattle.go_piece_core.specs.Laws.{FindByNames}
-use Rattle.go_local_core.specs.Pieces.{piece_types}
-use Rattle.go_piece_core.proofs.Shown.{pieces_look}
-use Rattle.go_piece_core.proofs.Local.{all_made}
+use Rattle.go_env_core.specs.local_core.Binding.{NameLook}
+use Rattle.go_env_core.specs.local_core.Alike.{LookAtNames}
+use Rattle.go_env_core.specs.expr_core.Locality.{SameType}
+use Rattle.go_env_core.specs.piece_core.Laws.{FindByNames}
+use Rattle.go_env_core.specs.local_core.Pieces.{piece_types}
+use Rattle.go_env_core.specs.piece_core.Shown.{pieces_look}
+use Rattle.go_env_core.specs.piece_core.Local.{all_made}
 use Rattle.go_env_core.specs.face_core.Faces.{TheFace}
 use Rattle.go_env_core.specs.inline_core.Types.{InlineOf}
 use Rattle.go_env_core.specs.declared.meaning.Meaning.{Meaning}

@@ -1,9 +1,9 @@
 -- What the checker notes of a piece.
 use Rattle.std.specs.Prelude.{Bool, List, Option}
 use Rattle.go_tree_nodes.specs.declared.names.Ident.{Ident}
-use Rattle.go_piece_core.specs.operand_core.declared.types.Operand.{Operand}
-use Rattle.go_env_core.specs.term_core.Terms.{Term}
-use Rattle.go_piece_core.specs.Pieces.{piece_uses}
+use Rattle.go_env_core.specs.operand_core.declared.types.Operand.{Operand}
+use Rattle.go_term_core.specs.Terms.{Term}
+use Rattle.go_env_core.specs.piece_core.Pieces.{piece_uses}
 use Rattle.go_env_core.specs.names_core.declared.look.OpenNames.{OpenNames}
 use Rattle.go_env_core.specs.names_core.Scope.{open_look}
 use Rattle.go_env_core.specs.declared.meaning.Meaning.{Meaning}

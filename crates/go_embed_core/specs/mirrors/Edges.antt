@@ -1,6 +1,6 @@
 -- The fields and embedded fields of an owner, as the program reads them.
 use Rattle.std.specs.Prelude.{◌≡◌, ◌⊎◌, ℕ, zero, suc, Bool, true, false, List, [], ◌++◌, Option, Some, None, option_to_list, if◌then◌else◌}
-use Rattle.go_type_core.specs.term_core.Terms.{Term, NoType, Predeclared, ErrorType, Defined, PointerTo, StructOf, InterfaceOf}
+use Rattle.go_term_core.specs.Terms.{Term, NoType, Predeclared, ErrorType, Defined, PointerTo, StructOf, InterfaceOf}
 use Rattle.go_type_core.specs.table_core.Entries.{Member, has_method}
 use Rattle.go_type_core.specs.table_core.Shown.{hides_some}
 use Rattle.go_embed_core.specs.Owners.{OwnerModel, EmbeddedEdge, embedded_edge}

@@ -1,8 +1,8 @@
 -- The members that an identifier names, counted one after another.
 use Rattle.std.specs.Prelude.{ℕ, Bool, List, [], ◌∷◌, if◌then◌else◌}
-use Rattle.go_type_core.specs.term_core.declared.term.Field.{Field}
-use Rattle.go_type_core.specs.term_core.declared.term.Method.{Method}
-use Rattle.go_type_core.specs.term_core.Shapes.{Line, line_at, sign_of}
+use Rattle.go_term_core.specs.declared.term.Field.{Field}
+use Rattle.go_term_core.specs.declared.term.Method.{Method}
+use Rattle.go_term_core.specs.Shapes.{Line, line_at, sign_of}
 use Rattle.go_type_core.specs.table_core.declared.entry.DeclaredMethod.{DeclaredMethod}
 use Rattle.go_type_core.specs.table_core.Entries.{same_id}
 use Rattle.go_embed_core.specs.declared.member.Hits.{Hits}

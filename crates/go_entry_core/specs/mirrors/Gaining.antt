@@ -1,6 +1,6 @@
 -- Entries that are given methods one after another.
 use Rattle.std.specs.Prelude.{◌≡◌, ◌++◌, ℕ, true, false, List, map, Option, Some, None, slice_get}
-use Rattle.go_written_core.specs.term_core.Terms.{Term}
+use Rattle.go_term_core.specs.Terms.{Term}
 use Rattle.go_table_core.specs.Entries.{Entry}
 use Rattle.go_entry_core.specs.Entries.{Received, is_type_of, methods_received}
 

@@ -6,8 +6,8 @@ use Rattle.go_handle_core.specs.constant_core.declared.values.Constant.{Constant
 use Rattle.go_handle_core.specs.constant_core.contracts.values.Constant as constant
 use Rattle.go_entry_core.specs.decl_core.declared.keys.DeclRef.{DeclRef}
 use Rattle.go_entry_core.specs.decl_core.contracts.keys.DeclRef as decl_ref
-use Rattle.go_handle_core.specs.term_core.Terms.{Term, Sign}
-use Rattle.go_handle_core.specs.term_core.codes.TermCodes.{coded_term, coded_sign}
+use Rattle.go_term_core.specs.Terms.{Term, Sign}
+use Rattle.go_term_core.specs.codes.TermCodes.{coded_term, coded_sign}
 use Rattle.go_handle_core.specs.operand_core.declared.types.ValueType.{ValueType}
 use Rattle.go_handle_core.specs.operand_core.declared.types.ValueType.TheVariants as value_types
 use Rattle.go_handle_core.specs.operand_core.declared.types.Operand.{Operand}

@@ -1,12 +1,12 @@
 -- Declarations by specifications as the code has them: what they have and break.
 use Rattle.std.specs.Prelude.{ℕ, ⊤, List}
 use Rattle.go_tree_nodes.specs.Shapes.{shape_type_decl, shape_value}
-use Rattle.go_top_core.specs.inline_core.Types.{InlineOf}
+use Rattle.go_func_core.specs.inline_core.Types.{InlineOf}
 use Rattle.go_tree_nodes.specs.WrittenTypes.{specs_types}
-use Rattle.go_top_core.specs.expr_core.declared.things.Use.{Use}
-use Rattle.go_top_core.specs.local_core.declared.Fault.{Fault}
-use Rattle.go_top_core.specs.expr_core.Looks.{Looks}
-use Rattle.go_top_core.specs.Tops.{value_decl_uses, value_decl_faults, type_decl_uses, type_decl_faults}
+use Rattle.go_func_core.specs.expr_core.declared.things.Use.{Use}
+use Rattle.go_func_core.specs.local_core.declared.Fault.{Fault}
+use Rattle.go_func_core.specs.expr_core.Looks.{Looks}
+use Rattle.go_func_core.specs.top_core.Tops.{value_decl_uses, value_decl_faults, type_decl_uses, type_decl_faults}
 use Rattle.go_func_core.specs.Stands.{FileStand}
 use Rattle.go_file_core.specs.declared.spec_decl.SpecDecl.{SpecDecl}
 use Rattle.go_file_core.specs.declared.spec_decl.SpecDecl.TheVariants as decls

@@ -5,11 +5,11 @@ use Rattle.std.specs.declared.string.String.{String}
 use Rattle.std.specs.Global.{Global}
 use Rattle.go_text_core.specs.Text.{is_blank}
 use Rattle.go_tree_nodes.specs.declared.usage.Usage.{Usage}
-use Rattle.go_decl_core.specs.declared.keys.DeclKey.{DeclKey}
+use Rattle.go_context_core.specs.decl_core.declared.keys.DeclKey.{DeclKey}
 use Rattle.go_context_core.specs.block_core.declared.binding.Target.{Target}
 use Rattle.go_context_core.specs.block_core.declared.binding.Target.TheVariants as targets
 use Rattle.go_context_core.specs.scope_core.Scopes.{Denoted, Universe, Package, File, Local}
-use Rattle.go_face_core.specs.Packages.{PackageFacesModel, shown_by}
+use Rattle.go_shown_core.specs.face_core.Packages.{PackageFacesModel, shown_by}
 use Rattle.go_fitting_core.specs.Fitting.{fits_shown}
 
 -- the declaration that a dot import binds

@@ -1,7 +1,7 @@
 -- Tests of the package clauses of files.
 use Rattle.std.specs.Prelude.{ℕ, List, Bool, true, false, not, Option, Some, None}
 use Rattle.std.specs.Str.{bytes_eq}
-use Rattle.go_parse_core.specs.tree_nodes.declared.names.Ident.{Ident}
+use Rattle.go_tree_nodes.specs.declared.names.Ident.{Ident}
 use Rattle.go_graph_core.specs.Sources.{SourceModel, clause_of}
 
 -- whether there is no clause

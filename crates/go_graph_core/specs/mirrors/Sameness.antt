@@ -1,6 +1,6 @@
 -- What is left to compare of two files of one name and one text.
 use Rattle.std.specs.Prelude.{◌≡◌, ⊤, Result, Ok, Err}
-use Rattle.go_parse_core.specs.tree_nodes.Trees.{FileTree}
+use Rattle.go_tree_nodes.specs.Trees.{FileTree}
 use Rattle.go_parse_core.specs.declared.error.SynFault.{SynFault}
 
 -- both contents are trees, or both are one fault

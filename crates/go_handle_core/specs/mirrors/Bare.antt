@@ -1,6 +1,6 @@
 -- Underlying types that ask for no method.
 use Rattle.std.specs.Prelude.{Bool, true, false}
-use Rattle.go_decide_core.specs.term_core.Terms.{Term, NoType, Predeclared, ErrorType, Defined, PointerTo, StructOf, InterfaceOf, Methods, NoMethod, AMethod}
+use Rattle.go_term_core.specs.Terms.{Term, NoType, Predeclared, ErrorType, Defined, PointerTo, StructOf, InterfaceOf, Methods, NoMethod, AMethod}
 
 abbrev pub is_none : Methods → Bool
 is_none NoMethod = true

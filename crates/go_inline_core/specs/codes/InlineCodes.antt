@@ -1,8 +1,8 @@
 -- How types by their places are stored, so that a model may hold them.
 use Rattle.std.specs.Prelude.{refl, ℕ, List}
 use Rattle.std.specs.Coded.{Coded, code_by, coded×, coded_list, coded_ℕ}
-use Rattle.go_embed_core.specs.term_core.Terms.{Term}
-use Rattle.go_embed_core.specs.term_core.codes.TermCodes.{coded_term}
+use Rattle.go_term_core.specs.Terms.{Term}
+use Rattle.go_term_core.specs.codes.TermCodes.{coded_term}
 use Rattle.go_names_core.specs.local_core.declared.Fault.{Fault}
 use Rattle.go_names_core.specs.local_core.contracts.Fault as fault
 use Rattle.go_inline_core.specs.Types.{InlineOf}

@@ -3,7 +3,7 @@ use Rattle.std.proofs.Common.{◌≡◌, true, List, [], ◌∷◌, ◌++◌, ma
 use Rattle.std.specs.Prelude.{if◌then◌else◌}
 use Rattle.std.proofs.lemmas.List.{map-append}
 use Rattle.go_text_core.specs.declared.span.Span.{Span}
-use Rattle.go_tree_nodes.specs.token_core.declared.kind.Operator.TheVariants as operator
+use Rattle.go_token_core.specs.declared.kind.Operator.TheVariants as operator
 use Rattle.go_tree_nodes.specs.declared.types.TypeName.{TypeName}
 use Rattle.go_tree_nodes.specs.declared.types.TypeName.TheVariants as type_name
 use Rattle.go_tree_nodes.specs.Terminals.{Terminal}
@@ -12,7 +12,7 @@ use Rattle.go_tree_nodes.specs.Spelling.{spell_idents, spell_some, spell_type_na
 use Rattle.go_tree_nodes.specs.WrittenTypes.{expr_types, items_types, exprs_types, some_exprs_types, params_types, result_types, signature_types, some_type, values_types, spec_types, simple_types}
 use Rattle.go_embed_core.specs.decl_core.declared.keys.DeclKey.{DeclKey}
 use Rattle.go_embed_core.specs.decl_core.declared.places.DeclKind.TheVariants as kinds
-use Rattle.go_embed_core.specs.term_core.Terms.{NoType, PointerTo, StructOf, InterfaceOf, AField, AMethod, SignOf, ATerm, NoTerm}
+use Rattle.go_term_core.specs.Terms.{NoType, PointerTo, StructOf, InterfaceOf, AField, AMethod, SignOf, ATerm, NoTerm}
 use Rattle.go_embed_core.specs.settle_core.declared.kind.Kind.{Kind}
 use Rattle.go_embed_core.specs.settle_core.Settled.{settled}
 use Rattle.go_embed_core.specs.Faults.{term_faults}

@@ -1,8 +1,8 @@
 -- What the types of one level say of all paths of their length.
 use Rattle.std.specs.Prelude.{◌≡◌, ℕ, zero, suc, ◌+◌, ◌*◌, ◌<◌, ◌≤◌, Bool, true, false, ◌||◌, List, [], ◌∷◌, ◌++◌, length, slice_get, Option, Some, None, ◌⊎◌, IsTrue, nat_eq, max}
 use Rattle.std.specs.Map.{lookup}
-use Rattle.go_embed_core.specs.term_core.Terms.{Term, NoType, Predeclared, ErrorType, Defined, PointerTo, StructOf, InterfaceOf}
-use Rattle.go_embed_core.specs.term_core.Shapes.{shape}
+use Rattle.go_term_core.specs.Terms.{Term, NoType, Predeclared, ErrorType, Defined, PointerTo, StructOf, InterfaceOf}
+use Rattle.go_term_core.specs.Shapes.{shape}
 use Rattle.go_embed_core.specs.table_core.Entries.{Entry, EntryLook, find_entry}
 use Rattle.go_embed_core.specs.Owners.{Found, owner_in, has_spelled}
 use Rattle.go_embed_core.specs.OwnersShown.{IsNamedAt, found_shown}

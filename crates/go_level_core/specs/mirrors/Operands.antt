@@ -1,7 +1,7 @@
 -- Where the code searches.
 use Rattle.std.specs.Prelude.{Result, Ok, Err}
 use Rattle.go_text_core.specs.declared.rule.Rule.{Rule}
-use Rattle.go_embed_core.specs.term_core.Shapes.{shape}
+use Rattle.go_term_core.specs.Shapes.{shape}
 use Rattle.go_level_core.specs.declared.operand.Operand.{Operand}
 use Rattle.go_level_core.specs.declared.operand.Operand.TheVariants as operands
 use Rattle.go_level_core.specs.Selectors.{Searched, Refused, In, FieldsIn}

@@ -2,7 +2,7 @@
 use Rattle.std.specs.Prelude.{◌≡◌, ◌⊎◌, ℕ, List, Result, Ok, Err}
 use Rattle.go_text_core.specs.declared.rule.Rule.{Rule}
 use Rattle.go_text_core.specs.declared.rule.Rule.TheVariants as rules
-use Rattle.go_embed_core.specs.term_core.Terms.{Term}
+use Rattle.go_term_core.specs.Terms.{Term}
 use Rattle.go_embed_core.specs.table_core.Entries.{EntryLook}
 use Rattle.go_embed_core.specs.OwnersShown.{found_shown}
 use Rattle.go_level_core.specs.declared.search.Selected.{Selected}

@@ -2,8 +2,8 @@
 use Rattle.std.specs.Prelude.{◌≡◌, ◌<◌, ◌≤◌, ℕ, Bool, true, false, ◌||◌, List, [], ◌∷◌, ◌++◌, length, set, slice_get, Option, Some, None, nat_eq}
 use Rattle.std.specs.Map.{lookup}
 use Rattle.go_embed_core.specs.decl_core.declared.keys.DeclKey.{DeclKey}
-use Rattle.go_embed_core.specs.term_core.Terms.{Term, Defined}
-use Rattle.go_embed_core.specs.term_core.Shapes.{shape}
+use Rattle.go_term_core.specs.Terms.{Term, Defined}
+use Rattle.go_term_core.specs.Shapes.{shape}
 use Rattle.go_embed_core.specs.table_core.Entries.{Entry, find_entry}
 use Rattle.go_embed_core.specs.Owners.{EmbeddedEdge}
 use Rattle.go_level_core.specs.declared.level.Reached.{Reached}

@@ -1,6 +1,6 @@
 -- Which imports would lie on a cycle.
 use Rattle.std.specs.Prelude.{◌≡◌, ◌<◌, ◌↔◌, ℕ, Bool, true, false, List, length, slice_index_or, ⊤}
-use Rattle.go_text_core.specs.declared.rule.Rule.TheVariants.{I4}
+use Rattle.go_tree_nodes.specs.text_core.declared.rule.Rule.TheVariants.{I4}
 use Rattle.go_graph_core.specs.declared.imports.ImportOutcome.{ImportOutcome}
 use Rattle.go_graph_core.specs.declared.imports.ImportOutcome.TheVariants.{Package, Refused}
 use Rattle.go_graph_core.specs.Imports.{LiesOnCycle, edge}

@@ -1,7 +1,7 @@
 -- What a package is to those that import it.
 use Rattle.std.specs.Prelude.{◌≡◌, ◌⊎◌, ℕ, Bool, true, false, List, Some, slice_get}
-use Rattle.go_text_core.specs.declared.rule.Rule.TheVariants.{I5, I6}
-use Rattle.go_path_core.specs.Path.{MayImport, elements}
+use Rattle.go_tree_nodes.specs.text_core.declared.rule.Rule.TheVariants.{I5, I6}
+use Rattle.go_graph_core.specs.path_core.Path.{MayImport, elements}
 use Rattle.go_graph_core.specs.declared.imports.ImportOutcome.{ImportOutcome}
 use Rattle.go_graph_core.specs.declared.imports.ImportOutcome.TheVariants.{Package, Refused}
 use Rattle.go_graph_core.specs.Imports.{AreFaulty, AreLibrary, AreMain}

@@ -1,7 +1,7 @@
 -- A package by the outlines of its files.
 use Rattle.std.specs.Prelude.{ℕ, suc, List, [], ◌∷◌, ◌++◌, map}
-use Rattle.go_decl_core.specs.declared.keys.DeclRef.{DeclRef}
-use Rattle.go_make_core.specs.entry_core.Outlines.{FileOutline}
+use Rattle.go_term_core.specs.decl_core.declared.keys.DeclRef.{DeclRef}
+use Rattle.go_part_core.specs.entry_core.Outlines.{FileOutline}
 use Rattle.go_meaning_core.specs.Scenes.{decl_at}
 
 -- its declarations outside functions

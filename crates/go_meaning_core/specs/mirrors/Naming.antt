@@ -1,12 +1,12 @@
 -- What the code holds of a package, as contracts see it.
 use Rattle.std.specs.Prelude.{ℕ, List, Option}
-use Rattle.go_decl_core.specs.declared.keys.DeclRef.{DeclRef}
-use Rattle.go_make_core.specs.table_core.Entries.{Entry}
-use Rattle.go_make_core.specs.face_core.Faces.{TheFace}
-use Rattle.go_make_core.specs.face_core.Packages.{PackageFacesModel}
-use Rattle.go_make_core.specs.ready_core.Packages.{trees_in}
-use Rattle.go_make_core.specs.part_core.Inputs.{InputModel, path_in}
-use Rattle.go_make_core.specs.part_core.Parts.{ContentOf}
+use Rattle.go_term_core.specs.decl_core.declared.keys.DeclRef.{DeclRef}
+use Rattle.go_part_core.specs.table_core.Entries.{Entry}
+use Rattle.go_part_core.specs.face_core.Faces.{TheFace}
+use Rattle.go_part_core.specs.face_core.Packages.{PackageFacesModel}
+use Rattle.go_part_core.specs.ready_core.Packages.{trees_in}
+use Rattle.go_part_core.specs.Inputs.{InputModel, path_in}
+use Rattle.go_part_core.specs.Parts.{ContentOf}
 use Rattle.go_lookup_core.specs.Places.{Spotted}
 use Rattle.go_meaning_core.specs.declared.scene.PackageNames.{PackageNames}
 use Rattle.go_meaning_core.specs.declared.tables.Tables.{Tables}

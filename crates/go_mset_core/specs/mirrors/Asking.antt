@@ -4,10 +4,10 @@ use Rattle.std.specs.Ordering.{nat_cmp}
 use Rattle.std.specs.Cmp.Lexicographic.{slice_cmp}
 use Rattle.std.specs.declared.cmp.Ordering.TheVariants.{Less}
 use denote.Ref.{Bor}
-use Rattle.go_select_core.specs.term_core.declared.term.MemberPlace.{MemberPlace}
-use Rattle.go_select_core.specs.term_core.Terms.{Term, PointerTo, Methods, Sign}
-use Rattle.go_select_core.specs.term_core.Identity.{IsMethod}
-use Rattle.go_select_core.specs.term_core.Shapes.{shape, sign_of}
+use Rattle.go_term_core.specs.declared.term.MemberPlace.{MemberPlace}
+use Rattle.go_term_core.specs.Terms.{Term, PointerTo, Methods, Sign}
+use Rattle.go_term_core.specs.Identity.{IsMethod}
+use Rattle.go_term_core.specs.Shapes.{shape, sign_of}
 use Rattle.go_select_core.specs.table_core.Entries.{EntryLook}
 use Rattle.go_mset_core.specs.declared.interface.Holder.{Holder}
 use Rattle.go_mset_core.specs.declared.interface.Holder.TheVariants as holders

@@ -1,6 +1,6 @@
 -- States of a walk: the rules, the open names, what is noted so far, and whether memory was wanting.
 use Rattle.std.specs.Prelude.{◌≡◌, ℕ, Bool, false, List, [], ◌∷◌, ◌++◌}
-use Rattle.go_open_core.specs.declared.DeclId.{DeclId}
+use Rattle.go_walk_core.specs.open_core.declared.DeclId.{DeclId}
 use Rattle.go_scope_core.specs.Models.{ScopesModel}
 use Rattle.go_walk_core.specs.local_core.declared.Fault.{Fault}
 use Rattle.go_walk_core.specs.local_core.Steps.{Steps}

@@ -1,12 +1,12 @@
 -- Parts of statements, before it is known what they belong to.
 use Rattle.std.specs.Prelude.{ℕ, suc, true, List, length, Option, Some, None, Ok, Err, if◌then◌else◌}
-use Rattle.go_text_core.specs.declared.span.Span.{Span}
-use Rattle.go_token_core.specs.declared.kind.Keyword.TheVariants as keyword
-use Rattle.go_token_core.specs.declared.kind.Operator.TheVariants as operator
+use Rattle.go_tree_nodes.specs.text_core.declared.span.Span.{Span}
+use Rattle.go_tree_nodes.specs.token_core.declared.kind.Keyword.TheVariants as keyword
+use Rattle.go_tree_nodes.specs.token_core.declared.kind.Operator.TheVariants as operator
 use Rattle.go_tree_nodes.specs.declared.decls.ValueKind.{ValueKind}
 use Rattle.go_tree_nodes.specs.Terminals.{Terminal}
 use Rattle.go_tree_nodes.specs.Trees.{Separated, ExprTree, SimpleTree, IfTree, StmtTree, Declare, BranchTree, ElseTree, Lines}
-use Rattle.go_parse_types.specs.mirrors.Marks.{Grammar, ◌>>=◌, Reading, MarkAhead, need, mark_at, keyword_at}
+use Rattle.go_parse_exprs.specs.parse_types.mirrors.Marks.{Grammar, ◌>>=◌, Reading, MarkAhead, need, mark_at, keyword_at}
 use Rattle.go_parse_exprs.specs.mirrors.ExprReading.{expr_at}
 use Rattle.go_parse_stmts.specs.mirrors.StmtReading.{value_at, simple_from, if_tree, is_define, post_first, Braced, braced, else_by, branch_by, stmt_by, lines_go, stmt_at, block_at, branch_at}
 

@@ -1,9 +1,9 @@
 -- Reading declarations of values and types, and statements.
 use Rattle.std.specs.Prelude.{ℕ, zero, suc, Bool, true, false, ◌||◌, List, length, Option, Some, None, Ok, Err, nat_lt, is_some, if◌then◌else◌}
-use Rattle.go_text_core.specs.declared.span.Span.{Span}
-use Rattle.go_token_core.specs.declared.kind.Keyword.TheVariants as keyword
-use Rattle.go_token_core.specs.declared.kind.Operator.{Operator}
-use Rattle.go_token_core.specs.declared.kind.Operator.TheVariants as operator
+use Rattle.go_tree_nodes.specs.text_core.declared.span.Span.{Span}
+use Rattle.go_tree_nodes.specs.token_core.declared.kind.Keyword.TheVariants as keyword
+use Rattle.go_tree_nodes.specs.token_core.declared.kind.Operator.{Operator}
+use Rattle.go_tree_nodes.specs.token_core.declared.kind.Operator.TheVariants as operator
 use Rattle.go_tree_nodes.specs.declared.names.Ident.{Ident}
 use Rattle.go_tree_nodes.specs.declared.decls.ValueKind.{ValueKind}
 use Rattle.go_tree_nodes.specs.declared.decls.ValueKind.TheVariants as value
@@ -12,8 +12,8 @@ use Rattle.go_tree_nodes.specs.Trees.{Separated, One, Then, TypeTree, ExprTree, 
 use Rattle.go_tree_nodes.specs.Rules.{is_step, is_update}
 use Rattle.go_tree_nodes.specs.Heights.{exprs_height}
 use Rattle.go_tree_nodes.specs.Naming.{name_of}
-use Rattle.go_parse_types.specs.mirrors.Marks.{Grammar, TooHigh, ◌>>=◌, Reading, MarkAhead, need, mark_at, keyword_at, name_at, mark_that, list_go, idents_go}
-use Rattle.go_parse_types.specs.mirrors.TypeReading.{begins_type, type_at}
+use Rattle.go_parse_exprs.specs.parse_types.mirrors.Marks.{Grammar, TooHigh, ◌>>=◌, Reading, MarkAhead, need, mark_at, keyword_at, name_at, mark_that, list_go, idents_go}
+use Rattle.go_parse_exprs.specs.parse_types.mirrors.TypeReading.{begins_type, type_at}
 use Rattle.go_parse_exprs.specs.mirrors.ExprReading.{expr_at, exprs_at}
 
 -- one specification, or several in parentheses

@@ -1,6 +1,6 @@
 -- What the parts of a type's program values stand for, before it is known what they belong to.
 use Rattle.std.specs.Prelude.{ℕ, suc, List, length, Option, Some, None, Ok}
-use Rattle.go_text_core.specs.declared.span.Span.{Span}
+use Rattle.go_tree_nodes.specs.text_core.declared.span.Span.{Span}
 use Rattle.go_tree_nodes.specs.declared.names.TextLiteral.{TextLiteral}
 use Rattle.go_tree_nodes.specs.declared.types.Fields.{Fields}
 use Rattle.go_tree_nodes.specs.declared.types.Fields.TheVariants as declared_fields
@@ -13,8 +13,8 @@ use Rattle.go_tree_nodes.specs.Heights.{type_height}
 use Rattle.go_tree_nodes.specs.TypeShapes.{shape_idents, shape_type, shape_signature}
 use Rattle.go_parse_types.specs.declared.entries.Entry.{Entry}
 use Rattle.go_tree_nodes.specs.Terminals.{Terminal}
-use Rattle.go_token_core.specs.declared.kind.Operator.{Operator}
-use Rattle.go_token_core.specs.declared.kind.Operator.TheVariants as operator
+use Rattle.go_tree_nodes.specs.token_core.declared.kind.Operator.{Operator}
+use Rattle.go_tree_nodes.specs.token_core.declared.kind.Operator.TheVariants as operator
 use Rattle.go_parse_types.specs.mirrors.Marks.{◌>>=◌, Reading, mark_at, mark_or_end, list_go}
 use Rattle.go_parse_types.specs.mirrors.TypeReading.{EntryTree, params_at, results_by, LineTree, NamedLine, EmbeddedLine, paren_by}
 

@@ -2,12 +2,12 @@
 -- is left.
 use denote.Enum.Bare.{sameb}
 use Rattle.std.specs.Prelude.{ℕ, zero, suc, Bool, List, [], ◌∷◌, Option, Some, None, Result, Ok, Err, if◌then◌else◌}
-use Rattle.go_text_core.specs.declared.span.Span.{Span}
-use Rattle.go_token_core.specs.contracts.kind.Keyword as keyword_contracts
-use Rattle.go_token_core.specs.contracts.kind.Operator as operator_contracts
-use Rattle.go_token_core.specs.declared.kind.Keyword.{Keyword}
-use Rattle.go_token_core.specs.declared.kind.Operator.{Operator}
-use Rattle.go_token_core.specs.declared.kind.Operator.TheVariants as operator
+use Rattle.go_tree_nodes.specs.text_core.declared.span.Span.{Span}
+use Rattle.go_tree_nodes.specs.token_core.contracts.kind.Keyword as keyword_contracts
+use Rattle.go_tree_nodes.specs.token_core.contracts.kind.Operator as operator_contracts
+use Rattle.go_tree_nodes.specs.token_core.declared.kind.Keyword.{Keyword}
+use Rattle.go_tree_nodes.specs.token_core.declared.kind.Operator.{Operator}
+use Rattle.go_tree_nodes.specs.token_core.declared.kind.Operator.TheVariants as operator
 use Rattle.go_tree_nodes.specs.declared.names.Ident.{Ident}
 use Rattle.go_tree_nodes.specs.declared.names.TextLiteral.{TextLiteral}
 use Rattle.go_tree_nodes.specs.Terminals.{TerminalKind, Spelled, Number, Quoted, Word, Mark, Terminal}

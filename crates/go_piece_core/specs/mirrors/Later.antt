@@ -5,9 +5,9 @@ use Rattle.go_tree_nodes.specs.declared.names.NextIdent.{NextIdent}
 use Rattle.go_tree_nodes.specs.declared.exprs.NextExpr.{NextExpr}
 use Rattle.go_tree_nodes.specs.Shapes.{shape}
 use Rattle.go_statement_core.specs.declared.targets.Target.{Target}
-use Rattle.go_expr_core.specs.declared.things.Use.{Use}
+use Rattle.go_statement_core.specs.expr_core.declared.things.Use.{Use}
 use Rattle.go_walk_core.specs.local_core.declared.Fault.{Fault}
-use Rattle.go_expr_core.specs.Looks.{Looks}
+use Rattle.go_statement_core.specs.expr_core.Looks.{Looks}
 use Rattle.go_piece_core.specs.Targets.{target, target_uses, target_faults}
 
 abbrev pub later_targets : {T S D P : Type 0} → Looks T S D P → Bool → List NextExpr → List (Target T)

@@ -2,8 +2,8 @@
 use Rattle.std.specs.Prelude.{true, false, ℕ, zero, suc, ◌+◌, ◌-◌, ◌==◌, if◌then◌else◌, List, [], ◌∷◌, ◌++◌, take, drop, Option, Some, None, Result, Ok, Err}
 use Rattle.std.specs.Char.{len_utf8}
 use Rattle.std.specs.Str.{chars}
-use Rattle.go_text_core.specs.declared.rule.Rule.{Rule}
-use Rattle.go_text_core.specs.declared.span.Span.{Span}
+use Rattle.go_token_core.specs.text_core.declared.rule.Rule.{Rule}
+use Rattle.go_token_core.specs.text_core.declared.span.Span.{Span}
 use Rattle.go_scan_core.specs.declared.piece.Piece.{Piece}
 use Rattle.go_scan_core.specs.declared.piece.Piece.TheVariants.{Space, LineEnd, Lexeme, Remark}
 use Rattle.go_token_core.specs.declared.token.Token.{Token}

@@ -1,7 +1,7 @@
 -- Strings and general comments: what stands between an opening and a closing.
 use Rattle.std.specs.Prelude.{◌≤◌, ℕ, zero, suc, ◌+◌, ◌-◌, ◌==◌, ◌&&◌, if◌then◌else◌, List, [], ◌∷◌, length, drop, Option, Some, None, Result, Ok, Err}
-use Rattle.go_text_core.specs.declared.rule.Rule.{Rule}
-use Rattle.go_text_core.specs.declared.rule.Rule.TheVariants.{L1, L2, L3}
+use Rattle.go_token_core.specs.text_core.declared.rule.Rule.{Rule}
+use Rattle.go_token_core.specs.text_core.declared.rule.Rule.TheVariants.{L1, L2, L3}
 use Rattle.go_token_core.specs.declared.escapes.Meaning.{Meaning}
 use Rattle.go_scan_core.specs.declared.enclosed.Enclosure.{Enclosure}
 use Rattle.go_scan_core.specs.declared.enclosed.Enclosure.TheVariants.{General, Quoted, Raw}

@@ -1,7 +1,7 @@
 -- What begins at the front of a text.
 use Rattle.std.specs.Prelude.{ℕ, ◌==◌, ◌&&◌, if◌then◌else◌, List, [], ◌∷◌}
 use Rattle.std.specs.Char.{is_ascii_digit}
-use Rattle.go_text_core.specs.Text.{letter}
+use Rattle.go_token_core.specs.text_core.Text.{letter}
 use Rattle.go_scan_core.specs.declared.front.Front.{Front}
 use Rattle.go_scan_core.specs.declared.front.Front.TheVariants.{Nothing, Space, LineEnd, Quote, Backquote, LineComment, GeneralComment, Refused, Letter, Digit, Other}
 use Rattle.go_token_core.specs.Characters.{first_passes, is_space}

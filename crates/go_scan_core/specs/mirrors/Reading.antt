@@ -2,8 +2,8 @@
 use Rattle.std.specs.Prelude.{ℕ, ◌||◌, nat_lt, nat_eq, if◌then◌else◌, List, length, take, drop, find, Option, Some, None, Result, Ok, Err}
 use Rattle.std.specs.List.{prefix_len, starts_with}
 use Rattle.std.specs.Str.{bytes_eq}
-use Rattle.go_text_core.specs.declared.rule.Rule.{Rule}
-use Rattle.go_text_core.specs.declared.rule.Rule.TheVariants.{L1, L3}
+use Rattle.go_token_core.specs.text_core.declared.rule.Rule.{Rule}
+use Rattle.go_token_core.specs.text_core.declared.rule.Rule.TheVariants.{L1, L3}
 use Rattle.go_scan_core.specs.declared.enclosed.Enclosure.TheVariants.{General, Quoted, Raw}
 use Rattle.go_scan_core.specs.declared.front.Front.{Front}
 use Rattle.go_scan_core.specs.declared.front.Front.TheVariants as fronts

@@ -3,11 +3,11 @@ use Rattle.std.specs.Prelude.{◌≡◌, ◌≢◌, ℕ, ◌+◌, ◌<◌, ◌^�
 use Rattle.go_batch_core.specs.part_core.Inputs.{path_in}
 use Rattle.go_batch_core.specs.part_core.Parts.{PartModel}
 use Rattle.go_batch_core.specs.snap_core.Snapshots.{IsSnapshot, SnapshotModel}
-use Rattle.go_batch_core.specs.submit_core.Published.{IsEarlierPart, batch_of}
-use Rattle.go_batch_core.specs.submit_core.Submitted.{submission_with}
-use Rattle.go_batch_core.specs.submit_core.Trees.{TreeModel}
-use Rattle.go_batch_core.specs.submit_core.declared.published.PublishedBatch.{PublishedBatch}
-use Rattle.go_batch_core.specs.submit_core.declared.submission.Submission.{Submission}
+use Rattle.go_submit_core.specs.Published.{IsEarlierPart, batch_of}
+use Rattle.go_submit_core.specs.Submitted.{submission_with}
+use Rattle.go_submit_core.specs.Trees.{TreeModel}
+use Rattle.go_submit_core.specs.declared.published.PublishedBatch.{PublishedBatch}
+use Rattle.go_submit_core.specs.declared.submission.Submission.{Submission}
 use Rattle.go_batch_core.specs.Batches.{Awaits, BatchModel, IsEnding, IsNext, actions_left, with_part}
 use Rattle.go_batch_core.specs.declared.batch.Ending.{Ending}
 use Rattle.go_sched_core.specs.Service.{Service, module_held, open_rule, submit_rule}

@@ -1,9 +1,9 @@
 -- What the core keeps.
 use Rattle.std.specs.Prelude.{◌≡◌, ◌≤◌, ℕ, List, length, Option, Some, None, ⊤}
-use Rattle.go_batch_core.specs.submit_core.Published.{sources_of}
-use Rattle.go_batch_core.specs.submit_core.Submitted.{submitted}
+use Rattle.go_submit_core.specs.Published.{sources_of}
+use Rattle.go_submit_core.specs.Submitted.{submitted}
 use Rattle.go_sched_core.specs.declared.event.Held.{Held}
-use Rattle.go_batch_core.specs.submit_core.declared.published.PublishedBatch.{PublishedBatch}
+use Rattle.go_submit_core.specs.declared.published.PublishedBatch.{PublishedBatch}
 use Rattle.go_sched_core.specs.declared.running.Running.{Running}
 
 -- the running batch compiles what is published with what was submitted

@@ -1,7 +1,7 @@
 -- The search through a function for the identifier that begins at an offset, step by step.
 use Rattle.std.specs.Prelude.{◌≡◌, ℕ, false, List, [], ◌++◌, length, take, drop, Option, Some, None}
 use Rattle.go_tree_nodes.specs.declared.names.Ident.{Ident}
-use Rattle.go_local_core.specs.Steps.{Steps}
+use Rattle.go_walk_core.specs.local_core.Steps.{Steps}
 use Rattle.go_spot_core.specs.declared.spot.UsedName.{UsedName}
 use Rattle.go_spot_core.specs.declared.search.Search.{Search}
 use Rattle.go_spot_core.specs.Blocks.{OpenBlock, opened}

@@ -1,16 +1,16 @@
 -- What the doc comments of a file are read from.
 use Rattle.std.specs.Prelude.{◌≡◌, ◌<◌, ℕ, List, Ok, Some, All, AllPairs, length, map, slice_get}
-use Rattle.go_token_core.specs.declared.token.Comment.{Comment}
-use Rattle.go_scan_core.specs.Texts.{CommentHasItsText}
-use Rattle.go_scan_core.specs.Tokens.{CommentsInOrder}
+use Rattle.go_tree_nodes.specs.token_core.declared.token.Comment.{Comment}
+use Rattle.go_doc_core.specs.scan_core.Texts.{CommentHasItsText}
+use Rattle.go_doc_core.specs.scan_core.Tokens.{CommentsInOrder}
 use Rattle.go_doc_core.specs.DocComments.{IsDocComment}
 use Rattle.go_tree_nodes.specs.Trees.{FileTree}
-use Rattle.go_decl_core.specs.Anchors.{anchors_of}
-use Rattle.go_decl_core.specs.Shown.{decl_shown}
-use Rattle.go_decl_core.specs.TopDecls.{TopDeclTree, top_decls}
-use Rattle.go_decl_core.specs.declared.anchoring.Anchor.{Anchor}
-use Rattle.go_decl_core.specs.declared.keys.DeclRef.{DeclRef}
-use Rattle.go_graph_core.specs.Sources.{SourceModel}
+use Rattle.go_block_core.specs.decl_core.Anchors.{anchors_of}
+use Rattle.go_block_core.specs.decl_core.Shown.{decl_shown}
+use Rattle.go_block_core.specs.decl_core.TopDecls.{TopDeclTree, top_decls}
+use Rattle.go_block_core.specs.decl_core.declared.anchoring.Anchor.{Anchor}
+use Rattle.go_block_core.specs.decl_core.declared.keys.DeclRef.{DeclRef}
+use Rattle.go_block_core.specs.graph_core.Sources.{SourceModel}
 use Rattle.go_symbol_core.specs.declared.docs.FileDocs.{FileDocs}
 use Rattle.go_symbol_core.specs.Symbols.{SymbolOf, comments_found}
 

@@ -3,10 +3,10 @@ use Rattle.std.specs.Prelude.{refl, ℕ, Bool, List}
 use Rattle.std.specs.Coded.{Coded, code_by, coded×, coded_list, coded_ℕ, coded_bool}
 use Rattle.go_settle_core.specs.decl_core.declared.keys.DeclKey.{DeclKey}
 use Rattle.go_settle_core.specs.decl_core.contracts.keys.DeclKey as decl_key
-use Rattle.go_settle_core.specs.term_core.declared.term.MemberPlace.{MemberPlace}
-use Rattle.go_settle_core.specs.term_core.contracts.term.MemberPlace as member_place
-use Rattle.go_settle_core.specs.term_core.Terms.{Term, Sign}
-use Rattle.go_settle_core.specs.term_core.codes.TermCodes.{coded_term, coded_sign}
+use Rattle.go_term_core.specs.declared.term.MemberPlace.{MemberPlace}
+use Rattle.go_term_core.specs.contracts.term.MemberPlace as member_place
+use Rattle.go_term_core.specs.Terms.{Term, Sign}
+use Rattle.go_term_core.specs.codes.TermCodes.{coded_term, coded_sign}
 use Rattle.go_table_core.specs.Entries.{Member, Entry}
 use Rattle.go_table_core.specs.Tables.{PackageTypesModel, package_types}
 

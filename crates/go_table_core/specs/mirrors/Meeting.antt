@@ -1,7 +1,7 @@
 -- How underlying types are compared with that of `error`.
 use Rattle.std.specs.Prelude.{◌≡◌, ◌⊎◌}
-use Rattle.go_settle_core.specs.term_core.declared.term.MemberPlace.{MemberPlace}
-use Rattle.go_settle_core.specs.term_core.Terms.{Term, ErrorType, Methods}
+use Rattle.go_term_core.specs.declared.term.MemberPlace.{MemberPlace}
+use Rattle.go_term_core.specs.Terms.{Term, ErrorType, Methods}
 use Rattle.go_table_core.specs.Underlying.{error_method, IsErrorInterface}
 
 -- the methods of an interface type are that of `error`

@@ -9,7 +9,7 @@ use Rattle.go_term_core.specs.contracts.term.Basic as basic
 use Rattle.go_term_core.specs.declared.term.MemberPlace.{MemberPlace}
 use Rattle.go_term_core.specs.contracts.term.MemberPlace as member_place
 use Rattle.go_term_core.specs.Terms.{Term, NoType, Predeclared, ErrorType, Defined, PointerTo, StructOf, InterfaceOf, Fields, NoField, AField, Methods, NoMethod, AMethod, Sign, SignOf, Terms, NoTerm, ATerm}
-use Rattle.go_decl_core.specs.tree_nodes.codes.Labels.{Labels, End, Node, coded_labels}
+use Rattle.go_tree_nodes.specs.codes.Labels.{Labels, End, Node, coded_labels}
 
 -- what a node of a term holds beside its parts: a number for its form; or what its form has
 abbrev TermLabel : Type 0

@@ -2,8 +2,8 @@
 use Rattle.std.specs.Prelude.{◌≡◌, refl, ℕ, zero, suc, List, [], ◌∷◌, Option, Some, None, ◌⊎◌}
 use Rattle.std.specs.Coded.{Coded, code_by, coded×, coded⊎, coded_list, coded_option, coded_ℕ}
 use Rattle.std.proofs.Common.{ap, inl, inr}
-use Rattle.go_text_core.specs.declared.span.Span.{Span}
-use Rattle.go_text_core.specs.contracts.span.Span as span
+use Rattle.go_token_core.specs.text_core.declared.span.Span.{Span}
+use Rattle.go_token_core.specs.text_core.contracts.span.Span as span
 use Rattle.go_token_core.specs.declared.kind.Operator.{Operator}
 use Rattle.go_token_core.specs.contracts.kind.Operator as operator
 use Rattle.go_tree_nodes.specs.declared.names.Ident.{Ident}

@@ -5,7 +5,7 @@ use Rattle.go_chain_core.specs.Chains.{AreEnds}
 use Rattle.go_table_core.specs.settle_core.declared.kind.Kind.{Kind}
 use Rattle.go_table_core.specs.settle_core.declared.kind.Kind.TheVariants as kinds
 use Rattle.go_table_core.specs.settle_core.Settled.{kind_of_term, settled}
-use Rattle.go_table_core.specs.term_core.Terms.{Term, NoType, Predeclared, ErrorType, Defined, PointerTo, StructOf, InterfaceOf, is_no_type}
+use Rattle.go_term_core.specs.Terms.{Term, NoType, Predeclared, ErrorType, Defined, PointerTo, StructOf, InterfaceOf, is_no_type}
 use Rattle.go_table_core.specs.Entries.{Entry, EntryLook, term_in}
 use Rattle.go_type_core.specs.Built.{base, IsNoTypeHere}
 use Rattle.go_type_core.specs.mirrors.Numbers.{keys_of, number_of, term_at, IsTable}

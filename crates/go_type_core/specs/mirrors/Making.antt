@@ -3,16 +3,16 @@ use Rattle.std.specs.Prelude.{ℕ, suc, Bool, true, false, not, ◌&&◌, ◌||�
 use Rattle.std.specs.Arc.{arc_value}
 use Rattle.std.specs.Global.{Global}
 use Rattle.std.specs.declared.sync.Arc.{Arc}
-use Rattle.go_text_core.specs.Text.{is_blank}
-use Rattle.go_text_core.specs.declared.rule.Rule.TheVariants as rules
+use Rattle.go_term_core.specs.text_core.Text.{is_blank}
+use Rattle.go_term_core.specs.text_core.declared.rule.Rule.TheVariants as rules
 use Rattle.go_table_core.specs.decl_core.declared.keys.DeclKey.{DeclKey}
 use Rattle.go_table_core.specs.decl_core.declared.keys.DeclRef.{DeclRef}
 use Rattle.go_table_core.specs.decl_core.declared.places.DeclKind.TheVariants as decl_kinds
 use Rattle.go_table_core.specs.settle_core.declared.kind.Kind.{Kind}
 use Rattle.go_table_core.specs.settle_core.Settled.{kind_of_term, is_among_names}
-use Rattle.go_table_core.specs.term_core.declared.term.TypeTerm.{TypeTerm}
-use Rattle.go_table_core.specs.term_core.Shapes.{shape}
-use Rattle.go_table_core.specs.term_core.Terms.{Term, NoType}
+use Rattle.go_term_core.specs.declared.term.TypeTerm.{TypeTerm}
+use Rattle.go_term_core.specs.Shapes.{shape}
+use Rattle.go_term_core.specs.Terms.{Term, NoType}
 use Rattle.go_table_core.specs.Entries.{Entry, EntryLook, Member, find_entry}
 use Rattle.go_table_core.specs.Methods.{has_field_before}
 use Rattle.go_type_core.specs.Built.{kept_over}

@@ -6,19 +6,19 @@ use Rattle.go_tree_nodes.specs.declared.usage.Usage.TheVariants as usages
 use Rattle.go_universe_core.specs.declared.Predeclared.{Predeclared}
 use Rattle.go_decl_core.specs.declared.places.DeclKind.{DeclKind}
 use Rattle.go_decl_core.specs.declared.places.DeclKind.TheVariants as kinds
-use Rattle.go_block_core.specs.Bindings.{key_of}
-use Rattle.go_scope_core.specs.Scopes.{Denoted, Universe, Package, File, Local}
+use Rattle.go_query_core.specs.block_core.Bindings.{key_of}
+use Rattle.go_query_core.specs.scope_core.Scopes.{Denoted, Universe, Package, File, Local}
 use Rattle.go_term_core.specs.Terms.{Term, Defined}
-use Rattle.go_face_core.specs.table_core.Entries.{Entry, find_entry}
-use Rattle.go_face_core.specs.denote_core.declared.things.Denoted.TheVariants as denotes
-use Rattle.go_face_core.specs.denote_core.declared.things.Stand.TheVariants as stands
-use Rattle.go_face_core.specs.denote_core.Answers.{found_answer}
-use Rattle.go_face_core.specs.denote_core.Selectors.{exported_answer}
-use Rattle.go_face_core.specs.decide_core.Rules.{typed}
-use Rattle.go_face_core.specs.declared.face.Face.TheVariants as faces
-use Rattle.go_face_core.specs.declared.shown.ShownFace.{ShownFace}
-use Rattle.go_face_core.specs.Faces.{TheFace}
-use Rattle.go_face_core.specs.handle_core.Declarations.{Declaration}
+use Rattle.go_member_core.specs.table_core.Entries.{Entry, find_entry}
+use Rattle.go_member_core.specs.denote_core.declared.things.Denoted.TheVariants as denotes
+use Rattle.go_member_core.specs.denote_core.declared.things.Stand.TheVariants as stands
+use Rattle.go_member_core.specs.denote_core.Answers.{found_answer}
+use Rattle.go_member_core.specs.denote_core.Selectors.{exported_answer}
+use Rattle.go_member_core.specs.decide_core.Rules.{typed}
+use Rattle.go_query_core.specs.face_core.declared.face.Face.TheVariants as faces
+use Rattle.go_query_core.specs.face_core.declared.shown.ShownFace.{ShownFace}
+use Rattle.go_query_core.specs.face_core.Faces.{TheFace}
+use Rattle.go_member_core.specs.handle_core.Declarations.{Declaration}
 use Rattle.go_query_core.specs.env_core.Found.{exported_face, exported_shown, found_type, found_universe}
 use Rattle.go_type_doc_core.specs.Names.{BreaksRule, NamesType, TheAnswer}
 

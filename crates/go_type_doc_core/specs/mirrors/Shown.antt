@@ -5,9 +5,9 @@ use Rattle.go_text_core.specs.declared.rule.Rule.{Rule}
 use Rattle.go_text_core.specs.declared.rule.Rule.TheVariants.{S8}
 use Rattle.go_tree_nodes.specs.declared.usage.Usage.TheVariants as usages
 use Rattle.go_term_core.specs.Terms.{Term}
-use Rattle.go_face_core.specs.denote_core.Answers.{refused}
-use Rattle.go_face_core.specs.denote_core.Selectors.{exported_answer}
-use Rattle.go_face_core.specs.Packages.{shown_by}
+use Rattle.go_member_core.specs.denote_core.Answers.{refused}
+use Rattle.go_member_core.specs.denote_core.Selectors.{exported_answer}
+use Rattle.go_query_core.specs.face_core.Packages.{shown_by}
 use Rattle.go_query_core.specs.env_core.Found.{exported_shown}
 use Rattle.go_query_core.specs.part_core.Inputs.{path_in}
 use Rattle.go_query_core.specs.part_core.Parts.{PartModel}

@@ -2,7 +2,7 @@
 use Rattle.std.specs.Prelude.{◌⊎◌, ℕ, List, Option, option_map}
 use Rattle.go_text_core.specs.declared.rule.Rule.{Rule}
 use Rattle.go_decl_core.specs.declared.keys.DeclRef.{DeclRef}
-use Rattle.go_graph_core.specs.declared.imports.ImportOutcome.TheVariants.{Refused}
+use Rattle.go_query_core.specs.graph_core.declared.imports.ImportOutcome.TheVariants.{Refused}
 use Rattle.go_query_core.specs.list_core.Importing.{IsJudgedAt}
 use Rattle.go_term_core.specs.Terms.{Term}
 use Rattle.go_query_core.specs.part_core.Inputs.{path_in}

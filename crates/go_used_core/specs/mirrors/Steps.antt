@@ -1,6 +1,6 @@
 -- Steps of the loops.
 use Rattle.std.specs.Prelude.{ℕ, Bool, ◌&&◌, not, if◌then◌else◌, List, [], ◌∷◌, ◌++◌, Option, Some, None}
-use Rattle.go_tree_core.specs.declared.occurrence.Occ.{Occ}
+use Rattle.go_term_core.specs.tree_core.declared.occurrence.Occ.{Occ}
 use Rattle.go_answer_core.specs.block_core.Blocks.{BlocksModel}
 use Rattle.go_answer_core.specs.denote_core.declared.things.Outcome.TheVariants as outcomes
 use Rattle.go_answer_core.specs.local_core.declared.Fault.{Fault}

@@ -3,11 +3,11 @@ use Rattle.std.specs.Prelude.{◌≡◌, ℕ, ◌<◌, List, Option, Some, Conta
 use Rattle.std.specs.List.{AllZip}
 use Rattle.std.specs.List.Sorted.{IsStrictlyIncreasing}
 use Rattle.std.specs.Option.{option_map}
-use Rattle.go_block_core.specs.graph_core.Packages.{IsAssembled}
+use Rattle.go_near_core.specs.graph_core.Packages.{IsAssembled}
 use Rattle.go_reach_core.specs.Numbers.{Numbers}
-use Rattle.go_block_core.specs.graph_core.Plans.{PlanModel}
-use Rattle.go_block_core.specs.graph_core.Workspaces.{PackageModel}
-use Rattle.go_block_core.specs.Exports.{ExportsModel}
+use Rattle.go_near_core.specs.graph_core.Plans.{PlanModel}
+use Rattle.go_near_core.specs.graph_core.Workspaces.{PackageModel}
+use Rattle.go_near_core.specs.block_core.Exports.{ExportsModel}
 use Rattle.go_near_core.specs.table_core.Entries.{Entry}
 use Rattle.go_near_core.specs.face_core.Packages.{PackageFacesModel}
 use Rattle.go_near_core.specs.summary_core.Summaries.{SummaryModel}

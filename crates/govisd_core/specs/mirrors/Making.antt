@@ -2,15 +2,15 @@
 use Rattle.std.specs.Prelude.{◌≡◌, ◌<◌, ℕ, Bool, List, [], ◌∷◌, Some, Ok, length}
 use Rattle.go_text_core.specs.declared.rule.Rule.{Rule}
 use Rattle.go_tree_nodes.specs.Trees.{FileTree}
-use Rattle.go_graph_core.specs.declared.imports.ImportAt.{ImportAt}
-use Rattle.go_graph_core.specs.declared.imports.ImportOutcome.{ImportOutcome}
-use Rattle.go_graph_core.specs.declared.imports.ImportOutcome.TheVariants as outcomes
-use Rattle.go_graph_core.specs.Plans.{outcome_at}
-use Rattle.go_graph_core.specs.Sources.{SourceModel, IsRead}
-use Rattle.go_graph_core.specs.Workspaces.{PackageModel}
-use Rattle.go_block_core.specs.declared.imports.Imported.{Imported}
-use Rattle.go_block_core.specs.declared.imports.Imported.TheVariants as given
-use Rattle.go_block_core.specs.Naming.{AreInFile, file_specs, import_at}
+use Rattle.go_part_core.specs.graph_core.declared.imports.ImportAt.{ImportAt}
+use Rattle.go_part_core.specs.graph_core.declared.imports.ImportOutcome.{ImportOutcome}
+use Rattle.go_part_core.specs.graph_core.declared.imports.ImportOutcome.TheVariants as outcomes
+use Rattle.go_part_core.specs.graph_core.Plans.{outcome_at}
+use Rattle.go_part_core.specs.graph_core.Sources.{SourceModel, IsRead}
+use Rattle.go_part_core.specs.graph_core.Workspaces.{PackageModel}
+use Rattle.go_part_core.specs.block_core.declared.imports.Imported.{Imported}
+use Rattle.go_part_core.specs.block_core.declared.imports.Imported.TheVariants as given
+use Rattle.go_part_core.specs.block_core.Naming.{AreInFile, file_specs, import_at}
 use Rattle.go_part_core.specs.ready_core.Packages.{trees_in}
 use Rattle.go_part_core.specs.Inputs.{InputModel, input_with}
 use Rattle.go_part_core.specs.Parts.{ContentOf, FileOf, IsPart}

@@ -2,8 +2,8 @@ use Rattle.std.proofs.Common.{◌≡◌, ◌++◌, map, None, sym, ap, ◌∙◌
 use Rattle.std.specs.Prelude.{slice_get}
 use Rattle.std.specs.Option.{option_map}
 use Rattle.std.proofs.lemmas.Option.{slice_get_past}
-use Rattle.go_face_core.specs.Held.{declared_shown}
-use Rattle.go_face_core.specs.Written.{WrittenOf}
+use Rattle.go_fault_core.specs.face_core.Held.{declared_shown}
+use Rattle.go_fault_core.specs.face_core.Written.{WrittenOf}
 use Rattle.go_answer_core.specs.mirrors.Steps.{shown_at}
 use Rattle.go_answer_core.proofs.Stepping.{none_known}
 use Rattle.go_answer_core.proofs.faces.add_face_at.Goals as goal

@@ -1,6 +1,6 @@
 use Rattle.std.proofs.Common.{◌≡◌, map, take}
-use Rattle.go_face_core.specs.Held.{declared_shown}
-use Rattle.go_face_core.specs.Written.{decls_of}
+use Rattle.go_fault_core.specs.face_core.Held.{declared_shown}
+use Rattle.go_fault_core.specs.face_core.Written.{decls_of}
 use Rattle.go_answer_core.specs.Shown.{shown_among}
 use Rattle.go_answer_core.proofs.faces.faces_among.Given as goal
 

@@ -1,6 +1,6 @@
 use Rattle.std.proofs.Common.{◌≡◌, map, take}
 use Rattle.std.specs.Option.{option_map}
-use Rattle.go_face_core.specs.Faces.{face_shown}
+use Rattle.go_fault_core.specs.face_core.Faces.{face_shown}
 use Rattle.go_answer_core.proofs.faces.held_faces.Given as goal
 
 abbrev pub invariant-loop-face : goal.invariant-loop-face

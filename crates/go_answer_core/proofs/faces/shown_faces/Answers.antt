@@ -2,9 +2,9 @@ use Rattle.std.proofs.Common.{sym, ap, ◌∙◌, subst, List, map}
 use Rattle.std.proofs.lemmas.Result.{IfOk-weaker}
 use Rattle.go_fault_core.specs.decl_core.declared.keys.DeclRef.{DeclRef}
 use Rattle.go_fault_core.specs.block_core.Exports.{name_and_decl}
-use Rattle.go_face_core.specs.Held.{declared_shown}
-use Rattle.go_face_core.specs.Packages.{DeclaredOf, decls_declared, names_seen, package_faces}
-use Rattle.go_face_core.specs.Written.{DeclsRise, decls_of}
+use Rattle.go_fault_core.specs.face_core.Held.{declared_shown}
+use Rattle.go_fault_core.specs.face_core.Packages.{DeclaredOf, decls_declared, names_seen, package_faces}
+use Rattle.go_fault_core.specs.face_core.Written.{DeclsRise, decls_of}
 use Rattle.go_answer_core.specs.Shown.{exported_decls, shown_among}
 use Rattle.go_answer_core.proofs.Listed.{moved_shown}
 use Rattle.go_answer_core.proofs.Rising.{shown_rise}

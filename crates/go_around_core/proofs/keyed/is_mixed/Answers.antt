@@ -1,6 +1,6 @@
 use Rattle.std.proofs.Common.{Bor, List, ℕ, length, ap, ◌∙◌}
-use Rattle.go_literal_core.specs.Literals.{keys_among}
-use Rattle.go_expr_core.specs.Elements.{is_mixed}
+use Rattle.go_behind_core.specs.literal_core.Literals.{keys_among}
+use Rattle.go_spot_core.specs.expr_core.Elements.{is_mixed}
 use Rattle.go_around_core.proofs.OtherKeys.{mixed_is}
 use Rattle.go_around_core.proofs.keyed.is_mixed.Goals as goal
 

@@ -1,9 +1,9 @@
 use Rattle.std.proofs.Common.{refl, ◌∙◌}
 use Rattle.go_tree_nodes.specs.declared.exprs.«Item» as declared_item
 use Rattle.go_tree_nodes.specs.Shapes.{shape, items_of}
-use Rattle.go_expr_core.specs.Locality.{needed_types, needed_types_in}
-use Rattle.go_expr_core.proofs.Steps.{ok_adds, ok_both}
-use Rattle.go_expr_core.proofs.TypeTurns.{step}
+use Rattle.go_spot_core.specs.expr_core.Locality.{needed_types, needed_types_in}
+use Rattle.go_spot_core.specs.expr_core.Steps.{ok_adds, ok_both}
+use Rattle.go_spot_core.specs.expr_core.TypeTurns.{step}
 use Rattle.go_around_core.proofs.Needing.{call_needs, literal_needs, none_more, struct_literal_needs}
 use Rattle.go_around_core.proofs.listing.+needed.Goals as goal
 

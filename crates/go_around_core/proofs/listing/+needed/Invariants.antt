@@ -1,7 +1,7 @@
 use Rattle.std.proofs.Common.{◌≡◌, ◌++◌, map, drop}
 use Rattle.go_tree_nodes.specs.TypeShapes.{shape_type}
 use Rattle.go_tree_nodes.specs.Shapes.{items_of}
-use Rattle.go_expr_core.specs.Locality.{needed_types_in}
+use Rattle.go_spot_core.specs.expr_core.Locality.{needed_types_in}
 use Rattle.go_around_core.proofs.listing.+needed.Given as goal
 
 abbrev pub invariant-list_needed_args-loop-item : goal.invariant-list_needed_args-loop-item

@@ -1,7 +1,7 @@
 use Rattle.std.proofs.Common.{rules, Bool, List, ℕ, refl, sym, ap, subst, ◌∙◌}
 use Rattle.go_tree_nodes.specs.Shapes.{shape}
-use Rattle.go_literal_core.specs.denote_core.Selectors.{dot_of}
-use Rattle.go_literal_core.specs.denote_core.declared.things.Dot.TheVariants as dots
+use Rattle.go_spot_core.specs.denote_core.Selectors.{dot_of}
+use Rattle.go_spot_core.specs.denote_core.declared.things.Dot.TheVariants as dots
 use Rattle.go_around_core.specs.Arounds.{around_looks}
 use Rattle.go_around_core.proofs.Judging.{lists_by, value_lists, package_lists, refused_lists, untyped_lists, Lists}
 use Rattle.go_around_core.proofs.naming.behind.Goals as goal

@@ -1,5 +1,5 @@
 use Rattle.std.proofs.Common.{map, rules}
-use Rattle.go_settle_core.specs.Settled.{settled}
+use Rattle.go_func_core.specs.settle_core.Settled.{settled}
 use Rattle.go_func_core.specs.written_core.Written.{in_file, term_of}
 use Rattle.go_around_core.proofs.Looking.{note_end, note_turn}
 use Rattle.go_around_core.specs.Types.{noted_shown}

@@ -1,6 +1,6 @@
 use Rattle.std.proofs.Common.{◌≡◌, ℕ, Vec, Global, List, length, map, sym, ap, subst, ◌∙◌}
 use Rattle.std.proofs.lemmas.List.{length-map}
-use Rattle.go_graph_core.specs.Plans.{AreImporters}
+use Rattle.go_snap_core.specs.graph_core.Plans.{AreImporters}
 use Rattle.go_turn_core.specs.Turns.{TurnsModel}
 use Rattle.go_batch_core.specs.mirrors.Keeping.{mark_of}
 use Rattle.go_batch_core.proofs.Beginning.{fresh_marks, nodes_of}

@@ -1,5 +1,5 @@
 use Rattle.std.proofs.Common.{ap, ◌∙◌, not}
-use Rattle.go_literal_core.proofs.Names.{any_named, inserted}
+use Rattle.go_expr_core.specs.literal_core.Names.{any_named, inserted}
 use Rattle.go_behind_core.proofs.keys.insert.Goals as goal
 
 pub returns-in-Ok-clause-added : goal.returns-in-Ok-clause-added

@@ -1,5 +1,5 @@
 use Rattle.std.proofs.Common.{Bool, not, ◌&&◌, ◌++◌, List, ℕ, map, sym, ap, ap₂, ◌∙◌}
-use Rattle.go_literal_core.proofs.Names.{any_named}
+use Rattle.go_expr_core.specs.literal_core.Names.{any_named}
 use Rattle.go_behind_core.proofs.Keyed.{left_is, neither, seen_more}
 use Rattle.go_behind_core.proofs.keys.is_left.Goals as goal
 

@@ -1,5 +1,5 @@
 use Rattle.std.proofs.Common.{map}
-use Rattle.go_literal_core.specs.Look.{literal_look_of}
+use Rattle.go_expr_core.specs.literal_core.Look.{literal_look_of}
 use Rattle.go_behind_core.proofs.Keyed.{keys_named}
 use Rattle.go_behind_core.proofs.keys.key_names.Goals as goal
 

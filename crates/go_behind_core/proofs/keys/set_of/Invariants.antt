@@ -1,5 +1,5 @@
 use Rattle.std.proofs.Common.{map, take}
-use Rattle.go_literal_core.specs.mirrors.Sets.{HasNames}
+use Rattle.go_expr_core.specs.literal_core.mirrors.Sets.{HasNames}
 use Rattle.go_behind_core.proofs.keys.set_of.Given as goal
 
 abbrev pub invariant-loop-name : goal.invariant-loop-name

@@ -1,7 +1,7 @@
 use Rattle.std.proofs.Common.{List, ℕ, sym, subst}
-use Rattle.go_table_core.specs.Entries.{find_entry}
+use Rattle.go_handle_core.specs.table_core.Entries.{find_entry}
 use Rattle.go_term_core.specs.Shapes.{shape}
-use Rattle.go_select_core.specs.Selections.{IsListing}
+use Rattle.go_handle_core.specs.select_core.Selections.{IsListing}
 use Rattle.go_behind_core.specs.mirrors.Usable.{AreBehind}
 use Rattle.go_behind_core.proofs.Chosen.{listed_behind}
 use Rattle.go_behind_core.proofs.members.names_of_term.Goals as goal

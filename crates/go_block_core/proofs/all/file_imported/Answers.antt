@@ -1,7 +1,7 @@
 use Rattle.std.proofs.Common.{◌≡◌, ℕ, ◌<◌, ◌≤◌, length, [], map, sym, ap, subst, ◌∙◌, arith}
 use Rattle.std.proofs.lemmas.List.{length-map, take_all}
-use Rattle.go_decl_core.specs.tree_nodes.Shapes.{file_of}
-use Rattle.go_decl_core.specs.tree_nodes.Trees.{ImportSpecTree}
+use Rattle.go_tree_nodes.specs.Shapes.{file_of}
+use Rattle.go_tree_nodes.specs.Trees.{ImportSpecTree}
 use Rattle.go_graph_core.specs.Lists.{AllNumbered}
 use Rattle.go_block_core.specs.declared.imports.Imported.{Imported}
 use Rattle.go_block_core.specs.Naming.{file_specs, import_at}

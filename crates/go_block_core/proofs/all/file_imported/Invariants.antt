@@ -1,5 +1,5 @@
 use Rattle.std.proofs.Common.{take}
-use Rattle.go_decl_core.specs.tree_nodes.Shapes.{file_of}
+use Rattle.go_tree_nodes.specs.Shapes.{file_of}
 use Rattle.go_graph_core.specs.Lists.{AllNumbered}
 use Rattle.go_block_core.specs.Naming.{file_specs, import_at}
 use Rattle.go_block_core.specs.mirrors.Steps.{IsPlanned}

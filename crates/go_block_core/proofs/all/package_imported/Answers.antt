@@ -1,6 +1,6 @@
 use Rattle.std.proofs.Common.{◌≡◌, ◌<◌, ◌≤◌, length, [], map, sym, ap, subst, ◌∙◌, arith}
 use Rattle.std.proofs.lemmas.List.{take_all}
-use Rattle.go_decl_core.specs.tree_nodes.Shapes.{file_of}
+use Rattle.go_tree_nodes.specs.Shapes.{file_of}
 use Rattle.go_graph_core.specs.Packages.{trees_of}
 use Rattle.go_graph_core.proofs.Assemblies.{as_many}
 use Rattle.go_block_core.specs.Naming.{AreInPackage, imported_in}

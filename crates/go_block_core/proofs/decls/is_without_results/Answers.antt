@@ -1,6 +1,6 @@
 use Rattle.std.proofs.Common.{ap, ◌∙◌, arith}
 use Rattle.std.proofs.lemmas.Grind.{common_steps}
-use Rattle.go_decl_core.specs.tree_nodes.TypeShapes.{shape_results}
+use Rattle.go_tree_nodes.specs.TypeShapes.{shape_results}
 use Rattle.go_block_core.specs.Declarations.{without_results}
 use Rattle.go_block_core.proofs.DeclLemmas.{no_results_listed}
 use Rattle.go_block_core.proofs.decls.is_without_results.Goals as goal

@@ -1,6 +1,6 @@
 use Rattle.std.proofs.Common.{◌++◌, map, refl, sym, ap, ◌∙◌}
 use Rattle.std.proofs.lemmas.List.{take_all}
-use Rattle.go_decl_core.specs.tree_nodes.Shapes.{shape_import_specs}
+use Rattle.go_tree_nodes.specs.Shapes.{shape_import_specs}
 use Rattle.go_block_core.specs.Naming.{specs_in}
 use Rattle.go_block_core.specs.mirrors.Shown.{spec_shown}
 use Rattle.go_block_core.proofs.SpecLemmas.{line_spec, line_more, group_lines}

@@ -1,7 +1,7 @@
 use Rattle.std.proofs.Common.{◌≡◌, ◌<◌, ◌≤◌, ℕ, List, map, length, sym, ap, subst, ◌∙◌, arith}
 use Rattle.std.proofs.lemmas.List.{length-map}
-use Rattle.go_decl_core.specs.tree_nodes.Shapes.{file_of}
-use Rattle.go_decl_core.specs.tree_nodes.Trees.{FileTree}
+use Rattle.go_tree_nodes.specs.Shapes.{file_of}
+use Rattle.go_tree_nodes.specs.Trees.{FileTree}
 use Rattle.go_graph_core.specs.Packages.{trees_of}
 use Rattle.go_graph_core.proofs.Assemblies.{as_many}
 use Rattle.go_graph_core.proofs.Zips.{zip_length}

@@ -2,9 +2,9 @@ use Rattle.std.proofs.Common.{[], map, sym, ap, ◌∙◌}
 use Rattle.std.specs.List.{flat_map}
 use Rattle.std.proofs.lemmas.List.{take_all}
 use Rattle.std.proofs.lemmas.List.Folds.{flat_map-map}
-use Rattle.go_decl_core.specs.tree_nodes.declared.files.ImportDecl.{ImportDecl}
-use Rattle.go_decl_core.specs.tree_nodes.Trees.{ImportTree}
-use Rattle.go_decl_core.specs.tree_nodes.Shapes.{import_of, shape_import_specs}
+use Rattle.go_tree_nodes.specs.declared.files.ImportDecl.{ImportDecl}
+use Rattle.go_tree_nodes.specs.Trees.{ImportTree}
+use Rattle.go_tree_nodes.specs.Shapes.{import_of, shape_import_specs}
 use Rattle.go_block_core.specs.Naming.{specs_in}
 use Rattle.go_block_core.specs.mirrors.Shown.{spec_shown}
 use Rattle.go_block_core.proofs.Pieces.{piece_more}

@@ -1,7 +1,7 @@
 use Rattle.std.proofs.Common.{◌≡◌, take, map}
 use Rattle.std.specs.List.{flat_map}
-use Rattle.go_decl_core.specs.tree_nodes.declared.files.ImportDecl.{ImportDecl}
-use Rattle.go_decl_core.specs.tree_nodes.Shapes.{shape_import_specs}
+use Rattle.go_tree_nodes.specs.declared.files.ImportDecl.{ImportDecl}
+use Rattle.go_tree_nodes.specs.Shapes.{shape_import_specs}
 use Rattle.go_block_core.specs.Naming.{specs_in}
 use Rattle.go_block_core.specs.mirrors.Shown.{spec_shown}
 use Rattle.go_block_core.proofs.naming.import_specs.Given as goal

@@ -2,7 +2,7 @@ use Rattle.std.proofs.Common.{◌++◌, map, take, refl, sym, ap, ◌∙◌}
 use Rattle.std.specs.List.{flat_map}
 use Rattle.std.proofs.lemmas.List.{take_all}
 use Rattle.std.proofs.lemmas.List.Folds.{flat_map-map}
-use Rattle.go_decl_core.specs.tree_nodes.Shapes.{file_of}
+use Rattle.go_tree_nodes.specs.Shapes.{file_of}
 use Rattle.go_decl_core.specs.Shown.{decl_shown}
 use Rattle.go_decl_core.specs.declared.tops.TopDecl.{TopDecl}
 use Rattle.go_block_core.specs.Declarations.{top_declared, file_declared}

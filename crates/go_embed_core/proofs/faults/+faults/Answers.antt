@@ -2,10 +2,10 @@ use Rattle.std.proofs.Common.{ℕ, ◌++◌, [], false, get_or, map, refl, ap, s
 use Rattle.std.specs.Prelude.{None}
 use Rattle.std.proofs.lemmas.List.{get_or_default}
 use Rattle.std.proofs.lemmas.Result.{on_ok_weaker}
-use Rattle.go_type_core.specs.term_core.Shapes.{Line, shape, fields_in, line_shape, line_with, line_shapes, method_shapes, terms_in}
-use Rattle.go_type_core.specs.term_core.Terms.{Term, NoType, StructOf, InterfaceOf}
-use Rattle.go_type_core.specs.term_core.SameLists.{found, missing}
-use Rattle.go_type_core.specs.term_core.TermShapes.{shape_struct, shape_interface}
+use Rattle.go_term_core.specs.Shapes.{Line, shape, fields_in, line_shape, line_with, line_shapes, method_shapes, terms_in}
+use Rattle.go_term_core.specs.Terms.{Term, NoType, StructOf, InterfaceOf}
+use Rattle.go_term_core.proofs.SameLists.{found, missing}
+use Rattle.go_term_core.proofs.TermShapes.{shape_struct, shape_interface}
 use Rattle.go_embed_core.specs.Faults.{line_faults, fields_faults, methods_faults, terms_faults}
 use Rattle.go_embed_core.proofs.Noting.{line_of, fields_step, methods_step, terms_step, told_nowhere, notes_end}
 use Rattle.go_embed_core.proofs.faults.+faults.Goals as goal

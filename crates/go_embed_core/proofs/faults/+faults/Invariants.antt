@@ -1,6 +1,6 @@
 use Rattle.std.proofs.Common.{◌≡◌, ◌++◌, drop, map}
 use Rattle.std.specs.Prelude.{None}
-use Rattle.go_type_core.specs.term_core.Shapes.{shape, fields_in, line_shapes, method_shapes, terms_in}
+use Rattle.go_term_core.specs.Shapes.{shape, fields_in, line_shapes, method_shapes, terms_in}
 use Rattle.go_embed_core.specs.Faults.{fields_faults, methods_faults, terms_faults}
 use Rattle.go_embed_core.proofs.faults.+faults.Given as goal
 

@@ -1,6 +1,6 @@
 use Rattle.std.proofs.Common.{sym, ap, ◌∙◌}
-use Rattle.go_type_core.specs.term_core.Shapes.{line_shapes, shape}
-use Rattle.go_type_core.specs.term_core.TermShapes.{shape_struct, shape_interface}
+use Rattle.go_term_core.specs.Shapes.{line_shapes, shape}
+use Rattle.go_term_core.proofs.TermShapes.{shape_struct, shape_interface}
 use Rattle.go_embed_core.specs.Faults.{first_place}
 use Rattle.go_embed_core.proofs.faults.+first_place.Goals as goal
 

@@ -1,7 +1,7 @@
 use Rattle.std.proofs.Common.{[], false, sym, ap, ◌∙◌}
-use Rattle.go_type_core.specs.term_core.Terms.{NoType}
-use Rattle.go_type_core.specs.term_core.Shapes.{Line, line_shape, line_with}
-use Rattle.go_type_core.specs.term_core.SameLists.{found, missing}
+use Rattle.go_term_core.specs.Terms.{NoType}
+use Rattle.go_term_core.specs.Shapes.{Line, line_shape, line_with}
+use Rattle.go_term_core.proofs.SameLists.{found, missing}
 use Rattle.go_embed_core.specs.Faults.{first_place}
 use Rattle.go_embed_core.proofs.faults.first_of_line.Goals as goal
 

@@ -1,7 +1,7 @@
 use Rattle.std.proofs.Common.{sym, ap, ◌∙◌}
-use Rattle.go_type_core.specs.term_core.Terms.{NoType}
-use Rattle.go_type_core.specs.term_core.Shapes.{shape}
-use Rattle.go_type_core.specs.term_core.SameLists.{found, missing}
+use Rattle.go_term_core.specs.Terms.{NoType}
+use Rattle.go_term_core.specs.Shapes.{shape}
+use Rattle.go_term_core.proofs.SameLists.{found, missing}
 use Rattle.go_embed_core.specs.Faults.{first_place}
 use Rattle.go_embed_core.proofs.faults.first_of_number.Goals as goal
 

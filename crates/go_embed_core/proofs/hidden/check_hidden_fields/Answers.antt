@@ -1,7 +1,7 @@
 use Rattle.std.proofs.Common.{map, sym, ap, ◌∙◌}
 use Rattle.std.proofs.lemmas.Result.{IfOk-weaker}
-use Rattle.go_type_core.specs.term_core.Shapes.{shape, fields_in, line_shapes}
-use Rattle.go_type_core.specs.term_core.TermShapes.{shape_struct}
+use Rattle.go_term_core.specs.Shapes.{shape, fields_in, line_shapes}
+use Rattle.go_term_core.proofs.TermShapes.{shape_struct}
 use Rattle.go_type_core.specs.table_core.Shown.{member_shown}
 use Rattle.go_embed_core.specs.Faults.{own_names, named_faults}
 use Rattle.go_embed_core.proofs.Naming.{hidden_struct}

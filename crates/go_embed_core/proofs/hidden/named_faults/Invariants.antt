@@ -1,5 +1,5 @@
 use Rattle.std.proofs.Common.{◌≡◌, ◌++◌, List, drop, map}
-use Rattle.go_type_core.specs.term_core.Shapes.{Line, fields_in}
+use Rattle.go_term_core.specs.Shapes.{Line, fields_in}
 use Rattle.go_embed_core.specs.Faults.{named_faults}
 use Rattle.go_embed_core.proofs.hidden.named_faults.Given as goal
 

@@ -1,5 +1,5 @@
 use Rattle.std.proofs.Common.{◌≡◌, drop}
-use Rattle.go_type_core.specs.term_core.Shapes.{line_shapes}
+use Rattle.go_term_core.specs.Shapes.{line_shapes}
 use Rattle.go_embed_core.specs.mirrors.Tallies.{together, hits_shown, tallies, field_tally}
 use Rattle.go_embed_core.proofs.member.field_hits.Given as goal
 

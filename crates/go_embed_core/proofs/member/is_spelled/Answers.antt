@@ -1,8 +1,8 @@
 use Rattle.std.proofs.Common.{ap, sym, ◌∙◌}
 use Rattle.std.specs.List.{list_any}
 use Rattle.std.specs.Str.{bytes_eq}
-use Rattle.go_type_core.specs.term_core.Shapes.{line_shapes, shape}
-use Rattle.go_type_core.specs.term_core.TermShapes.{shape_struct, shape_interface}
+use Rattle.go_term_core.specs.Shapes.{line_shapes, shape}
+use Rattle.go_term_core.proofs.TermShapes.{shape_struct, shape_interface}
 use Rattle.go_embed_core.specs.Owners.{term_found, is_spelled_in, nobody}
 use Rattle.go_embed_core.proofs.Counting.{fields_spelled, interface_spelled}
 use Rattle.go_embed_core.proofs.member.is_spelled.Goals as goal

@@ -1,6 +1,6 @@
 use Rattle.std.proofs.Common.{ap, sym, ◌∙◌}
-use Rattle.go_type_core.specs.term_core.Shapes.{line_shapes, shape}
-use Rattle.go_type_core.specs.term_core.TermShapes.{shape_struct, shape_interface}
+use Rattle.go_term_core.specs.Shapes.{line_shapes, shape}
+use Rattle.go_term_core.proofs.TermShapes.{shape_struct, shape_interface}
 use Rattle.go_embed_core.specs.Owners.{term_found, nobody}
 use Rattle.go_embed_core.specs.mirrors.Tallies.{tallies, tally_of, field_tally, interface_tally}
 use Rattle.go_embed_core.proofs.Counting.{fields_named, interface_named}

@@ -1,5 +1,5 @@
 use Rattle.std.proofs.Common.{map, [], ◌∷◌, refl}
-use Rattle.go_type_core.specs.term_core.Shapes.{sign_of, method_shapes}
+use Rattle.go_term_core.specs.Shapes.{sign_of, method_shapes}
 use Rattle.go_embed_core.specs.Owners.{AnInterfaces, methods_found}
 use Rattle.go_embed_core.specs.OwnersShown.{named_shown}
 use Rattle.go_embed_core.proofs.Adding.{pushed, added_step, added_end}

@@ -1,5 +1,5 @@
 use Rattle.std.proofs.Common.{◌≡◌, ◌++◌, drop, map}
-use Rattle.go_type_core.specs.term_core.Shapes.{method_shapes}
+use Rattle.go_term_core.specs.Shapes.{method_shapes}
 use Rattle.go_embed_core.specs.Owners.{methods_found}
 use Rattle.go_embed_core.specs.OwnersShown.{named_shown}
 use Rattle.go_embed_core.proofs.members.add_interface.Given as goal

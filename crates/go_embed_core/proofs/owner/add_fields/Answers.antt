@@ -1,6 +1,6 @@
 use Rattle.std.proofs.Common.{◌≡◌, ◌+◌, ◌++◌, map, drop, refl, sym, subst, ap, ◌∙◌, Vec}
 use Rattle.std.specs.Global.{Global}
-use Rattle.go_type_core.specs.term_core.Shapes.{fields_in, line_shapes}
+use Rattle.go_term_core.specs.Shapes.{fields_in, line_shapes}
 use Rattle.go_embed_core.specs.declared.member.Member as declared_member
 use Rattle.go_embed_core.specs.Owners.{fields_found}
 use Rattle.go_embed_core.specs.OwnersShown.{owner_shown, named_shown}

@@ -1,5 +1,5 @@
 use Rattle.std.proofs.Common.{◌≡◌, ◌++◌, drop, map}
-use Rattle.go_type_core.specs.term_core.Shapes.{fields_in, line_shapes}
+use Rattle.go_term_core.specs.Shapes.{fields_in, line_shapes}
 use Rattle.go_embed_core.specs.Owners.{fields_found}
 use Rattle.go_embed_core.specs.OwnersShown.{owner_shown, named_shown}
 use Rattle.go_embed_core.proofs.owner.add_fields.Given as goal

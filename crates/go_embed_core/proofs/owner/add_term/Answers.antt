@@ -1,8 +1,8 @@
 use Rattle.std.proofs.Common.{◌++◌, map, ap, sym, ◌∙◌}
 use Rattle.std.proofs.lemmas.Result.{on_ok_weaker}
-use Rattle.go_type_core.specs.term_core.Terms.{StructOf}
-use Rattle.go_type_core.specs.term_core.Shapes.{shape, fields_in, line_shapes, method_shapes}
-use Rattle.go_type_core.specs.term_core.TermShapes.{shape_struct, shape_interface}
+use Rattle.go_term_core.specs.Terms.{StructOf}
+use Rattle.go_term_core.specs.Shapes.{shape, fields_in, line_shapes, method_shapes}
+use Rattle.go_term_core.proofs.TermShapes.{shape_struct, shape_interface}
 use Rattle.go_embed_core.specs.Owners.{fields_found, methods_found, term_found}
 use Rattle.go_embed_core.specs.OwnersShown.{owner_shown, named_shown}
 use Rattle.go_embed_core.proofs.owner.add_term.Goals as goal

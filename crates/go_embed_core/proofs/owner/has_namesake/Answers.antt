@@ -1,6 +1,6 @@
 use Rattle.std.proofs.Common.{ap, sym, map, ◌∙◌}
-use Rattle.go_type_core.specs.term_core.Shapes.{shape}
-use Rattle.go_type_core.specs.term_core.TermShapes.{shape_struct}
+use Rattle.go_term_core.specs.Shapes.{shape}
+use Rattle.go_term_core.proofs.TermShapes.{shape_struct}
 use Rattle.go_type_core.specs.table_core.Shown.{member_shown}
 use Rattle.go_embed_core.specs.mirrors.Edges.{hidden_in}
 use Rattle.go_embed_core.proofs.owner.has_namesake.Goals as goal

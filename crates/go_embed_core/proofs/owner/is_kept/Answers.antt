@@ -1,6 +1,6 @@
 use Rattle.std.proofs.Common.{ap, map, ◌∙◌}
 use Rattle.go_type_core.specs.decl_core.declared.keys.DeclKey.{DeclKey}
-use Rattle.go_type_core.specs.term_core.Shapes.{shape}
+use Rattle.go_term_core.specs.Shapes.{shape}
 use Rattle.go_type_core.specs.table_core.Shown.{member_shown}
 use Rattle.go_embed_core.specs.OwnersShown.{entry_owner}
 use Rattle.go_embed_core.specs.mirrors.Edges.{hidden_in}

@@ -1,6 +1,6 @@
 use Rattle.std.proofs.Common.{ap, sym, ◌∙◌}
-use Rattle.go_type_core.specs.term_core.Shapes.{shape, fields_in, line_shapes}
-use Rattle.go_type_core.specs.term_core.TermShapes.{shape_struct}
+use Rattle.go_term_core.specs.Shapes.{shape, fields_in, line_shapes}
+use Rattle.go_term_core.proofs.TermShapes.{shape_struct}
 use Rattle.go_type_core.specs.table_core.Methods.{term_fields}
 use Rattle.go_embed_core.proofs.owner.struct_fields.Goals as goal
 

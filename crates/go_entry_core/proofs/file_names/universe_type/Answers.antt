@@ -1,7 +1,7 @@
 use Rattle.std.proofs.Common.{sym, ap, ◌∙◌, Some}
-use Rattle.go_written_core.specs.term_core.Shapes.{method_shapes}
-use Rattle.go_written_core.specs.term_core.Terms.{InterfaceOf, NoMethod}
-use Rattle.go_written_core.specs.term_core.TermShapes.{shape_interface}
+use Rattle.go_term_core.specs.Shapes.{method_shapes}
+use Rattle.go_term_core.specs.Terms.{InterfaceOf, NoMethod}
+use Rattle.go_term_core.proofs.TermShapes.{shape_interface}
 use Rattle.go_entry_core.specs.Meanings.{type_of_universe}
 use Rattle.go_entry_core.proofs.file_names.universe_type.Goals as goal
 

@@ -1,6 +1,6 @@
 use Rattle.std.proofs.Common.{map, sym, ap, ◌∙◌}
 use Rattle.std.proofs.lemmas.List.{take_all}
-use Rattle.go_written_core.specs.tree_nodes.Shapes.{file_of}
+use Rattle.go_tree_nodes.specs.Shapes.{file_of}
 use Rattle.go_scope_core.specs.graph_core.Packages.{trees_of}
 use Rattle.go_entry_core.specs.Outlines.{outline_of, outline_shown}
 use Rattle.go_entry_core.proofs.Outlining.{are_outlines, outline_more, outline_same}

@@ -1,6 +1,6 @@
 use Rattle.std.proofs.Common.{Option, map, sym, ap, ◌∙◌}
-use Rattle.go_written_core.specs.tree_nodes.Shapes.{func_of}
-use Rattle.go_written_core.specs.tree_nodes.declared.files.Receiver.{Receiver}
+use Rattle.go_tree_nodes.specs.Shapes.{func_of}
+use Rattle.go_tree_nodes.specs.declared.files.Receiver.{Receiver}
 use Rattle.go_written_core.specs.decl_core.declared.tops.DeclForm.{DeclForm}
 use Rattle.go_written_core.specs.decl_core.Shown.{decl_shown, form_shown}
 use Rattle.go_table_core.specs.Shown.{entry_shown}

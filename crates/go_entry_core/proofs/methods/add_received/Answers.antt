@@ -4,7 +4,7 @@ use Rattle.std.proofs.lemmas.Option.{slice_get_within}
 use Rattle.std.proofs.lemmas.Result.{on_ok_weaker}
 use Rattle.go_table_core.specs.declared.entry.TypeEntry.{TypeEntry}
 use Rattle.go_table_core.specs.Shown.{entry_shown}
-use Rattle.go_written_core.specs.tree_nodes.Shapes.{func_of}
+use Rattle.go_tree_nodes.specs.Shapes.{func_of}
 use Rattle.go_written_core.specs.decl_core.Shown.{decl_shown}
 use Rattle.go_written_core.specs.Written.{in_file}
 use Rattle.go_entry_core.specs.Entries.{received_of}

@@ -1,5 +1,5 @@
 use Rattle.std.proofs.Common.{length, ap, sym, ◌∙◌}
-use Rattle.go_expr_core.specs.term_core.Shapes.{fields_in, line_shapes}
+use Rattle.go_term_core.specs.Shapes.{fields_in, line_shapes}
 use Rattle.go_env_core.specs.Fields.{fields_seen}
 use Rattle.go_env_core.specs.mirrors.Seen.{hider_shown, some_seen}
 use Rattle.go_env_core.proofs.Seeing.{all_counted, kept_counted}

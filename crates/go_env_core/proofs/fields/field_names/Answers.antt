@@ -1,6 +1,6 @@
 use Rattle.std.proofs.Common.{◌≡◌, map, sym, subst}
 use Rattle.std.specs.Prelude.{IfOk, Option}
-use Rattle.go_expr_core.specs.term_core.Shapes.{line_shapes}
+use Rattle.go_term_core.specs.Shapes.{line_shapes}
 use Rattle.go_env_core.specs.declared.fields.SeenFields.{SeenFields}
 use Rattle.go_env_core.specs.Fields.{TheField}
 use Rattle.go_env_core.specs.mirrors.Seen.{some_seen}

@@ -1,6 +1,6 @@
 use Rattle.std.proofs.Common.{◌≡◌, List, drop}
 use Rattle.std.specs.Prelude.{slice_get}
-use Rattle.go_expr_core.specs.term_core.Shapes.{Line, fields_in}
+use Rattle.go_term_core.specs.Shapes.{Line, fields_in}
 use Rattle.go_env_core.specs.Scenes.{SceneModel}
 use Rattle.go_env_core.specs.Fields.{fields_seen}
 use Rattle.go_env_core.specs.mirrors.Seen.{hider_shown}

@@ -1,5 +1,5 @@
 use Rattle.std.proofs.Common.{◌+◌, ◌++◌, map, drop, sym, ap, ◌∙◌, append_assoc, append-nil}
-use Rattle.go_expr_core.specs.term_core.Shapes.{fields_in}
+use Rattle.go_term_core.specs.Shapes.{fields_in}
 use Rattle.go_env_core.specs.Fields.{TheField, fields_seen}
 use Rattle.go_env_core.specs.mirrors.Seen.{hider_shown, is_kept, name_unless}
 use Rattle.go_env_core.proofs.Seeing.{next_named, none_left}

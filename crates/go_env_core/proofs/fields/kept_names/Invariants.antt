@@ -1,5 +1,5 @@
 use Rattle.std.proofs.Common.{◌≡◌, ◌++◌, List, map, drop}
-use Rattle.go_expr_core.specs.term_core.Shapes.{Line, fields_in}
+use Rattle.go_term_core.specs.Shapes.{Line, fields_in}
 use Rattle.go_env_core.specs.Scenes.{SceneModel}
 use Rattle.go_env_core.specs.Fields.{TheField, fields_seen}
 use Rattle.go_env_core.specs.mirrors.Seen.{hider_shown}

@@ -1,7 +1,7 @@
-use Rattle.go_expr_core.specs.term_core.Shapes.{line_shapes}
+use Rattle.go_term_core.specs.Shapes.{line_shapes}
 use Rattle.std.proofs.Common.{ap, sym, ◌∙◌}
 use Rattle.go_env_core.specs.Fields.{fields_seen}
-use Rattle.go_expr_core.specs.term_core.Shapes.{fields_in}
+use Rattle.go_term_core.specs.Shapes.{fields_in}
 use Rattle.std.specs.Prelude.{slice_get}
 use Rattle.go_env_core.specs.mirrors.Seen.{hider_shown}
 use Rattle.go_env_core.proofs.Seeing.{listed_numbered}

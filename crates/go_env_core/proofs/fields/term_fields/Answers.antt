@@ -1,6 +1,6 @@
 use Rattle.std.proofs.Common.{ap, sym, ◌∙◌}
-use Rattle.go_expr_core.specs.term_core.Shapes.{shape, fields_in, line_shapes}
-use Rattle.go_expr_core.specs.term_core.TermShapes.{shape_struct}
+use Rattle.go_term_core.specs.Shapes.{shape, fields_in, line_shapes}
+use Rattle.go_term_core.proofs.TermShapes.{shape_struct}
 use Rattle.go_env_core.specs.Fields.{fields_seen, term_seen}
 use Rattle.go_env_core.specs.mirrors.Seen.{hider_shown}
 use Rattle.go_env_core.proofs.fields.term_fields.Goals as goal

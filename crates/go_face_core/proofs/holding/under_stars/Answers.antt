@@ -1,4 +1,4 @@
-use Rattle.go_handle_core.specs.term_core.Shapes.{shape}
+use Rattle.go_term_core.specs.Shapes.{shape}
 use Rattle.go_face_core.proofs.Starring.{star_more}
 use Rattle.go_face_core.proofs.holding.under_stars.Goals as goal
 

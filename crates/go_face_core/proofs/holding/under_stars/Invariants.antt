@@ -1,5 +1,5 @@
 use Rattle.std.proofs.Common.{◌≡◌}
-use Rattle.go_handle_core.specs.term_core.Shapes.{shape}
+use Rattle.go_term_core.specs.Shapes.{shape}
 use Rattle.go_handle_core.specs.Stars.{starred}
 use Rattle.go_face_core.proofs.holding.under_stars.Given as goal
 

@@ -1,7 +1,7 @@
 use Rattle.std.proofs.Common.{◌≡◌, ◌++◌, map, take}
 use Rattle.std.specs.List.{flat_map}
-use Rattle.go_embed_core.specs.table_core.Shown.{entry_shown}
-use Rattle.go_entry_core.specs.Outlines.{outline_shown}
+use Rattle.go_summary_core.specs.table_core.Shown.{entry_shown}
+use Rattle.go_summary_core.specs.entry_core.Outlines.{outline_shown}
 use Rattle.go_fault_core.specs.TypeFaults.{entry_faults}
 use Rattle.go_fault_core.proofs.entries.add_entries.Given as goal
 

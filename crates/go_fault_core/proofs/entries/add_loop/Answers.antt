@@ -3,9 +3,9 @@ use Rattle.std.specs.Option.{option_map}
 use Rattle.std.proofs.lemmas.List.{append-nil}
 use Rattle.std.proofs.lemmas.Option.{slice_get-map, slice_get_past}
 use Rattle.std.proofs.lemmas.Result.{on_ok_weaker}
-use Rattle.go_embed_core.specs.table_core.Shown.{entry_shown}
-use Rattle.go_embed_core.specs.type_core.Steps.{entry_read}
-use Rattle.go_entry_core.specs.Outlines.{outline_shown}
+use Rattle.go_summary_core.specs.table_core.Shown.{entry_shown}
+use Rattle.go_summary_core.specs.type_core.Steps.{entry_read}
+use Rattle.go_summary_core.specs.entry_core.Outlines.{outline_shown}
 use Rattle.go_fault_core.specs.TypeFaults.{type_loop_fault}
 use Rattle.go_fault_core.proofs.entries.add_loop.Goals as goal
 

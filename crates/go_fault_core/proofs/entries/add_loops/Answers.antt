@@ -1,7 +1,7 @@
 use Rattle.std.proofs.Common.{map}
 use Rattle.std.specs.Prelude.{slice_get}
-use Rattle.go_embed_core.specs.table_core.Shown.{entry_shown}
-use Rattle.go_entry_core.specs.Outlines.{outline_shown}
+use Rattle.go_summary_core.specs.table_core.Shown.{entry_shown}
+use Rattle.go_summary_core.specs.entry_core.Outlines.{outline_shown}
 use Rattle.go_fault_core.specs.TypeFaults.{type_loop_fault}
 use Rattle.go_fault_core.proofs.Adding.{item_step_or, plain_end}
 use Rattle.go_fault_core.proofs.entries.add_loops.Goals as goal

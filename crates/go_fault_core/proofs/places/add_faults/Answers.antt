@@ -1,5 +1,5 @@
 use Rattle.std.proofs.Common.{map}
-use Rattle.go_entry_core.specs.Outlines.{outline_shown}
+use Rattle.go_summary_core.specs.entry_core.Outlines.{outline_shown}
 use Rattle.go_fault_core.specs.Places.{located}
 use Rattle.go_fault_core.proofs.Adding.{item_step_or, plain_end}
 use Rattle.go_fault_core.proofs.places.add_faults.Goals as goal

@@ -1,5 +1,5 @@
 use Rattle.std.proofs.Common.{◌≡◌, ◌++◌, map, take}
-use Rattle.go_embed_core.specs.decl_core.Shown.{decl_shown}
+use Rattle.go_term_core.specs.decl_core.Shown.{decl_shown}
 use Rattle.go_fault_core.specs.TypeFaults.{file_receivers}
 use Rattle.go_fault_core.proofs.receivers.add_file.Given as goal
 

@@ -1,7 +1,7 @@
 use Rattle.std.proofs.Common.{◌++◌, map, ap, ◌∙◌}
-use Rattle.go_embed_core.specs.decl_core.Shown.{decl_shown}
-use Rattle.go_entry_core.specs.Entries.{package_meanings}
-use Rattle.go_entry_core.specs.Outlines.{outline_shown}
+use Rattle.go_term_core.specs.decl_core.Shown.{decl_shown}
+use Rattle.go_summary_core.specs.entry_core.Entries.{package_meanings}
+use Rattle.go_summary_core.specs.entry_core.Outlines.{outline_shown}
 use Rattle.go_fault_core.specs.TypeFaults.{file_receivers}
 use Rattle.go_fault_core.proofs.Adding.{numbered_step}
 use Rattle.go_fault_core.proofs.receivers.add_receivers.Goals as goal

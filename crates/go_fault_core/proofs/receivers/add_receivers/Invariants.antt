@@ -1,6 +1,6 @@
 use Rattle.std.proofs.Common.{◌≡◌, ◌++◌, map, take}
-use Rattle.go_entry_core.specs.Entries.{package_meanings}
-use Rattle.go_entry_core.specs.Outlines.{outline_shown}
+use Rattle.go_summary_core.specs.entry_core.Entries.{package_meanings}
+use Rattle.go_summary_core.specs.entry_core.Outlines.{outline_shown}
 use Rattle.go_fault_core.specs.TypeFaults.{receivers_faults}
 use Rattle.go_fault_core.proofs.receivers.add_receivers.Given as goal
 

@@ -1,7 +1,7 @@
 use Rattle.std.proofs.Common.{[], subst}
 use Rattle.std.proofs.lemmas.List.{get_or_default}
 use Rattle.go_tree_nodes.specs.Shapes.{decl_of, func_of}
-use Rattle.go_top_core.specs.inline_core.Trees.{decl_types}
+use Rattle.go_func_core.specs.inline_core.Trees.{decl_types}
 use Rattle.go_func_core.specs.Laws.{AreFuncTypes}
 use Rattle.go_file_core.specs.Stands.{stand_of}
 use Rattle.go_file_core.specs.mirrors.Steps.{AreSeen, HasNext}

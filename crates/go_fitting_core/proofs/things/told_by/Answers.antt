@@ -1,6 +1,6 @@
 use Rattle.std.proofs.Common.{sym, ap, ◌∙◌, arith}
 use Rattle.std.proofs.lemmas.Bool.{true≢false}
-use Rattle.go_face_core.specs.Packages.{PackageFacesModel}
+use Rattle.go_shown_core.specs.face_core.Packages.{PackageFacesModel}
 use Rattle.go_fitting_core.proofs.Fits.{path_met, path_missed, path_passed}
 use Rattle.go_fitting_core.proofs.things.told_by.Goals as goal
 

@@ -1,5 +1,5 @@
 use Rattle.std.proofs.Common.{◌≡◌, drop}
-use Rattle.go_face_core.specs.Packages.{package_in}
+use Rattle.go_shown_core.specs.face_core.Packages.{package_in}
 use Rattle.go_shown_core.specs.summary_core.Views.{faces_told}
 use Rattle.go_fitting_core.proofs.things.told_by.Given as goal
 

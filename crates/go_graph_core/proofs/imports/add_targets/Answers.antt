@@ -1,8 +1,8 @@
 use Rattle.std.proofs.Common.{◌≡◌, ◌∙◌, sym, ap, subst, List, ℕ, map, take}
 use Rattle.std.proofs.lemmas.List.{take_all}
-use Rattle.go_parse_core.specs.tree_nodes.declared.files.ImportLine.{ImportLine}
-use Rattle.go_parse_core.specs.tree_nodes.Terminals.{value_of}
-use Rattle.go_parse_core.specs.tree_nodes.Shapes.{shape_import_specs}
+use Rattle.go_tree_nodes.specs.declared.files.ImportLine.{ImportLine}
+use Rattle.go_tree_nodes.specs.Terminals.{value_of}
+use Rattle.go_tree_nodes.specs.Shapes.{shape_import_specs}
 use Rattle.go_graph_core.specs.Imports.{IsTarget, texts_in}
 use Rattle.go_graph_core.specs.mirrors.Targets.{Adds}
 use Rattle.go_graph_core.proofs.Additions.{adds_more, group_texts}

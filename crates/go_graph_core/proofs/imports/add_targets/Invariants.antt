@@ -1,6 +1,6 @@
 use Rattle.std.proofs.Common.{take, map}
-use Rattle.go_parse_core.specs.tree_nodes.declared.files.ImportLine.{ImportLine}
-use Rattle.go_parse_core.specs.tree_nodes.Terminals.{value_of}
+use Rattle.go_tree_nodes.specs.declared.files.ImportLine.{ImportLine}
+use Rattle.go_tree_nodes.specs.Terminals.{value_of}
 use Rattle.go_graph_core.specs.Imports.{IsTarget}
 use Rattle.go_graph_core.specs.mirrors.Targets.{Adds}
 use Rattle.go_graph_core.proofs.imports.add_targets.Given as goal

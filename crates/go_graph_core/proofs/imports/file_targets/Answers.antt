@@ -2,9 +2,9 @@ use Rattle.std.proofs.Common.{◌≡◌, ◌∙◌, sym, ap, subst, List, ℕ, t
 use Rattle.std.specs.List.{AllZip, flat_map}
 use Rattle.std.proofs.lemmas.List.{take_all}
 use Rattle.std.proofs.lemmas.List.Folds.{flat_map-map}
-use Rattle.go_parse_core.specs.tree_nodes.declared.files.ImportDecl.{ImportDecl}
-use Rattle.go_parse_core.specs.tree_nodes.Trees.{ImportTree}
-use Rattle.go_parse_core.specs.tree_nodes.Shapes.{file_of, import_of, shape_import_specs}
+use Rattle.go_tree_nodes.specs.declared.files.ImportDecl.{ImportDecl}
+use Rattle.go_tree_nodes.specs.Trees.{ImportTree}
+use Rattle.go_tree_nodes.specs.Shapes.{file_of, import_of, shape_import_specs}
 use Rattle.go_graph_core.specs.Imports.{IsTarget, content_texts, texts_in}
 use Rattle.go_graph_core.proofs.Additions.{zip_adds}
 use Rattle.go_graph_core.proofs.imports.file_targets.Goals as goal

@@ -1,7 +1,7 @@
 use Rattle.std.proofs.Common.{take}
 use Rattle.std.specs.List.{AllZip, flat_map}
-use Rattle.go_parse_core.specs.tree_nodes.declared.files.ImportDecl.{ImportDecl}
-use Rattle.go_parse_core.specs.tree_nodes.Shapes.{shape_import_specs}
+use Rattle.go_tree_nodes.specs.declared.files.ImportDecl.{ImportDecl}
+use Rattle.go_tree_nodes.specs.Shapes.{shape_import_specs}
 use Rattle.go_graph_core.specs.Imports.{IsTarget, texts_in}
 use Rattle.go_graph_core.proofs.imports.file_targets.Given as goal
 

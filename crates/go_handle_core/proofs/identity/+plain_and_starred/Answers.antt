@@ -1,6 +1,6 @@
 use Rattle.std.proofs.Common.{ap, arith, ◌∙◌, sym}
-use Rattle.go_decide_core.specs.term_core.Shapes.{shape}
-use Rattle.go_decide_core.specs.term_core.Terms.{PointerTo}
+use Rattle.go_term_core.specs.Shapes.{shape}
+use Rattle.go_term_core.specs.Terms.{PointerTo}
 use Rattle.go_handle_core.proofs.Starred.{pointer_right}
 use Rattle.go_handle_core.proofs.identity.+plain_and_starred.Goals as goal
 

@@ -1,5 +1,5 @@
 use Rattle.std.proofs.Common.{arith, ◌∙◌}
-use Rattle.go_decide_core.specs.term_core.Shapes.{shape}
+use Rattle.go_term_core.specs.Shapes.{shape}
 use Rattle.go_handle_core.specs.Stars.{starred}
 use Rattle.go_handle_core.proofs.Starred.{starred_first, starred_last, no_stars}
 use Rattle.go_handle_core.proofs.identity.same_starred_under.Goals as goal

@@ -1,6 +1,6 @@
 use Rattle.std.proofs.Common.{ap, ◌∙◌, sym}
-use Rattle.go_decide_core.specs.term_core.Shapes.{shape}
-use Rattle.go_decide_core.specs.term_core.Identity.{Identical, IdenticalButForTags}
+use Rattle.go_term_core.specs.Shapes.{shape}
+use Rattle.go_term_core.specs.Identity.{Identical, IdenticalButForTags}
 use Rattle.go_decide_core.specs.Identity.{identical_by, identical_of, identical_but_for_tags_of}
 use Rattle.go_decide_core.proofs.Alike.{identity_decided}
 use Rattle.go_handle_core.proofs.Starred.{same_test}

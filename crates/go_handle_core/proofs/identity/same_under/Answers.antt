@@ -1,5 +1,5 @@
 use Rattle.std.proofs.Common.{true, false, ap, ◌∙◌, sym}
-use Rattle.go_decide_core.specs.term_core.Shapes.{shape}
+use Rattle.go_term_core.specs.Shapes.{shape}
 use Rattle.go_decide_core.specs.table_core.Underlying.{IdenticalUnder}
 use Rattle.go_decide_core.specs.Identity.{identical_under_of}
 use Rattle.go_decide_core.proofs.Alike.{identity_decided}

@@ -1,6 +1,6 @@
 use Rattle.std.proofs.Common.{ap, sym, ◌∙◌}
-use Rattle.go_decide_core.specs.term_core.Shapes.{shape}
-use Rattle.go_decide_core.specs.term_core.TermShapes.{shape_interface}
+use Rattle.go_term_core.specs.Shapes.{shape}
+use Rattle.go_term_core.proofs.TermShapes.{shape_interface}
 use Rattle.go_handle_core.specs.mirrors.Bare.{asks_nothing}
 use Rattle.go_handle_core.proofs.Telling.{none_listed}
 use Rattle.go_handle_core.proofs.implementing.asks_nothing.Goals as goal

@@ -1,5 +1,5 @@
 use Rattle.std.proofs.Common.{sym, ◌∙◌}
-use Rattle.go_decide_core.specs.term_core.Shapes.{shape}
+use Rattle.go_term_core.specs.Shapes.{shape}
 use Rattle.go_handle_core.proofs.Telling.{two_stars, implements_nothing}
 use Rattle.go_handle_core.proofs.implementing.is_implementing.Goals as goal
 

@@ -1,5 +1,5 @@
-use Rattle.go_decide_core.specs.term_core.Shapes.{shape}
-use Rattle.go_decide_core.specs.term_core.Terms.{PointerTo}
+use Rattle.go_term_core.specs.Shapes.{shape}
+use Rattle.go_term_core.specs.Terms.{PointerTo}
 use Rattle.go_handle_core.proofs.Telling.{told_yes, told_no}
 use Rattle.go_handle_core.proofs.implementing.pointer_implements.Goals as goal
 

@@ -1,4 +1,4 @@
-use Rattle.go_decide_core.specs.term_core.Shapes.{shape}
+use Rattle.go_term_core.specs.Shapes.{shape}
 use Rattle.go_handle_core.proofs.Telling.{told_yes, told_no}
 use Rattle.go_handle_core.proofs.implementing.term_implements.Goals as goal
 

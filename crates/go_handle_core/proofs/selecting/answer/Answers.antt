@@ -1,6 +1,6 @@
 use Rattle.std.proofs.Common.{sym, ◌∙◌}
 use Rattle.go_text_core.specs.declared.rule.Rule.TheVariants.{S6}
-use Rattle.go_decide_core.specs.term_core.Shapes.{shape}
+use Rattle.go_term_core.specs.Shapes.{shape}
 use Rattle.go_decide_core.specs.table_core.Entries.{find_entry}
 use Rattle.go_decide_core.specs.level_core.Answering.{answers_refused}
 use Rattle.go_handle_core.proofs.Telling.{two_stars, no_member}

@@ -3,8 +3,8 @@ use Rattle.go_local_core.specs.mirrors.Walk.{look_in}
 use Rattle.go_around_core.specs.func_core.Stands.{looks_where, outer_meanings}
 use Rattle.go_tree_nodes.specs.declared.exprs.«Item» as declared_item
 use Rattle.go_tree_nodes.specs.Shapes.{items_of}
-use Rattle.go_spot_core.specs.Shown.{literal_shown, spot_shown}
-use Rattle.go_spot_core.specs.Used.{SpotTree, KeySpot}
+use Rattle.go_around_core.specs.spot_core.Shown.{literal_shown, spot_shown}
+use Rattle.go_around_core.specs.spot_core.Used.{SpotTree, KeySpot}
 use Rattle.go_around_core.specs.Arounds.{NamesAround, stand_shown}
 use Rattle.go_around_core.specs.Locals.{local_shown}
 use Rattle.go_around_core.proofs.Judging.{name_rests}

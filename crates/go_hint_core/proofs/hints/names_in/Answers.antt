@@ -1,7 +1,7 @@
 use Rattle.std.proofs.Common.{ap, sym, subst, ◌∙◌}
-use Rattle.go_place_core.specs.summary_core.Views.{PathsAreApart, exports_told, faces_told}
-use Rattle.go_place_core.specs.part_core.Inputs.{InputModel}
-use Rattle.go_place_core.specs.part_core.Parts.{ContentOf}
+use Rattle.go_complete_core.specs.summary_core.Views.{PathsAreApart, exports_told, faces_told}
+use Rattle.go_complete_core.specs.part_core.Inputs.{InputModel}
+use Rattle.go_complete_core.specs.part_core.Parts.{ContentOf}
 use Rattle.go_hint_core.proofs.Giving.{is_package}
 use Rattle.go_hint_core.proofs.hints.names_in.Goals as goal
 

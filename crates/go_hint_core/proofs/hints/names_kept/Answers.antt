@@ -1,9 +1,9 @@
 use Rattle.std.proofs.Common.{List, map, ap, ◌∙◌}
 use Rattle.go_around_core.specs.entry_core.Showing.{shown_in}
-use Rattle.go_place_core.specs.ready_core.Packages.{package_in_shown}
-use Rattle.go_spot_core.specs.Spots.{spot_seen}
-use Rattle.go_place_core.specs.part_core.declared.files.PartFile.{PartFile}
-use Rattle.go_place_core.specs.part_core.Parts.{ContentOf, file_shown}
+use Rattle.go_complete_core.specs.ready_core.Packages.{package_in_shown}
+use Rattle.go_around_core.specs.spot_core.Spots.{spot_seen}
+use Rattle.go_complete_core.specs.part_core.declared.files.PartFile.{PartFile}
+use Rattle.go_complete_core.specs.part_core.Parts.{ContentOf, file_shown}
 use Rattle.go_hint_core.proofs.Giving.{item_none, item_there, kept_there, nothing_kept}
 use Rattle.go_hint_core.proofs.hints.names_kept.Goals as goal
 

@@ -3,10 +3,10 @@ use Rattle.std.specs.Option.{option_map}
 use Rattle.go_around_core.specs.entry_core.Outlines.{outline_shown}
 use Rattle.go_around_core.specs.face_core.Faces.{face_shown}
 use Rattle.go_around_core.specs.entry_core.Showing.{shown_in}
-use Rattle.go_place_core.specs.ready_core.Packages.{package_in_shown}
-use Rattle.go_spot_core.specs.Spots.{spot_seen}
-use Rattle.go_place_core.specs.package_core.Checked.{local_shown}
-use Rattle.go_place_core.specs.part_core.Parts.{ContentOf, file_shown}
+use Rattle.go_complete_core.specs.ready_core.Packages.{package_in_shown}
+use Rattle.go_around_core.specs.spot_core.Spots.{spot_seen}
+use Rattle.go_complete_core.specs.package_core.Checked.{local_shown}
+use Rattle.go_complete_core.specs.part_core.Parts.{ContentOf, file_shown}
 use Rattle.go_hint_core.proofs.Giving.{named_by}
 use Rattle.go_hint_core.proofs.hints.names_of_file.Goals as goal
 

@@ -2,9 +2,9 @@ use Rattle.std.proofs.Common.{List, map, ap, ◌∙◌}
 use Rattle.go_around_core.specs.entry_core.Outlines.{FileOutline, outline_shown}
 use Rattle.go_around_core.specs.entry_core.Showing.{shown_in}
 use Rattle.go_around_core.specs.face_core.Written.{package_written}
-use Rattle.go_place_core.specs.ready_core.Packages.{outlines_in, package_in_shown}
-use Rattle.go_place_core.specs.ready_core.Made.{all_outlines}
-use Rattle.go_spot_core.specs.Spots.{spot_seen}
+use Rattle.go_complete_core.specs.ready_core.Packages.{outlines_in, package_in_shown}
+use Rattle.go_complete_core.specs.ready_core.Made.{all_outlines}
+use Rattle.go_around_core.specs.spot_core.Spots.{spot_seen}
 use Rattle.go_hint_core.proofs.Giving.{item_none, item_there, no_outline, outline_at}
 use Rattle.go_hint_core.proofs.hints.names_over.Goals as goal
 

@@ -1,10 +1,10 @@
 use Rattle.std.proofs.Common.{List, map, ap, ◌∙◌, subst}
 use Rattle.go_local_core.specs.mirrors.Walk.{Names}
-use Rattle.go_place_core.specs.package_core.Checked.{local_shown}
+use Rattle.go_complete_core.specs.package_core.Checked.{local_shown}
 use Rattle.go_around_core.specs.Locals as around
 use Rattle.go_around_core.specs.declared.local.OpenLocal.{OpenLocal}
 use Rattle.go_around_core.specs.env_core.declared.meaning.Meaning.{Meaning}
-use Rattle.go_spot_core.specs.Shown.{idents_shown, spot_shown}
+use Rattle.go_around_core.specs.spot_core.Shown.{idents_shown, spot_shown}
 use Rattle.go_around_core.specs.Arounds.{NamesAround}
 use Rattle.go_hint_core.specs.Kept.{open_by}
 use Rattle.go_hint_core.proofs.hints.names_with.Goals as goal

@@ -1,5 +1,5 @@
 use Rattle.std.proofs.Common.{◌≡◌, take}
-use Rattle.go_place_core.specs.Completions.{texts_of}
+use Rattle.go_complete_core.specs.place_core.Completions.{texts_of}
 use Rattle.go_hint_core.proofs.hints.texts.Given as goal
 
 abbrev pub invariant-loop-name : goal.invariant-loop-name

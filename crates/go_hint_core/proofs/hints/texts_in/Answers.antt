@@ -1,5 +1,5 @@
 use Rattle.std.proofs.Common.{List, ℕ, sym, ◌∙◌, subst}
-use Rattle.go_spot_core.specs.Spots.{spot_seen}
+use Rattle.go_around_core.specs.spot_core.Spots.{spot_seen}
 use Rattle.go_hint_core.specs.Hints.{AreNamesWith}
 use Rattle.go_hint_core.proofs.hints.texts_in.Goals as goal
 

@@ -1,5 +1,5 @@
 use Rattle.std.proofs.Common.{◌≡◌, drop, map}
-use Rattle.go_place_core.specs.package_core.Checked.{local_shown}
+use Rattle.go_complete_core.specs.package_core.Checked.{local_shown}
 use Rattle.go_hint_core.specs.Kept.{kept_at}
 use Rattle.go_hint_core.proofs.kept.kept_at.Given as goal
 

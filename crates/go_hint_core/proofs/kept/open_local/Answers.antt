@@ -2,7 +2,7 @@ use Rattle.std.proofs.Common.{ℕ, List, Option, sym, ap, ap₂, ◌∙◌}
 use Rattle.std.specs.Option.{option_map}
 use Rattle.go_around_core.specs.face_core.Faces.{operand_shown}
 use Rattle.go_around_core.specs.env_core.declared.meaning.Meaning.TheVariants as meanings
-use Rattle.go_place_core.specs.body_core.Notes.{TheValue}
+use Rattle.go_complete_core.specs.body_core.Notes.{TheValue}
 use Rattle.go_hint_core.specs.Kept.{value_or_none}
 use Rattle.go_hint_core.proofs.kept.open_local.Goals as goal
 

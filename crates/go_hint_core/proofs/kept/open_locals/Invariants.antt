@@ -1,5 +1,5 @@
 use Rattle.std.proofs.Common.{◌≡◌, map, take}
-use Rattle.go_place_core.specs.package_core.Checked.{local_shown}
+use Rattle.go_complete_core.specs.package_core.Checked.{local_shown}
 use Rattle.go_around_core.specs.Locals as around
 use Rattle.go_hint_core.specs.Kept.{open_by}
 use Rattle.go_hint_core.proofs.kept.open_locals.Given as goal

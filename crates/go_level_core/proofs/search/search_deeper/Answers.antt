@@ -1,5 +1,5 @@
 use Rattle.std.proofs.Common.{◌≤◌, ◌||◌, length, subst, sym, ap, ◌∙◌, arith}
-use Rattle.go_embed_core.specs.term_core.Shapes.{shape}
+use Rattle.go_term_core.specs.Shapes.{shape}
 use Rattle.go_embed_core.specs.table_core.Entries.{find_entry}
 use Rattle.go_embed_core.specs.OwnersShown.{found_shown}
 use Rattle.go_level_core.specs.Selectors.{IsMissing}

@@ -1,4 +1,4 @@
-use Rattle.go_embed_core.specs.term_core.Shapes.{shape}
+use Rattle.go_term_core.specs.Shapes.{shape}
 use Rattle.go_level_core.specs.mirrors.Ways.{ways}
 use Rattle.go_level_core.specs.mirrors.Levels.{height}
 use Rattle.go_level_core.proofs.Searching.{SearchTo}

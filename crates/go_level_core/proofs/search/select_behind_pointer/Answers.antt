@@ -1,6 +1,6 @@
 use Rattle.std.proofs.Common.{sym, ap, ◌∙◌}
-use Rattle.go_embed_core.specs.term_core.Terms.{PointerTo}
-use Rattle.go_embed_core.specs.term_core.Shapes.{shape}
+use Rattle.go_term_core.specs.Terms.{PointerTo}
+use Rattle.go_term_core.specs.Shapes.{shape}
 use Rattle.go_embed_core.specs.table_core.Entries.{find_entry}
 use Rattle.go_level_core.specs.Selectors.{In, FieldsIn}
 use Rattle.go_level_core.specs.mirrors.Operands.{operand_shown}

@@ -1,7 +1,7 @@
 use Rattle.std.proofs.Common.{List, subst, sym}
 use Rattle.std.specs.Prelude.{◌↔◌, Contains}
 use Rattle.std.proofs.lemmas.Result.{IfOk-weaker}
-use Rattle.go_cycle_core.specs.declared.edge.Edge.{Edge}
+use Rattle.go_graph_core.specs.cycle_core.declared.edge.Edge.{Edge}
 use Rattle.go_graph_core.specs.Imports.{IsEdge}
 use Rattle.go_list_core.proofs.Marking.{mark_cycles}
 use Rattle.go_list_core.proofs.judging.cycle_marks.Goals as goal

@@ -1,5 +1,5 @@
 use Rattle.std.proofs.Common.{List, ℕ, subst}
-use Rattle.go_path_core.specs.Path.{MayImport, elements}
+use Rattle.go_graph_core.specs.path_core.Path.{MayImport, elements}
 use Rattle.go_list_core.proofs.Standings.{usable}
 use Rattle.go_list_core.proofs.listing.may_use.Goals as goal
 

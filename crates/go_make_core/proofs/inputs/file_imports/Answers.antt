@@ -2,7 +2,7 @@ use Rattle.std.proofs.Common.{◌≡◌, ℕ, ◌<◌, ◌≤◌, length, [], ma
 use Rattle.std.proofs.lemmas.List.{length-map, take_all}
 use Rattle.go_tree_nodes.specs.Shapes.{file_of}
 use Rattle.go_tree_nodes.specs.Trees.{ImportSpecTree}
-use Rattle.go_graph_core.specs.Lists.{AllNumbered}
+use Rattle.go_whole_core.specs.graph_core.Lists.{AllNumbered}
 use Rattle.go_whole_core.specs.mirrors.Steps.{exports_in}
 use Rattle.go_whole_core.specs.block_core.declared.imports.Imported.{Imported}
 use Rattle.go_whole_core.specs.block_core.Naming.{file_specs, import_at}

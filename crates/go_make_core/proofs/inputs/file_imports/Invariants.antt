@@ -1,6 +1,6 @@
 use Rattle.std.proofs.Common.{take}
 use Rattle.go_tree_nodes.specs.Shapes.{file_of}
-use Rattle.go_graph_core.specs.Lists.{AllNumbered}
+use Rattle.go_whole_core.specs.graph_core.Lists.{AllNumbered}
 use Rattle.go_whole_core.specs.mirrors.Steps.{exports_in}
 use Rattle.go_whole_core.specs.block_core.Naming.{file_specs, import_at}
 use Rattle.go_whole_core.specs.block_core.mirrors.Steps.{IsPlanned}

@@ -1,7 +1,7 @@
 use Rattle.std.proofs.Common.{◌≡◌, Some, None, sym, subst, ◌∙◌}
 use Rattle.std.proofs.lemmas.Result.{IfOk-weaker}
-use Rattle.go_graph_core.specs.declared.imports.ImportOutcome.{ImportOutcome}
-use Rattle.go_graph_core.specs.Plans.{outcome_at}
+use Rattle.go_whole_core.specs.graph_core.declared.imports.ImportOutcome.{ImportOutcome}
+use Rattle.go_whole_core.specs.graph_core.Plans.{outcome_at}
 use Rattle.go_whole_core.specs.mirrors.Steps.{exports_in}
 use Rattle.go_whole_core.specs.block_core.mirrors.Steps.{HasExports}
 use Rattle.go_make_core.proofs.inputs.imported_at.Goals as goal

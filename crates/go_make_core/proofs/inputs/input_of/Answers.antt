@@ -1,7 +1,7 @@
 use Rattle.std.proofs.Common.{◌≡◌, Some, map, sym, ap, subst, ◌∙◌}
 use Rattle.std.specs.Prelude.{slice_get}
-use Rattle.go_graph_core.specs.Packages.{IsAssembled, trees_of}
-use Rattle.go_graph_core.specs.Workspaces.{PackageModel}
+use Rattle.go_whole_core.specs.graph_core.Packages.{IsAssembled, trees_of}
+use Rattle.go_whole_core.specs.graph_core.Workspaces.{PackageModel}
 use Rattle.go_whole_core.specs.block_core.GivenSteps.{have_one_each}
 use Rattle.go_whole_core.specs.block_core.Naming.{imported_in}
 use Rattle.go_whole_core.specs.block_core.mirrors.Steps.{IsPlanned}

@@ -1,8 +1,8 @@
 use Rattle.std.proofs.Common.{◌≡◌, Some, Ok, Err, refl, sym, ap, subst, ◌∙◌}
 use Rattle.std.proofs.lemmas.Option.{get_or_from_slice_get}
-use Rattle.go_graph_core.proofs.AssemblyLaws.{has_no_other_assembly}
-use Rattle.go_graph_core.specs.Packages.{IsAssembled, trees_of}
-use Rattle.go_graph_core.specs.Workspaces.{PackageModel}
+use Rattle.go_whole_core.specs.graph_core.AssemblyLaws.{has_no_other_assembly}
+use Rattle.go_whole_core.specs.graph_core.Packages.{IsAssembled, trees_of}
+use Rattle.go_whole_core.specs.graph_core.Workspaces.{PackageModel}
 use Rattle.go_make_core.proofs.inputs.package_at.Goals as goal
 
 pub unreachable-requires : goal.unreachable-requires

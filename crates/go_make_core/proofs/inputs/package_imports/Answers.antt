@@ -1,8 +1,8 @@
 use Rattle.std.proofs.Common.{◌≡◌, ◌<◌, ◌≤◌, length, [], map, sym, ap, subst, ◌∙◌, arith}
 use Rattle.std.proofs.lemmas.List.{take_all}
 use Rattle.go_tree_nodes.specs.Shapes.{file_of}
-use Rattle.go_graph_core.specs.Packages.{trees_of}
-use Rattle.go_graph_core.proofs.Assemblies.{as_many}
+use Rattle.go_whole_core.specs.graph_core.Packages.{trees_of}
+use Rattle.go_whole_core.specs.graph_core.Assemblies.{as_many}
 use Rattle.go_whole_core.specs.mirrors.Steps.{exports_in}
 use Rattle.go_whole_core.specs.block_core.Naming.{AreInPackage, imported_in}
 use Rattle.go_whole_core.specs.block_core.mirrors.Steps.{IsPlanned, AreReadyIn}

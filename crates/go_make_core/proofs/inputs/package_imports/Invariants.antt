@@ -1,5 +1,5 @@
 use Rattle.std.proofs.Common.{take, map}
-use Rattle.go_graph_core.specs.Packages.{trees_of}
+use Rattle.go_whole_core.specs.graph_core.Packages.{trees_of}
 use Rattle.go_whole_core.specs.mirrors.Steps.{exports_in}
 use Rattle.go_whole_core.specs.block_core.Naming.{AreInPackage, imported_in}
 use Rattle.go_whole_core.specs.block_core.mirrors.Steps.{IsPlanned}

@@ -1,6 +1,6 @@
 use Rattle.std.proofs.Common.{◌≡◌, ◌<◌, ℕ, List, All, true, false, length, refl, sym, ap, subst, ◌∙◌, arith}
 use Rattle.std.proofs.lemmas.Option.{slice_get_within}
-use Rattle.go_graph_core.specs.Workspaces.{AreAllRead}
+use Rattle.go_whole_core.specs.graph_core.Workspaces.{AreAllRead}
 use Rattle.go_reach_core.specs.Numbers.{Numbers}
 use Rattle.go_whole_core.specs.part_core.Inputs.{InputModel, path_in}
 use Rattle.go_whole_core.specs.part_core.Parts.{PartModel}

@@ -3,7 +3,7 @@ use Rattle.std.specs.Prelude.{slice_index, slice_set}
 use Rattle.std.specs.Option.{option_map}
 use Rattle.std.proofs.lemmas.List.{length-map}
 use Rattle.std.proofs.lemmas.Option.{slice_get_within}
-use Rattle.go_graph_core.specs.Plans.{plan_of}
+use Rattle.go_whole_core.specs.graph_core.Plans.{plan_of}
 use Rattle.go_whole_core.specs.entry_core.Showing.{with_shown}
 use Rattle.go_whole_core.specs.face_core.Packages.{with_faces}
 use Rattle.go_whole_core.specs.mirrors.Steps.{AreMade, IsNext, IsRight, SoFar}

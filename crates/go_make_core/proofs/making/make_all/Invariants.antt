@@ -1,5 +1,5 @@
 use Rattle.std.proofs.Common.{◌≡◌, []}
-use Rattle.go_graph_core.specs.Plans.{plan_of}
+use Rattle.go_whole_core.specs.graph_core.Plans.{plan_of}
 use Rattle.go_whole_core.specs.mirrors.Steps.{SoFar}
 use Rattle.go_make_core.specs.Keeping.{AreKept, AreMarked}
 use Rattle.go_make_core.specs.Telling.{told_of}

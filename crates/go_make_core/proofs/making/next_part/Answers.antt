@@ -1,6 +1,6 @@
 use Rattle.std.proofs.Common.{◌≡◌, true, false, refl, sym, ap, subst, ◌∙◌}
-use Rattle.go_graph_core.proofs.OutcomeLaws.{all_at_place}
-use Rattle.go_graph_core.specs.Workspaces.{AreAllRead}
+use Rattle.go_whole_core.specs.graph_core.OutcomeLaws.{all_at_place}
+use Rattle.go_whole_core.specs.graph_core.Workspaces.{AreAllRead}
 use Rattle.go_whole_core.specs.table_core.Tables.{AreOthers}
 use Rattle.go_whole_core.specs.part_core.Inputs.{path_in}
 use Rattle.go_whole_core.specs.part_core.Parts.{IsPart, PartModel}

@@ -1,6 +1,6 @@
 use Rattle.std.proofs.Common.{rules}
 use Rattle.std.proofs.lemmas.Fn.{always_returns_same}
-use Rattle.go_graph_core.specs.Workspaces.{by_bytes}
+use Rattle.go_whole_core.specs.graph_core.Workspaces.{by_bytes}
 use Rattle.go_make_core.proofs.Finding.{package_found}
 use Rattle.go_make_core.proofs.search.package_of.Goals as goal
 

@@ -1,5 +1,5 @@
 use Rattle.std.proofs.Common.{◌≡◌, ◌++◌, drop, map}
-use Rattle.go_make_core.specs.package_core.Checked.{local_shown}
+use Rattle.go_part_core.specs.package_core.Checked.{local_shown}
 use Rattle.go_meaning_core.specs.Looking.{locals_meant}
 use Rattle.go_meaning_core.proofs.names.local_items.Given as goal
 

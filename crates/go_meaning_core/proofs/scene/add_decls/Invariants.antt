@@ -1,5 +1,5 @@
 use Rattle.std.proofs.Common.{◌≡◌, ◌++◌, drop, map}
-use Rattle.go_decl_core.specs.Shown.{decl_shown}
+use Rattle.go_term_core.specs.decl_core.Shown.{decl_shown}
 use Rattle.go_meaning_core.specs.Scenes.{decl_at}
 use Rattle.go_meaning_core.proofs.scene.add_decls.Given as goal
 

@@ -1,5 +1,5 @@
 use Rattle.std.proofs.Common.{◌≡◌, ◌++◌, drop, map}
-use Rattle.go_make_core.specs.entry_core.Outlines.{outline_shown}
+use Rattle.go_part_core.specs.entry_core.Outlines.{outline_shown}
 use Rattle.go_meaning_core.specs.mirrors.Listing.{outlines_decls}
 use Rattle.go_meaning_core.proofs.scene.decls_of.Given as goal
 

@@ -2,10 +2,10 @@ use Rattle.std.proofs.Common.{List, Option, map, ap, ◌∙◌}
 use Rattle.std.specs.Option.{option_map}
 use Rattle.go_term_core.specs.declared.term.TypeTerm.{TypeTerm}
 use Rattle.go_term_core.specs.declared.term.Signature.{Signature}
-use Rattle.go_make_core.specs.entry_core.Outlines.{outline_shown}
-use Rattle.go_make_core.specs.face_core.declared.face.Face.{Face}
-use Rattle.go_make_core.specs.face_core.Faces.{face_shown}
-use Rattle.go_make_core.specs.part_core.Parts.{ContentOf}
+use Rattle.go_part_core.specs.entry_core.Outlines.{outline_shown}
+use Rattle.go_part_core.specs.face_core.declared.face.Face.{Face}
+use Rattle.go_part_core.specs.face_core.Faces.{face_shown}
+use Rattle.go_part_core.specs.Parts.{ContentOf}
 use Rattle.go_meaning_core.specs.mirrors.Naming.{code_scene_shown}
 use Rattle.go_meaning_core.proofs.Outlined.{scene_made}
 use Rattle.go_meaning_core.proofs.scene.names_of.Goals as goal

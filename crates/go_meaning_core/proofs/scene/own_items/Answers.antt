@@ -1,6 +1,6 @@
 use Rattle.std.proofs.Common.{◌++◌, map, sym, ap, ◌∙◌, append-nil}
 use Rattle.std.specs.Option.{option_map}
-use Rattle.go_make_core.specs.face_core.Faces.{face_shown}
+use Rattle.go_part_core.specs.face_core.Faces.{face_shown}
 use Rattle.go_lookup_core.specs.mirrors.Spotting.{item_shown}
 use Rattle.go_meaning_core.proofs.Ending.{own_end}
 use Rattle.go_meaning_core.proofs.scene.own_items.Goals as goal

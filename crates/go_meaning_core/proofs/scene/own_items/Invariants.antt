@@ -1,6 +1,6 @@
 use Rattle.std.proofs.Common.{◌≡◌, ◌++◌, drop, map}
 use Rattle.std.specs.Option.{option_map}
-use Rattle.go_make_core.specs.face_core.Faces.{face_shown}
+use Rattle.go_part_core.specs.face_core.Faces.{face_shown}
 use Rattle.go_meaning_core.specs.Scenes.{own_spotted}
 use Rattle.go_lookup_core.specs.mirrors.Spotting.{item_shown}
 use Rattle.go_meaning_core.proofs.scene.own_items.Given as goal

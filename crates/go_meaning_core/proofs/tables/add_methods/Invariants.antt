@@ -1,5 +1,5 @@
 use Rattle.std.proofs.Common.{◌≡◌, ◌++◌, drop, map}
-use Rattle.go_make_core.specs.table_core.Shown.{member_shown}
+use Rattle.go_part_core.specs.table_core.Shown.{member_shown}
 use Rattle.go_meaning_core.specs.Scenes.{method_spotted}
 use Rattle.go_lookup_core.specs.mirrors.Spotting.{item_shown}
 use Rattle.go_meaning_core.proofs.tables.add_methods.Given as goal

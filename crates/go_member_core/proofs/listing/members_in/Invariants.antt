@@ -1,5 +1,5 @@
 use Rattle.std.proofs.Common.{◌≡◌, map, take}
-use Rattle.go_table_core.specs.Entries.{find_entry}
+use Rattle.go_handle_core.specs.table_core.Entries.{find_entry}
 use Rattle.go_term_core.specs.Shapes.{shape}
 use Rattle.go_member_core.specs.Members.{member_with, type_member_shown}
 use Rattle.go_member_core.proofs.listing.members_in.Given as goal

@@ -1,5 +1,5 @@
 use Rattle.std.proofs.Common.{map, sym, ap, ◌∙◌, subst}
-use Rattle.go_table_core.specs.Entries.{find_entry}
+use Rattle.go_handle_core.specs.table_core.Entries.{find_entry}
 use Rattle.go_term_core.specs.Shapes.{shape}
 use Rattle.go_member_core.specs.Members.{AreMembers, member_with}
 use Rattle.go_member_core.proofs.Denoting.{are_members}

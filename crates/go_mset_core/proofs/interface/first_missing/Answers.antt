@@ -1,6 +1,6 @@
 use Rattle.std.proofs.Common.{◌≡◌, ◌+◌, ◌∷◌, [], ◌++◌, take, sym, ap, ◌∙◌, subst}
 use Rattle.std.proofs.lemmas.List.{take_more}
-use Rattle.go_select_core.specs.term_core.Shapes.{method_shapes}
+use Rattle.go_term_core.specs.Shapes.{method_shapes}
 use Rattle.go_select_core.specs.table_core.Entries.{find_entry}
 use Rattle.go_mset_core.specs.mirrors.Asking.{holder_shown, text_shown, IsLeastMissing}
 use Rattle.go_mset_core.proofs.Answering.{least_next}

@@ -1,5 +1,5 @@
 use Rattle.std.proofs.Common.{take}
-use Rattle.go_select_core.specs.term_core.Shapes.{method_shapes}
+use Rattle.go_term_core.specs.Shapes.{method_shapes}
 use Rattle.go_select_core.specs.table_core.Entries.{find_entry}
 use Rattle.go_mset_core.specs.mirrors.Asking.{holder_shown, text_shown, IsLeastMissing}
 use Rattle.go_mset_core.proofs.interface.first_missing.Given as goal

@@ -1,5 +1,5 @@
 use Rattle.std.proofs.Common.{◌≡◌, true, false, inl, inr}
-use Rattle.go_select_core.specs.term_core.SameLists.{fails}
+use Rattle.go_term_core.proofs.SameLists.{fails}
 use Rattle.go_select_core.specs.table_core.Entries.{find_entry}
 use Rattle.go_mset_core.specs.mirrors.Asking.{holder_shown, sign_wanted}
 use Rattle.go_mset_core.proofs.Answering.{answer_has, rule_lacks}

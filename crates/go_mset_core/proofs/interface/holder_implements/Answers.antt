@@ -1,7 +1,7 @@
 use Rattle.std.proofs.Common.{IfOk, sym, ap, ◌∙◌, subst}
-use Rattle.go_select_core.specs.term_core.Terms.{InterfaceOf}
-use Rattle.go_select_core.specs.term_core.Shapes.{shape, method_shapes}
-use Rattle.go_select_core.specs.term_core.TermShapes.{shape_interface}
+use Rattle.go_term_core.specs.Terms.{InterfaceOf}
+use Rattle.go_term_core.specs.Shapes.{shape, method_shapes}
+use Rattle.go_term_core.proofs.TermShapes.{shape_interface}
 use Rattle.go_select_core.specs.table_core.Entries.{find_entry}
 use Rattle.go_mset_core.specs.Implementing.{IsImplementsAnswer}
 use Rattle.go_mset_core.specs.mirrors.Asking.{holder_shown}

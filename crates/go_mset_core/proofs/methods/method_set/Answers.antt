@@ -1,6 +1,6 @@
 use Rattle.std.proofs.Common.{◌≡◌, sym, subst}
 use Rattle.go_select_core.specs.table_core.Entries.{find_entry}
-use Rattle.go_select_core.specs.term_core.Shapes.{shape}
+use Rattle.go_term_core.specs.Shapes.{shape}
 use Rattle.go_mset_core.specs.MethodLists.{IsMethodSet}
 use Rattle.go_mset_core.specs.mirrors.Keeping.{kept}
 use Rattle.go_mset_core.proofs.MethodSorts.{set_of_kept, ok_then}

@@ -1,8 +1,8 @@
 use Rattle.std.proofs.Common.{◌≡◌, length, sym, ◌∙◌, arith}
-use Rattle.go_select_core.specs.term_core.declared.term.Basic.TheVariants as basics
-use Rattle.go_select_core.specs.term_core.Terms.{NoType, Predeclared, sign_results}
-use Rattle.go_select_core.specs.term_core.Shapes.{shape, sign_of}
-use Rattle.go_select_core.specs.term_core.SameLists.{fails}
+use Rattle.go_term_core.specs.declared.term.Basic.TheVariants as basics
+use Rattle.go_term_core.specs.Terms.{NoType, Predeclared, sign_results}
+use Rattle.go_term_core.specs.Shapes.{shape, sign_of}
+use Rattle.go_term_core.proofs.SameLists.{fails}
 use Rattle.go_mset_core.proofs.Answering.{not_alone, alone}
 use Rattle.go_mset_core.proofs.wanted.has_text_alone.Goals as goal
 

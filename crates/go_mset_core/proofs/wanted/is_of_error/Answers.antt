@@ -1,4 +1,4 @@
-use Rattle.go_select_core.specs.term_core.Shapes.{sign_of}
+use Rattle.go_term_core.specs.Shapes.{sign_of}
 use Rattle.go_mset_core.proofs.Answering.{of_error}
 use Rattle.go_mset_core.proofs.wanted.is_of_error.Goals as goal
 

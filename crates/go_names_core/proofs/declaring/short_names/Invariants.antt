@@ -1,5 +1,5 @@
 use Rattle.std.proofs.Common.{◌≡◌, [], map, take}
-use Rattle.go_open_core.specs.Blocks.{innermost, short_names, list_names}
+use Rattle.go_walk_core.specs.open_core.Blocks.{innermost, short_names, list_names}
 use Rattle.go_walk_core.specs.local_core.Faults.{spellings}
 use Rattle.go_names_core.proofs.declaring.short_names.Given as goal
 

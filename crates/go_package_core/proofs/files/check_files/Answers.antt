@@ -5,10 +5,10 @@ use Rattle.std.proofs.lemmas.List.{length-map, take_all}
 use Rattle.std.proofs.lemmas.List.FromFn.{length-enumerate_from}
 use Rattle.go_tree_nodes.specs.Shapes.{file_of}
 use Rattle.go_ready_core.specs.graph_core.Packages.{trees_of, tree_shown}
-use Rattle.go_used_core.specs.decl_core.Shown.{decl_shown}
-use Rattle.go_file_core.specs.entry_core.Outlines.{outline_shown}
-use Rattle.go_used_core.specs.face_core.Laws.{package_decls}
-use Rattle.go_file_core.specs.env_core.Scenes.{scene_shown}
+use Rattle.go_term_core.specs.decl_core.Shown.{decl_shown}
+use Rattle.go_ready_core.specs.entry_core.Outlines.{outline_shown}
+use Rattle.go_ready_core.specs.face_core.Laws.{package_decls}
+use Rattle.go_ready_core.specs.env_core.Scenes.{scene_shown}
 use Rattle.go_ready_core.specs.Inlines.{AreOutlinedTypes, types_stand}
 use Rattle.go_ready_core.specs.Packages.{outlines_in, package_in_shown}
 use Rattle.go_package_core.specs.Checked.{IsFileChecked, answers_shown}

@@ -1,7 +1,7 @@
 use Rattle.std.proofs.Common.{◌≡◌, map, length, take}
 use Rattle.std.specs.List.{AllZip, enumerate_from}
-use Rattle.go_file_core.specs.entry_core.Outlines.{outline_shown}
-use Rattle.go_used_core.specs.face_core.Laws.{package_decls}
+use Rattle.go_ready_core.specs.entry_core.Outlines.{outline_shown}
+use Rattle.go_ready_core.specs.face_core.Laws.{package_decls}
 use Rattle.go_ready_core.specs.Packages.{package_in_shown}
 use Rattle.go_package_core.specs.Checked.{IsFileChecked, answers_shown}
 use Rattle.go_package_core.proofs.files.check_files.Given as goal

@@ -1,11 +1,11 @@
 use Rattle.std.proofs.Common.{map, length, ap, sym, subst, ◌∙◌}
 use Rattle.std.proofs.lemmas.List.{length-map}
-use Rattle.go_file_core.specs.entry_core.Outlines.{outline_shown}
-use Rattle.go_used_core.specs.face_core.Written.{decls_of}
-use Rattle.go_file_core.specs.env_core.Scenes.{scene_shown}
+use Rattle.go_ready_core.specs.entry_core.Outlines.{outline_shown}
+use Rattle.go_ready_core.specs.face_core.Written.{decls_of}
+use Rattle.go_ready_core.specs.env_core.Scenes.{scene_shown}
 use Rattle.go_ready_core.specs.value_core.Laws.{AreFaces}
 use Rattle.go_ready_core.specs.value_core.Package.{AreThroughThemselves}
-use Rattle.go_used_core.specs.answer_core.Shown.{package_shown}
+use Rattle.go_ready_core.specs.answer_core.Shown.{package_shown}
 use Rattle.std.specs.List.{AllZip, enumerate_from}
 use Rattle.go_ready_core.specs.Packages.{package_in_shown}
 use Rattle.go_ready_core.proofs.Tables.{looped_written, values_written}

@@ -1,6 +1,6 @@
 use Rattle.std.proofs.Common.{refl, map, ◌≡◌, ◌+◌, ◌<◌, ◌∙◌, max, true, sym, ap, arith, Ok}
 use Rattle.std.proofs.lemmas.Result.{err_from_is_err_and}
-use Rattle.go_token_core.specs.declared.kind.Operator.TheVariants as operator
+use Rattle.go_tree_nodes.specs.token_core.declared.kind.Operator.TheVariants as operator
 use Rattle.go_parse_types.proofs.CodeLists.{list_step, list_step_shorter, list_step_fails, list_end}
 use Rattle.go_parse_types.proofs.CodeSteps.{none_of, some_of}
 use Rattle.go_parse_types.proofs.CodeTypes.{pushed}

@@ -1,6 +1,6 @@
 use Rattle.std.proofs.Common.{sym}
 use Rattle.std.proofs.lemmas.Result.{err_from_is_err_and}
-use Rattle.go_parse_types.proofs.CodeSteps.{none_of}
+use Rattle.go_parse_exprs.specs.parse_types.CodeSteps.{none_of}
 use Rattle.go_parse_stmts.proofs.CodeHeads.{if_is, if_fails}
 use Rattle.go_parse_stmts.proofs.headers.if_head.Goals as goal
 

@@ -2,7 +2,7 @@ use Rattle.std.proofs.Common.{arith, sym, ap, ◌∙◌, Ok}
 use Rattle.std.proofs.lemmas.Result.{err_from_is_err_and}
 use Rattle.go_tree_nodes.proofs.ShapeLemmas.{shape_block, shape_looped, shape_else_block, shape_branched}
 use Rattle.go_tree_nodes.specs.Shapes.{shape_if, shape_for, shape_else}
-use Rattle.go_parse_types.proofs.CodeSteps.{none_of, some_of}
+use Rattle.go_parse_exprs.specs.parse_types.CodeSteps.{none_of, some_of}
 use Rattle.go_parse_stmts.proofs.CodeStmts.{declared_is, returned_is, broken_is, continued_is, if_is, loop_is, plain_is, lines_none, lines_too_high, lines_fails, line_more, line_shorter, line_last, line_missing, lines_end, block_zero, block_fails, block_open, block_closed, block_is, block_stops, for_is, else_is, else_if_too_high, else_if_fails, else_if_is, branch_is, branch_fails}
 use Rattle.go_parse_stmts.proofs.stmts.+statements.Goals as goal
 

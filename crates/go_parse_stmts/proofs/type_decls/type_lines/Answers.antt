@@ -1,8 +1,8 @@
 use Rattle.std.proofs.lemmas.Result.{err_from_is_err_and}
 use Rattle.go_tree_nodes.specs.Shapes.{shape_type_line}
-use Rattle.go_parse_types.proofs.CodeSteps.{none_of, some_of}
-use Rattle.go_parse_types.proofs.CodeLists.{list_fails, list_end}
-use Rattle.go_parse_types.proofs.CodeTypes.{pushed}
+use Rattle.go_parse_exprs.specs.parse_types.CodeSteps.{none_of, some_of}
+use Rattle.go_parse_exprs.specs.parse_types.CodeLists.{list_fails, list_end}
+use Rattle.go_parse_exprs.specs.parse_types.CodeTypes.{pushed}
 use Rattle.go_parse_stmts.proofs.CodeLines.{turn_more, turn_shorter, turn_last, turn_missing}
 use Rattle.go_parse_stmts.proofs.CodeSpecs.{type_spec_shorter}
 use Rattle.go_parse_stmts.proofs.type_decls.type_lines.Goals as goal

@@ -1,8 +1,8 @@
 use Rattle.std.proofs.Common.{length, map}
-use Rattle.go_token_core.specs.declared.kind.Operator.TheVariants as operator
+use Rattle.go_tree_nodes.specs.token_core.declared.kind.Operator.TheVariants as operator
 use Rattle.go_tree_nodes.specs.Shapes.{shape_type_line}
 use Rattle.go_tree_nodes.specs.Trees.{TypeSpecTree}
-use Rattle.go_parse_types.proofs.CodeLists.{ListSoFar}
+use Rattle.go_parse_exprs.specs.parse_types.CodeLists.{ListSoFar}
 use Rattle.go_parse_stmts.specs.mirrors.StmtReading.{type_spec_at}
 use Rattle.go_parse_stmts.proofs.type_decls.type_lines.Given as goal
 

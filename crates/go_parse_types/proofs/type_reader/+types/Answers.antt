@@ -1,6 +1,6 @@
 use Rattle.std.proofs.Common.{map, arith, sym, ap, ◌∙◌, Ok}
 use Rattle.std.proofs.lemmas.Result.{err_from_is_err_and}
-use Rattle.go_token_core.specs.declared.kind.Operator.TheVariants as operator
+use Rattle.go_tree_nodes.specs.token_core.declared.kind.Operator.TheVariants as operator
 use Rattle.go_tree_nodes.proofs.TypeShapes.{shape_struct, shape_interface, shape_listed, shape_signed}
 use Rattle.go_parse_types.specs.mirrors.EntryShapes.{entry_of, line_of, method_of}
 use Rattle.go_parse_types.specs.mirrors.TypeReading.{type_at, entry_at, line_at, method_at}

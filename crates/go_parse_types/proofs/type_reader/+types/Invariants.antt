@@ -1,5 +1,5 @@
 use Rattle.std.proofs.Common.{◌+◌, ◌*◌, length, map}
-use Rattle.go_token_core.specs.declared.kind.Operator.TheVariants as operator
+use Rattle.go_tree_nodes.specs.token_core.declared.kind.Operator.TheVariants as operator
 use Rattle.go_tree_nodes.specs.declared.names.Ident.{Ident}
 use Rattle.go_tree_nodes.specs.Trees.{SignatureTree}
 use Rattle.go_parse_types.specs.mirrors.EntryShapes.{entry_of, line_of, method_of}

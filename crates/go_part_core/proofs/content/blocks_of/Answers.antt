@@ -1,6 +1,6 @@
 use Rattle.std.proofs.Common.{map}
-use Rattle.go_summary_core.specs.block_core.Blocks.{imports_of}
-use Rattle.go_summary_core.specs.block_core.Naming.{imported_in}
+use Rattle.go_package_core.specs.block_core.Blocks.{imports_of}
+use Rattle.go_package_core.specs.block_core.Naming.{imported_in}
 use Rattle.go_part_core.proofs.Checks.{blocks_are, one_each}
 use Rattle.go_part_core.proofs.content.blocks_of.Goals as goal
 

@@ -1,6 +1,6 @@
 use Rattle.std.proofs.Common.{map, ap, ◌∙◌}
-use Rattle.go_summary_core.specs.block_core.Naming.{imported_in}
-use Rattle.go_summary_core.specs.graph_core.Workspaces.{PackageModel}
+use Rattle.go_package_core.specs.block_core.Naming.{imported_in}
+use Rattle.go_package_core.specs.graph_core.Workspaces.{PackageModel}
 use Rattle.go_package_core.specs.Checked.{checked_shown}
 use Rattle.go_part_core.proofs.Checks.{others_are, seen_is}
 use Rattle.go_part_core.proofs.content.check.Goals as goal

@@ -4,8 +4,8 @@ use Rattle.std.specs.Option.{option_map}
 use Rattle.go_term_core.specs.declared.term.TypeTerm.{TypeTerm}
 use Rattle.go_term_core.specs.declared.term.Signature.{Signature}
 use Rattle.go_package_core.specs.entry_core.Showing.{shown_in}
-use Rattle.go_summary_core.specs.face_core.declared.face.Face.{Face}
-use Rattle.go_summary_core.specs.face_core.Faces.{face_shown}
+use Rattle.go_package_core.specs.face_core.declared.face.Face.{Face}
+use Rattle.go_package_core.specs.face_core.Faces.{face_shown}
 use Rattle.go_package_core.specs.Checked.{checked_shown}
 use Rattle.go_part_core.specs.Parts.{part_content_shown, seen_with}
 use Rattle.go_part_core.proofs.Checks.{files_many, of_path}

@@ -1,8 +1,8 @@
 use Rattle.std.proofs.Common.{length, map, sym, ap, subst, ◌∙◌}
-use Rattle.go_summary_core.specs.graph_core.Workspaces.{PackageModel}
+use Rattle.go_package_core.specs.graph_core.Workspaces.{PackageModel}
 use Rattle.go_package_core.specs.ready_core.Packages.{trees_in}
 use Rattle.go_package_core.specs.Checked.{answers_shown}
-use Rattle.go_summary_core.specs.Summaries.{summary_of}
+use Rattle.go_package_core.specs.summary_core.Summaries.{summary_of}
 use Rattle.go_part_core.specs.Parts.{AreFilesMade, file_shown}
 use Rattle.go_part_core.proofs.content.content_of.Goals as goal
 

@@ -1,6 +1,6 @@
 use Rattle.std.proofs.Common.{◌≡◌, ap, sym, subst, ◌∙◌}
-use Rattle.go_summary_core.specs.table_core.Tables.{AreOthers}
-use Rattle.go_summary_core.specs.Views.{PathsAreApart, exports_told, faces_told, types_told}
+use Rattle.go_package_core.specs.table_core.Tables.{AreOthers}
+use Rattle.go_package_core.specs.summary_core.Views.{PathsAreApart, exports_told, faces_told, types_told}
 use Rattle.go_part_core.specs.Inputs.{InputModel, path_in}
 use Rattle.go_part_core.specs.Parts.{ContentOf, IsPart, PartModel, part_content_shown}
 use Rattle.go_part_core.proofs.Seen.{others_told, part_is}

@@ -1,8 +1,8 @@
 use Rattle.std.proofs.Common.{◌≡◌, ◌++◌, ℕ, List, ap, ap₂, sym, subst, ◌∙◌}
-use Rattle.go_summary_core.specs.table_core.Entries.{Entry}
-use Rattle.go_summary_core.specs.table_core.Tables.{AreOthers, PackageTypesModel}
-use Rattle.go_summary_core.specs.Summaries.{SummaryModel, path_of}
-use Rattle.go_summary_core.specs.Views.{PathsAreApart, types_told}
+use Rattle.go_package_core.specs.table_core.Entries.{Entry}
+use Rattle.go_package_core.specs.table_core.Tables.{AreOthers, PackageTypesModel}
+use Rattle.go_package_core.specs.summary_core.Summaries.{SummaryModel, path_of}
+use Rattle.go_package_core.specs.summary_core.Views.{PathsAreApart, types_told}
 use Rattle.go_part_core.specs.Inputs.{InputModel, IsInput, path_in}
 use Rattle.go_part_core.proofs.Seen.{others_told}
 use Rattle.go_part_core.proofs.part.types_of.Goals as goal

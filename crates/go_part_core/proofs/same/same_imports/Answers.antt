@@ -1,6 +1,6 @@
 use Rattle.std.proofs.Common.{◌<◌, subst}
-use Rattle.go_summary_core.specs.graph_core.ToldApart.{told_apart}
-use Rattle.go_summary_core.specs.block_core.Naming.{imported_in}
+use Rattle.go_package_core.specs.graph_core.ToldApart.{told_apart}
+use Rattle.go_package_core.specs.block_core.Naming.{imported_in}
 use Rattle.go_part_core.proofs.same.same_imports.Goals as goal
 
 pub returns-then-not-is_same_file : goal.returns-then-not-is_same_file

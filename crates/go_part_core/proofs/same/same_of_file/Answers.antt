@@ -1,5 +1,5 @@
 use Rattle.std.proofs.Common.{◌<◌, subst}
-use Rattle.go_summary_core.specs.alike_core.Listed.{listed_apart}
+use Rattle.go_package_core.specs.alike_core.Listed.{listed_apart}
 use Rattle.go_part_core.proofs.same.same_of_file.Goals as goal
 
 pub returns-then-not-is_same_imported : goal.returns-then-not-is_same_imported

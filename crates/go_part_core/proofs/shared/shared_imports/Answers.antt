@@ -1,6 +1,6 @@
 use Rattle.std.proofs.Common.{◌≡◌, [], ◌∷◌, ◌++◌, map, take, get_or, sym, ap, ◌∙◌}
 use Rattle.std.proofs.lemmas.List.{map-append, take_more}
-use Rattle.go_summary_core.specs.block_core.Naming.{imported_in}
+use Rattle.go_package_core.specs.block_core.Naming.{imported_in}
 use Rattle.go_part_core.proofs.shared.shared_imports.Goals as goal
 
 pub loop-imports-preserved : goal.loop-imports-preserved

@@ -1,5 +1,5 @@
 use Rattle.std.proofs.Common.{◌≡◌, take, map}
-use Rattle.go_summary_core.specs.block_core.Naming.{imported_in}
+use Rattle.go_package_core.specs.block_core.Naming.{imported_in}
 use Rattle.go_part_core.proofs.shared.shared_imports.Given as goal
 
 abbrev pub invariant-loop-imports : goal.invariant-loop-imports

@@ -1,6 +1,6 @@
 use Rattle.std.proofs.Common.{◌++◌, ◌∷◌, map, ap, refl, ◌∙◌, sym, []}
 use Rattle.go_tree_nodes.specs.Shapes.{exprs_from}
-use Rattle.go_expr_core.proofs.TypeTurns.{step}
+use Rattle.go_statement_core.specs.expr_core.TypeTurns.{step}
 use Rattle.go_piece_core.specs.Specifications.{constant_value}
 use Rattle.go_piece_core.proofs.Listing.{list_begins}
 use Rattle.go_piece_core.proofs.Turns.{constant_turn}

@@ -1,6 +1,6 @@
 use Rattle.std.proofs.Common.{◌≡◌, ◌++◌, drop}
 use Rattle.go_tree_nodes.specs.TypeShapes.{params_of}
-use Rattle.go_expr_core.specs.Looks.{everywhere}
+use Rattle.go_statement_core.specs.expr_core.Looks.{everywhere}
 use Rattle.go_piece_core.specs.Headers.{entry_types, params_faults}
 use Rattle.go_piece_core.proofs.headers.add_params.Given as goal
 

@@ -1,5 +1,5 @@
-use Rattle.go_expr_core.specs.Looks.{everywhere}
-use Rattle.go_expr_core.proofs.Steps.{ok_adds}
+use Rattle.go_statement_core.specs.expr_core.Looks.{everywhere}
+use Rattle.go_statement_core.specs.expr_core.Steps.{ok_adds}
 use Rattle.go_piece_core.proofs.Heads.{listed_types, listed_faults}
 use Rattle.go_piece_core.proofs.headers.add_results.Goals as goal
 

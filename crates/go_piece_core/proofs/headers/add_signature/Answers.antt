@@ -2,8 +2,8 @@ use Rattle.std.proofs.Common.{false}
 use Rattle.go_tree_nodes.specs.declared.types.Signature.{out-Signature}
 use Rattle.go_tree_nodes.specs.declared.types.Params.{out-Params}
 use Rattle.go_tree_nodes.specs.TypeShapes.{shape_signature, shape_results, params_of}
-use Rattle.go_expr_core.specs.Looks.{everywhere}
-use Rattle.go_expr_core.proofs.Steps.{ok_both}
+use Rattle.go_statement_core.specs.expr_core.Looks.{everywhere}
+use Rattle.go_statement_core.specs.expr_core.Steps.{ok_both}
 use Rattle.go_piece_core.specs.Headers.{entry_types, types_of_result, types_of_signature, params_faults, result_faults, signature_faults}
 use Rattle.go_piece_core.proofs.Heads.{all_types, all_faults}
 use Rattle.go_piece_core.proofs.headers.add_signature.Goals as goal

@@ -3,8 +3,8 @@ use Rattle.go_tree_nodes.specs.Shapes.{shape_exprs}
 use Rattle.go_tree_nodes.specs.TypeShapes.{shape_idents}
 use Rattle.go_walk_core.specs.local_core.Outline.{idents}
 use Rattle.go_statement_core.specs.Assignments.{assignment_rule}
-use Rattle.go_expr_core.specs.Looks.{everywhere}
-use Rattle.go_expr_core.proofs.Steps.{ok_any}
+use Rattle.go_statement_core.specs.expr_core.Looks.{everywhere}
+use Rattle.go_statement_core.specs.expr_core.Steps.{ok_any}
 use Rattle.go_piece_core.specs.Values.{given, is_unknown, list_faults}
 use Rattle.go_piece_core.specs.Targets.{short_targets}
 use Rattle.go_piece_core.specs.Specifications.{names_start}

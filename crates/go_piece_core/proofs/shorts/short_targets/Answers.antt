@@ -1,5 +1,5 @@
 use Rattle.std.proofs.Common.{[], ◌∷◌, sym, ap, ◌∙◌}
-use Rattle.go_expr_core.specs.Looks.{everywhere}
+use Rattle.go_statement_core.specs.expr_core.Looks.{everywhere}
 use Rattle.go_piece_core.specs.Targets.{short_targets}
 use Rattle.go_piece_core.specs.mirrors.Later.{later_idents}
 use Rattle.go_piece_core.proofs.Listing.{names_listed}

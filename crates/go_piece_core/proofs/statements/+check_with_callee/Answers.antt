@@ -3,11 +3,11 @@ use Rattle.std.specs.Prelude.{IfOk, Option, Some}
 use Rattle.go_tree_nodes.specs.declared.exprs.CallExpr.{out-CallExpr}
 use Rattle.go_tree_nodes.specs.Shapes.{shape}
 use Rattle.go_statement_core.specs.denote_core.declared.things.Stand.TheVariants as stands
-use Rattle.go_expr_core.specs.Looks.{everywhere}
-use Rattle.go_expr_core.specs.Denoting.{denoted}
-use Rattle.go_expr_core.proofs.Arms.{call_denoted, call_has_uses, call_has_faults}
+use Rattle.go_statement_core.specs.expr_core.Looks.{everywhere}
+use Rattle.go_statement_core.specs.expr_core.Denoting.{denoted}
+use Rattle.go_statement_core.specs.expr_core_lemmas.Arms.{call_denoted, call_has_uses, call_has_faults}
 use Rattle.go_tree_nodes.proofs.ShapeLemmas.{call_form, literal_form, struct_form}
-use Rattle.go_expr_core.proofs.Steps.{both}
+use Rattle.go_statement_core.specs.expr_core.Steps.{both}
 use Rattle.go_piece_core.specs.Statements as statements
 use Rattle.go_piece_core.proofs.statements.+check_with_callee.Goals as goal
 

@@ -1,7 +1,7 @@
 use Rattle.std.proofs.Common.{◌++◌, [], ◌∷◌, refl, sym, ap, ◌∙◌, append_assoc}
 use Rattle.go_tree_nodes.specs.Shapes.{shape, shape_exprs}
-use Rattle.go_expr_core.specs.Looks.{everywhere}
-use Rattle.go_expr_core.proofs.TypeTurns.{ended}
+use Rattle.go_statement_core.specs.expr_core.Looks.{everywhere}
+use Rattle.go_statement_core.specs.expr_core.TypeTurns.{ended}
 use Rattle.go_piece_core.specs.Targets.{target, target_uses, target_faults, targets, targets_faults}
 use Rattle.go_piece_core.specs.mirrors.Later.{later_targets, later_uses, later_faults}
 use Rattle.go_piece_core.proofs.Listing.{all_targets, all_uses, all_faults}

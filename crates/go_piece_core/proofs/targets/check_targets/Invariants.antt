@@ -1,6 +1,6 @@
 use Rattle.std.proofs.Common.{◌≡◌, ◌++◌, ◌∷◌, drop}
 use Rattle.go_tree_nodes.specs.Shapes.{shape}
-use Rattle.go_expr_core.specs.Looks.{everywhere}
+use Rattle.go_statement_core.specs.expr_core.Looks.{everywhere}
 use Rattle.go_piece_core.specs.Targets.{target, target_uses, target_faults}
 use Rattle.go_piece_core.specs.mirrors.Later.{later_targets, later_uses, later_faults}
 use Rattle.go_piece_core.proofs.targets.check_targets.Given as goal

@@ -1,8 +1,8 @@
 use Rattle.std.proofs.Common.{[], map, sym, subst}
 use Rattle.std.specs.List.{AllByRecursion, AllZip}
-use Rattle.go_fault_core.specs.decl_core.Shown.{decl_shown}
-use Rattle.go_func_core.specs.local_core.Tables.{IsFuncPlaced}
-use Rattle.go_func_core.specs.inline_core.Functions as functions
+use Rattle.go_term_core.specs.decl_core.Shown.{decl_shown}
+use Rattle.go_local_core.specs.Tables.{IsFuncPlaced}
+use Rattle.go_known_core.specs.inline_core.Functions as functions
 use Rattle.go_ready_core.specs.Inlines.{form_funcs}
 use Rattle.go_ready_core.proofs.Lists.{seen_holds}
 use Rattle.go_ready_core.proofs.Placing.{form_placed}

@@ -1,7 +1,7 @@
 use Rattle.std.proofs.Common.{map, take}
 use Rattle.std.specs.List.{AllZip}
-use Rattle.go_fault_core.specs.decl_core.Shown.{decl_shown}
-use Rattle.go_func_core.specs.inline_core.Functions as functions
+use Rattle.go_term_core.specs.decl_core.Shown.{decl_shown}
+use Rattle.go_known_core.specs.inline_core.Functions as functions
 use Rattle.go_ready_core.specs.Inlines.{outline_funcs}
 use Rattle.go_ready_core.proofs.inlines.decl_functions.Given as goal
 

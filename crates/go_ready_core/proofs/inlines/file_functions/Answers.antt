@@ -1,9 +1,9 @@
 use Rattle.std.proofs.Common.{map, sym, subst}
 use Rattle.std.specs.Prelude.{IfOk}
 use Rattle.std.specs.List.{AllByRecursion, AllZip}
-use Rattle.go_fault_core.specs.decl_core.Shown.{decl_shown}
-use Rattle.go_func_core.specs.local_core.Tables.{IsFuncPlaced}
-use Rattle.go_fault_core.specs.entry_core.Outlines.{outline_shown}
+use Rattle.go_term_core.specs.decl_core.Shown.{decl_shown}
+use Rattle.go_local_core.specs.Tables.{IsFuncPlaced}
+use Rattle.go_known_core.specs.entry_core.Outlines.{outline_shown}
 use Rattle.go_ready_core.specs.Inlines.{outline_funcs}
 use Rattle.go_ready_core.specs.Packages.{package_in_shown}
 use Rattle.go_ready_core.proofs.Placing.{outline_placed}

@@ -1,13 +1,13 @@
 use Rattle.std.proofs.Common.{map, ap, sym, ◌∙◌}
 use Rattle.std.proofs.lemmas.Result.{IfOk-weaker}
-use Rattle.go_fault_core.specs.decl_core.Shown.{decl_shown}
-use Rattle.go_fault_core.specs.entry_core.Meanings.{file_meaning}
-use Rattle.go_fault_core.specs.decl_core.declared.keys.DeclKey.{DeclKey}
-use Rattle.go_func_core.specs.settle_core.Settled.{kind_of_term}
-use Rattle.go_fault_core.specs.table_core.Entries.{find_entry, term_in}
-use Rattle.go_func_core.specs.inline_core.Inline.{inlines}
-use Rattle.go_func_core.specs.inline_core.Trees.{file_types, outline_types}
-use Rattle.go_func_core.specs.inline_core.Outlines.{outline_all}
+use Rattle.go_term_core.specs.decl_core.Shown.{decl_shown}
+use Rattle.go_known_core.specs.entry_core.Meanings.{file_meaning}
+use Rattle.go_term_core.specs.decl_core.declared.keys.DeclKey.{DeclKey}
+use Rattle.go_used_core.specs.settle_core.Settled.{kind_of_term}
+use Rattle.go_known_core.specs.table_core.Entries.{find_entry, term_in}
+use Rattle.go_known_core.specs.inline_core.Inline.{inlines}
+use Rattle.go_known_core.specs.inline_core.Trees.{file_types, outline_types}
+use Rattle.go_known_core.specs.inline_core.Outlines.{outline_all}
 use Rattle.go_ready_core.specs.Packages.{package_in_shown}
 use Rattle.go_ready_core.proofs.inlines.file_initial.Goals as goal
 

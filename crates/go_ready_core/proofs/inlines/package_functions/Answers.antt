@@ -1,6 +1,6 @@
 use Rattle.std.proofs.Common.{[], map, sym, subst}
 use Rattle.std.specs.List.{AllZip}
-use Rattle.go_fault_core.specs.entry_core.Outlines.{outline_shown}
+use Rattle.go_known_core.specs.entry_core.Outlines.{outline_shown}
 use Rattle.go_ready_core.specs.Inlines.{AreOutlinedTypes, IsPlacedOutline, types_stand}
 use Rattle.go_ready_core.specs.Packages.{outlines_in, package_in_shown}
 use Rattle.go_ready_core.proofs.Lists.{seen_holds, zip_end, zip_step}

@@ -1,6 +1,6 @@
 use Rattle.std.proofs.Common.{map, take}
 use Rattle.std.specs.List.{AllZip, enumerate_from}
-use Rattle.go_fault_core.specs.entry_core.Outlines.{outline_shown}
+use Rattle.go_known_core.specs.entry_core.Outlines.{outline_shown}
 use Rattle.go_ready_core.specs.Inlines.{AreOutlinedTypes, types_stand}
 use Rattle.go_ready_core.specs.Packages.{package_in_shown}
 use Rattle.go_ready_core.proofs.inlines.package_functions.Given as goal

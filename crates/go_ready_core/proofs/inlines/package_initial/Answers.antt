@@ -1,4 +1,4 @@
-use Rattle.go_fault_core.specs.entry_core.Outlines.{outline_shown}
+use Rattle.go_known_core.specs.entry_core.Outlines.{outline_shown}
 use Rattle.go_ready_core.specs.Inlines.{IsPlacedOutline, initial_types, types_stand}
 use Rattle.go_ready_core.specs.Packages.{outlines_in, package_in_shown}
 use Rattle.go_ready_core.proofs.Lists.{mapped_end, mapped_step, seen_holds}

@@ -3,9 +3,9 @@ use Rattle.std.specs.Prelude.{All}
 use Rattle.std.specs.List.{AllByRecursion}
 use Rattle.std.proofs.lemmas.Result.{IfOk-weaker}
 use Rattle.std.proofs.lemmas.List.Elements.{All-from_recursion, recursion_from_All}
-use Rattle.go_fault_core.specs.graph_core.Packages.{trees_of, tree_shown}
-use Rattle.go_fault_core.specs.graph_core.Sources.{IsPlacedSource}
-use Rattle.go_fault_core.specs.entry_core.Outlines.{outline_of}
+use Rattle.go_used_core.specs.graph_core.Packages.{trees_of, tree_shown}
+use Rattle.go_used_core.specs.graph_core.Sources.{IsPlacedSource}
+use Rattle.go_known_core.specs.entry_core.Outlines.{outline_of}
 use Rattle.go_ready_core.specs.Inlines.{IsPlacedOutline}
 use Rattle.go_ready_core.specs.Packages.{trees_in}
 use Rattle.go_ready_core.proofs.Lists.{map_map}

@@ -1,5 +1,5 @@
 use Rattle.std.proofs.Common.{map}
-use Rattle.go_fault_core.specs.entry_core.Outlines.{outline_shown}
+use Rattle.go_known_core.specs.entry_core.Outlines.{outline_shown}
 use Rattle.go_ready_core.specs.Packages.{package_in_shown}
 use Rattle.go_ready_core.proofs.Made.{all_outlines}
 use Rattle.go_ready_core.proofs.ready.make_ready.Goals as goal

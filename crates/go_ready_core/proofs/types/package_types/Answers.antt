@@ -1,6 +1,6 @@
 use Rattle.std.proofs.Common.{map, ap, ◌++◌, ◌∙◌}
-use Rattle.go_fault_core.specs.table_core.Shown.{entry_shown}
-use Rattle.go_fault_core.specs.entry_core.Outlines.{outline_shown}
+use Rattle.go_known_core.specs.table_core.Shown.{entry_shown}
+use Rattle.go_known_core.specs.entry_core.Outlines.{outline_shown}
 use Rattle.go_ready_core.specs.Packages.{package_in_shown}
 use Rattle.go_ready_core.proofs.Made.{all_outlines, types_are}
 use Rattle.go_ready_core.proofs.types.package_types.Goals as goal

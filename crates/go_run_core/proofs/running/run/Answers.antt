@@ -1,6 +1,6 @@
 use Rattle.std.proofs.Common.{◌≡◌, Option, map, inr, refl, subst}
 use Rattle.std.specs.Prelude.{MatchOption}
-use Rattle.go_object_core.specs.Objects.{object_shown}
+use Rattle.go_link_core.specs.object_core.Objects.{object_shown}
 use Rattle.go_link_core.specs.Linked.{program_of, runnable_shown}
 use Rattle.go_run_core.specs.declared.outcome.Run.{Run}
 use Rattle.go_run_core.specs.Runs.{IsStuck, comes_to, run_shown}

@@ -1,8 +1,8 @@
 use Rattle.std.proofs.Common.{◌≡◌, ℕ, List, map, ap, ◌∙◌, subst}
 use Rattle.std.specs.Prelude.{MatchOption}
-use Rattle.go_machine_core.specs.declared.linked.Linked.{Linked}
-use Rattle.go_machine_core.specs.Programs.{linked_shown}
-use Rattle.go_machine_core.specs.Machine.{Run as MachineRun, machine}
+use Rattle.go_link_core.specs.machine_core.declared.linked.Linked.{Linked}
+use Rattle.go_link_core.specs.machine_core.Programs.{linked_shown}
+use Rattle.go_link_core.specs.machine_core.Machine.{Run as MachineRun, machine}
 use Rattle.go_run_core.specs.Runs.{IsStuck, run_shown}
 use Rattle.go_run_core.proofs.running.run_linked.Goals as goal
 

@@ -1,5 +1,5 @@
 use Rattle.std.proofs.Common.{◌≡◌}
-use Rattle.go_batch_core.specs.submit_core.Submitted.{has_ticket}
+use Rattle.go_submit_core.specs.Submitted.{has_ticket}
 use Rattle.go_sched_core.proofs.tickets.is_waiting.Given as goal
 
 abbrev pub invariant-loop-submission : goal.invariant-loop-submission

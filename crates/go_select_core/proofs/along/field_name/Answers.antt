@@ -1,8 +1,8 @@
 use Rattle.std.proofs.Common.{ap, sym, ◌∙◌}
 use Rattle.std.specs.Prelude.{option_map, slice_get}
-use Rattle.go_level_core.specs.term_core.Shapes.{line_shapes, shape}
-use Rattle.go_level_core.specs.term_core.declared.term.Field.{Field}
-use Rattle.go_level_core.specs.term_core.TermShapes.{shape_struct}
+use Rattle.go_term_core.specs.Shapes.{line_shapes, shape}
+use Rattle.go_term_core.specs.declared.term.Field.{Field}
+use Rattle.go_term_core.proofs.TermShapes.{shape_struct}
 use Rattle.std.proofs.Common.{List}
 use Rattle.go_select_core.specs.PathNames.{term_field_name}
 use Rattle.go_select_core.proofs.AlongPaths.{name_is}

@@ -1,6 +1,6 @@
 use Rattle.std.proofs.Common.{◌≡◌, ◌++◌, drop, map}
 use Rattle.go_level_core.specs.table_core.Entries.{find_entry}
-use Rattle.go_level_core.specs.term_core.Shapes.{shape, shape_found}
+use Rattle.go_term_core.specs.Shapes.{shape, shape_found}
 use Rattle.go_select_core.specs.PathNames.{names_along}
 use Rattle.go_select_core.proofs.along.names_in.Given as goal
 

@@ -1,6 +1,6 @@
 use Rattle.std.proofs.Common.{true, false, sym, ap, ◌∙◌}
 use Rattle.std.proofs.lemmas.Result.{IfOk-weaker}
-use Rattle.go_level_core.specs.term_core.Shapes.{shape}
+use Rattle.go_term_core.specs.Shapes.{shape}
 use Rattle.go_level_core.specs.table_core.Entries.{find_entry}
 use Rattle.go_select_core.specs.Selections.{AreSelections}
 use Rattle.go_level_core.specs.mirrors.Operands.{operand_shown}

@@ -1,4 +1,4 @@
-use Rattle.go_level_core.specs.term_core.Shapes.{shape}
+use Rattle.go_term_core.specs.Shapes.{shape}
 use Rattle.go_level_core.specs.table_core.Entries.{find_entry}
 use Rattle.go_select_core.proofs.ListedNames.{are_within, listing_in}
 use Rattle.go_select_core.proofs.listing.selections_in.Goals as goal

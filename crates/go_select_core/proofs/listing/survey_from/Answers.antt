@@ -1,5 +1,5 @@
 use Rattle.std.proofs.Common.{arith}
-use Rattle.go_level_core.specs.term_core.Shapes.{shape}
+use Rattle.go_term_core.specs.Shapes.{shape}
 use Rattle.go_select_core.proofs.Surveying.{names_begin, names_before, names_next, names_fall, names_end}
 use Rattle.go_select_core.proofs.listing.survey_from.Goals as goal
 

@@ -1,4 +1,4 @@
-use Rattle.go_level_core.specs.term_core.Shapes.{shape}
+use Rattle.go_term_core.specs.Shapes.{shape}
 use Rattle.go_level_core.specs.mirrors.Ways.{ways}
 use Rattle.go_level_core.specs.mirrors.Levels.{height}
 use Rattle.go_select_core.specs.mirrors.Names.{names_of}

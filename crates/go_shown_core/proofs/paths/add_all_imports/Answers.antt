@@ -1,8 +1,8 @@
 use Rattle.std.proofs.Common.{List, Vec, sym, subst, ℕ}
 use Rattle.std.specs.List.{flat_map}
 use Rattle.std.specs.declared.alloc.Global.{Global}
-use Rattle.go_block_core.specs.Naming.{imported_in}
-use Rattle.go_block_core.specs.declared.imports.Imported.{Imported}
+use Rattle.go_summary_core.specs.block_core.Naming.{imported_in}
+use Rattle.go_summary_core.specs.block_core.declared.imports.Imported.{Imported}
 use Rattle.go_shown_core.specs.Shown.{MayBeShown, path_in, texts}
 use Rattle.go_shown_core.specs.mirrors.Adding.{AddsPicked}
 use Rattle.go_shown_core.proofs.Picking.{adds_more, adds_none, adds_them, flat_mapped}

@@ -1,7 +1,7 @@
 use Rattle.std.proofs.Common.{Vec, take}
 use Rattle.std.specs.List.{flat_map}
 use Rattle.std.specs.declared.alloc.Global.{Global}
-use Rattle.go_block_core.specs.declared.imports.Imported.{Imported}
+use Rattle.go_summary_core.specs.block_core.declared.imports.Imported.{Imported}
 use Rattle.go_shown_core.specs.Shown.{MayBeShown, path_in, texts}
 use Rattle.go_shown_core.specs.mirrors.Adding.{AddsPicked}
 use Rattle.go_shown_core.proofs.paths.add_all_imports.Given as goal

@@ -1,5 +1,5 @@
 use Rattle.std.proofs.Common.{Bor, List, ℕ, map, subst}
-use Rattle.go_block_core.specs.Naming.{imported_in}
+use Rattle.go_summary_core.specs.block_core.Naming.{imported_in}
 use Rattle.go_shown_core.specs.Shown.{MayBeShown, import_paths, texts}
 use Rattle.go_shown_core.specs.mirrors.Adding.{AddsPicked}
 use Rattle.go_shown_core.proofs.Picking.{adds_all, picks_both}

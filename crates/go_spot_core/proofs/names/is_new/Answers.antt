@@ -1,7 +1,7 @@
 use Rattle.std.proofs.Common.{◌-◌, length, take, drop, sym, ap, ◌∙◌}
 use Rattle.std.specs.List.{list_any}
 use Rattle.std.specs.Str.{bytes_eq}
-use Rattle.go_text_core.specs.Text.{is_blank}
+use Rattle.go_tree_nodes.specs.text_core.Text.{is_blank}
 use Rattle.go_spot_core.specs.Shown.{idents_shown}
 use Rattle.go_spot_core.proofs.NameLists.{tail_slice, new_by}
 use Rattle.go_spot_core.proofs.names.is_new.Goals as goal

@@ -1,7 +1,7 @@
 use Rattle.std.proofs.Common.{sym, ap, ◌∙◌}
 use Rattle.go_tree_nodes.specs.TypeShapes.{shape_results}
 use Rattle.go_tree_nodes.proofs.TypeShapes.{listed_parts}
-use Rattle.go_local_core.specs.Outline.{result_idents}
+use Rattle.go_walk_core.specs.local_core.Outline.{result_idents}
 use Rattle.go_spot_core.proofs.States.{declares_same}
 use Rattle.go_spot_core.proofs.search.declare_results.Goals as goal
 

@@ -3,7 +3,7 @@ use Rattle.go_tree_nodes.specs.declared.types.Signature.{out-Signature}
 use Rattle.go_tree_nodes.specs.declared.types.Params.{out-Params}
 use Rattle.go_tree_nodes.specs.TypeShapes.{shape_results, params_of}
 use Rattle.go_tree_nodes.proofs.TypeShapes.{signature_parts}
-use Rattle.go_local_core.specs.Outline.{param_idents, result_idents, receiver_idents, signature_idents}
+use Rattle.go_walk_core.specs.local_core.Outline.{param_idents, result_idents, receiver_idents, signature_idents}
 use Rattle.go_spot_core.proofs.States.{found_here, declared_here, declares_more, declares_same}
 use Rattle.go_spot_core.proofs.walk.pass_header.Goals as goal
 

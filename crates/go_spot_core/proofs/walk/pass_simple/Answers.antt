@@ -4,8 +4,8 @@ use Rattle.go_tree_nodes.specs.declared.stmts.Definition.{Definition}
 use Rattle.go_tree_nodes.specs.Shapes.{shape_simple}
 use Rattle.go_tree_nodes.specs.TypeShapes.{shape_idents}
 use Rattle.go_tree_nodes.specs.Spelling.{spell_simple}
-use Rattle.go_local_core.specs.Steps.{Act, OneNew}
-use Rattle.go_local_core.specs.Outline.{idents, end_of, simple_steps}
+use Rattle.go_walk_core.specs.local_core.Steps.{Act, OneNew}
+use Rattle.go_walk_core.specs.local_core.Outline.{idents, end_of, simple_steps}
 use Rattle.go_spot_core.specs.Used.{first_used, simple_used}
 use Rattle.go_spot_core.proofs.States.{same, declared_here, declares_same, simple_passed, simple_found}
 use Rattle.go_spot_core.proofs.walk.pass_simple.Goals as goal

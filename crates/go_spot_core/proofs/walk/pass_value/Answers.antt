@@ -1,6 +1,6 @@
 use Rattle.std.proofs.Common.{refl, ap}
 use Rattle.go_tree_nodes.specs.Shapes.{shape_value_specs}
-use Rattle.go_local_core.specs.Outline.{specs_steps}
+use Rattle.go_walk_core.specs.local_core.Outline.{specs_steps}
 use Rattle.go_walk_core.proofs.Visits.{whole}
 use Rattle.go_walk_core.proofs.StepLemmas.{group, one_spec}
 use Rattle.go_spot_core.specs.mirrors.Searching.{Leads}

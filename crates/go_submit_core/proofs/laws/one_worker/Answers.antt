@@ -1,6 +1,6 @@
 use Rattle.std.proofs.Common.{List, sym, ◌∙◌, subst}
-use Rattle.go_graph_core.specs.Workspaces.{PackageModel}
-use Rattle.go_thread_core.specs.snap_core.Snapshots.{IsSnapshot, snapshot_with}
+use Rattle.go_snap_core.specs.graph_core.Workspaces.{PackageModel}
+use Rattle.go_snap_core.specs.Snapshots.{IsSnapshot, snapshot_with}
 use Rattle.go_submit_core.proofs.laws.one_worker.Goals as goal
 
 pub returns : goal.returns

@@ -1,7 +1,7 @@
 use Rattle.std.proofs.Common.{List, ℕ, map, sym, ap, ◌∙◌, subst}
 use Rattle.std.specs.List.{AllZip}
-use Rattle.go_decl_core.specs.declared.keys.DeclRef.{DeclRef}
-use Rattle.go_graph_core.specs.Packages.{trees_of}
+use Rattle.go_block_core.specs.decl_core.declared.keys.DeclRef.{DeclRef}
+use Rattle.go_block_core.specs.graph_core.Packages.{trees_of}
 use Rattle.go_block_core.specs.Exports.{name_and_decl}
 use Rattle.go_symbol_core.specs.Symbols.{IsSymbolOf, symbol_shown}
 use Rattle.go_symbol_core.specs.mirrors.Docs.{AreDeclaredIn}

@@ -1,7 +1,7 @@
 use Rattle.std.proofs.Common.{rules, of_calls}
 use Rattle.std.specs.Ordering.{is_lt}
 use Rattle.std.proofs.lemmas.Fn.{always_returns_same}
-use Rattle.go_graph_core.specs.Workspaces.{by_bytes}
+use Rattle.go_block_core.specs.graph_core.Workspaces.{by_bytes}
 use Rattle.go_symbol_core.specs.declared.symbols.Symbol.{Symbol}
 use Rattle.go_symbol_core.proofs.Sorting.{name_weak}
 use Rattle.go_symbol_core.proofs.symbols.sort.Goals as goal

@@ -1,5 +1,5 @@
 use Rattle.std.proofs.Common.{sym, ◌∙◌}
-use Rattle.go_settle_core.specs.term_core.SameLists.{fails}
+use Rattle.go_term_core.proofs.SameLists.{fails}
 use Rattle.go_table_core.proofs.Underlying.{no_one, the_one}
 use Rattle.go_table_core.proofs.alike.are_errors.Goals as goal
 

@@ -1,6 +1,6 @@
 use Rattle.std.proofs.Common.{true, false, sym, ◌∙◌}
 use Rattle.std.proofs.lemmas.Bool.{true≢false}
-use Rattle.go_settle_core.specs.term_core.Shapes.{shape}
+use Rattle.go_term_core.specs.Shapes.{shape}
 use Rattle.go_table_core.proofs.Underlying.{found_same, found_met}
 use Rattle.go_table_core.proofs.alike.identical_under_but_for_tags.Goals as goal
 

@@ -1,6 +1,6 @@
 use Rattle.std.proofs.Common.{ap, ◌∙◌}
-use Rattle.go_settle_core.specs.term_core.Shapes.{shape, method_shapes}
-use Rattle.go_settle_core.specs.term_core.TermShapes.{shape_interface}
+use Rattle.go_term_core.specs.Shapes.{shape, method_shapes}
+use Rattle.go_term_core.proofs.TermShapes.{shape_interface}
 use Rattle.go_table_core.proofs.Underlying.{of_methods}
 use Rattle.go_table_core.proofs.alike.is_error_interface.Goals as goal
 

@@ -1,5 +1,5 @@
 use Rattle.std.specs.Prelude.{IsTrue}
-use Rattle.go_settle_core.specs.term_core.Shapes.{shape}
+use Rattle.go_term_core.specs.Shapes.{shape}
 use Rattle.go_table_core.specs.Entries.{find_entry}
 use Rattle.go_table_core.specs.Shown.{assigned_shown}
 use Rattle.go_table_core.proofs.Meanings.{no_target}

@@ -1,7 +1,7 @@
 use Rattle.std.proofs.Common.{sym, ◌∙◌}
 use Rattle.std.specs.Prelude.{IsTrue}
 use Rattle.std.proofs.lemmas.Bool.{true≢false}
-use Rattle.go_settle_core.specs.term_core.Shapes.{shape}
+use Rattle.go_term_core.specs.Shapes.{shape}
 use Rattle.go_table_core.specs.Entries.{find_entry}
 use Rattle.go_table_core.proofs.Meanings.{value_of_nothing, value_identical, value_implements, value_named, value_alike}
 use Rattle.go_table_core.proofs.assign.takes_value.Goals as goal

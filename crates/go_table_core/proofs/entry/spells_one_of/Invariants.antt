@@ -1,5 +1,5 @@
 use Rattle.std.proofs.Common.{◌≡◌, drop, map}
-use Rattle.go_settle_core.specs.term_core.Shapes.{shape}
+use Rattle.go_term_core.specs.Shapes.{shape}
 use Rattle.go_table_core.specs.Shown.{member_shown}
 use Rattle.go_table_core.specs.mirrors.Spots.{spells_some}
 use Rattle.go_table_core.specs.Methods.{term_fields}

@@ -1,4 +1,4 @@
-use Rattle.go_settle_core.specs.term_core.Shapes.{fields_in, line_shapes}
+use Rattle.go_term_core.specs.Shapes.{fields_in, line_shapes}
 use Rattle.go_table_core.specs.mirrors.Spots.{named_places}
 use Rattle.go_table_core.proofs.Spelled.{places_step}
 use Rattle.go_table_core.proofs.fields.places_of.Goals as goal

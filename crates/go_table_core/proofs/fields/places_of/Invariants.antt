@@ -1,5 +1,5 @@
 use Rattle.std.proofs.Common.{drop}
-use Rattle.go_settle_core.specs.term_core.Shapes.{fields_in, line_shapes}
+use Rattle.go_term_core.specs.Shapes.{fields_in, line_shapes}
 use Rattle.go_table_core.specs.mirrors.Spots.{named_places, HasPlacesSoFar}
 use Rattle.go_table_core.proofs.fields.places_of.Given as goal
 

@@ -1,6 +1,6 @@
 use Rattle.std.proofs.Common.{sym, ap, ◌∙◌}
-use Rattle.go_settle_core.specs.term_core.Shapes.{shape, fields_in, line_shapes}
-use Rattle.go_settle_core.specs.term_core.TermShapes.{shape_struct}
+use Rattle.go_term_core.specs.Shapes.{shape, fields_in, line_shapes}
+use Rattle.go_term_core.proofs.TermShapes.{shape_struct}
 use Rattle.go_table_core.specs.Methods.{term_fields}
 use Rattle.go_table_core.proofs.fields.term_fields.Goals as goal
 

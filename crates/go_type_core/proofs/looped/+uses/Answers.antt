@@ -1,9 +1,9 @@
 use Rattle.std.proofs.Common.{◌≡◌, [], false, OnOk, inr, ap, sym, subst, ◌∙◌}
 use Rattle.std.proofs.lemmas.Result.{on_ok_weaker}
-use Rattle.go_table_core.specs.term_core.Terms.{Term, NoType}
-use Rattle.go_table_core.specs.term_core.Shapes.{shape, line_shape, line_with, line_shapes, line_at}
-use Rattle.go_table_core.specs.term_core.SameLists.{found, missing}
-use Rattle.go_table_core.specs.term_core.TermShapes.{shape_struct}
+use Rattle.go_term_core.specs.Terms.{Term, NoType}
+use Rattle.go_term_core.specs.Shapes.{shape, line_shape, line_with, line_shapes, line_at}
+use Rattle.go_term_core.proofs.SameLists.{found, missing}
+use Rattle.go_term_core.proofs.TermShapes.{shape_struct}
 use Rattle.go_type_core.specs.Built.{direct_keys}
 use Rattle.go_type_core.specs.mirrors.Edges.{HasAlso, uses_from}
 use Rattle.go_type_core.proofs.OnceEach.{also_nothing, also_pushed, fields_step, fields_whole}

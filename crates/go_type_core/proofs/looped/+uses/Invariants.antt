@@ -1,5 +1,5 @@
 use Rattle.std.proofs.Common.{take}
-use Rattle.go_table_core.specs.term_core.Shapes.{line_shapes}
+use Rattle.go_term_core.specs.Shapes.{line_shapes}
 use Rattle.go_type_core.proofs.OnceEach.{FieldsSoFar}
 use Rattle.go_type_core.proofs.looped.+uses.Given as goal
 

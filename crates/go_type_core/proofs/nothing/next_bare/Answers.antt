@@ -1,5 +1,5 @@
 use Rattle.std.proofs.Common.{arith, rules}
-use Rattle.go_table_core.specs.term_core.Shapes.{shape}
+use Rattle.go_term_core.specs.Shapes.{shape}
 use Rattle.go_type_core.proofs.Keyed.{table_none}
 use Rattle.go_type_core.proofs.Steps.{bare_step, table_all}
 use Rattle.go_type_core.proofs.nothing.next_bare.Goals as goal

@@ -1,6 +1,6 @@
 use Rattle.std.proofs.Common.{arith, rules}
 use Rattle.std.specs.Arc.{arc_value}
-use Rattle.go_table_core.specs.term_core.Shapes.{shape}
+use Rattle.go_term_core.specs.Shapes.{shape}
 use Rattle.go_type_core.proofs.Keyed.{table_none}
 use Rattle.go_type_core.specs.mirrors.Making.{plan_kind, terms_of_arcs}
 use Rattle.go_type_core.proofs.Steps.{shared_step, table_all}

@@ -1,4 +1,4 @@
-use Rattle.go_answer_core.specs.term_core.Members.{contained_in, in_contained}
+use Rattle.go_term_core.proofs.Members.{contained_in, in_contained}
 use Rattle.go_used_core.specs.Used.{used_places}
 use Rattle.go_used_core.proofs.Using.{used_from, used_to}
 use Rattle.go_used_core.proofs.laws.used_imports_are_these.Goals as goal

@@ -1,6 +1,6 @@
 use Rattle.std.proofs.Common.{map, ap, ◌∙◌}
 use Rattle.std.proofs.lemmas.Result.{IfOk-weaker}
-use Rattle.go_block_core.specs.Naming.{imported_in}
+use Rattle.go_part_core.specs.block_core.Naming.{imported_in}
 use Rattle.go_part_core.specs.Inputs.{input_with}
 use Rattle.govisd_core.proofs.Putting.{none_reached}
 use Rattle.govisd_core.proofs.alone.compile_alone.Goals as goal

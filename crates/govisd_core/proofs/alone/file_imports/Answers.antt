@@ -2,11 +2,11 @@ use Rattle.std.proofs.Common.{ℕ, ◌<◌, ◌≤◌, length, [], sym, ap, subs
 use Rattle.std.proofs.lemmas.List.{length-map, take_all}
 use Rattle.go_tree_nodes.specs.Shapes.{file_of}
 use Rattle.go_tree_nodes.specs.Trees.{ImportSpecTree}
-use Rattle.go_graph_core.specs.Lists.{AllNumbered}
-use Rattle.go_block_core.specs.declared.imports.Imported.{Imported}
-use Rattle.go_block_core.specs.Naming.{file_specs, import_at}
-use Rattle.go_block_core.specs.mirrors.Shown.{spec_shown}
-use Rattle.go_block_core.proofs.GivenSteps.{numbered_next}
+use Rattle.go_part_core.specs.graph_core.Lists.{AllNumbered}
+use Rattle.go_part_core.specs.block_core.declared.imports.Imported.{Imported}
+use Rattle.go_part_core.specs.block_core.Naming.{file_specs, import_at}
+use Rattle.go_part_core.specs.block_core.mirrors.Shown.{spec_shown}
+use Rattle.go_part_core.specs.block_core.GivenSteps.{numbered_next}
 use Rattle.govisd_core.specs.mirrors.Making.{IsGivenIn}
 use Rattle.govisd_core.proofs.alone.file_imports.Goals as goal
 

@@ -1,7 +1,7 @@
 use Rattle.std.proofs.Common.{take}
 use Rattle.go_tree_nodes.specs.Shapes.{file_of}
-use Rattle.go_graph_core.specs.Lists.{AllNumbered}
-use Rattle.go_block_core.specs.Naming.{file_specs, import_at}
+use Rattle.go_part_core.specs.graph_core.Lists.{AllNumbered}
+use Rattle.go_part_core.specs.block_core.Naming.{file_specs, import_at}
 use Rattle.govisd_core.specs.mirrors.Making.{IsGivenIn}
 use Rattle.govisd_core.proofs.alone.file_imports.Given as goal
 

@@ -1,5 +1,5 @@
 use Rattle.std.proofs.Common.{◌∷◌, ◌++◌, [], string_bytes, ap, ◌∙◌}
-use Rattle.go_graph_core.specs.Workspaces.{given_files}
+use Rattle.go_part_core.specs.graph_core.Workspaces.{given_files}
 use Rattle.govisd_core.proofs.alone.one_file.Goals as goal
 
 pub returns : goal.returns

@@ -1,7 +1,7 @@
 use Rattle.std.proofs.Common.{map}
 use Rattle.std.proofs.lemmas.Result.{IfOk-weaker}
 use Rattle.go_tree_nodes.specs.Shapes.{file_of}
-use Rattle.go_block_core.specs.Naming.{imported_in}
+use Rattle.go_part_core.specs.block_core.Naming.{imported_in}
 use Rattle.govisd_core.proofs.Putting.{input_is, one_each}
 use Rattle.govisd_core.proofs.alone.part_of.Goals as goal
 

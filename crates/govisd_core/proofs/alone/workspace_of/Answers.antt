@@ -1,5 +1,5 @@
 use Rattle.std.proofs.Common.{string_bytes, sym, subst}
-use Rattle.go_graph_core.specs.Workspaces.{HaveDistinctNames, Puts, given_files}
+use Rattle.go_part_core.specs.graph_core.Workspaces.{HaveDistinctNames, Puts, given_files}
 use Rattle.govisd_core.specs.Alone.{the_name}
 use Rattle.govisd_core.proofs.Putting.{one_distinct, put_alone}
 use Rattle.govisd_core.proofs.alone.workspace_of.Goals as goal

@@ -1,5 +1,5 @@
 use Rattle.std.proofs.Common.{sym, subst}
-use Rattle.go_graph_core.specs.Sources.{IsContent}
+use Rattle.go_part_core.specs.graph_core.Sources.{IsContent}
 use Rattle.govisd_core.proofs.ReportLemmas.{text_fault_reports}
 use Rattle.govisd_core.proofs.run.file_report.Goals as goal
 

@@ -1,8 +1,8 @@
 use Rattle.std.proofs.Common.{Err, length, sym, ap, subst, ◌∙◌, arith}
 use Rattle.std.proofs.lemmas.Result.{IfOk-weaker}
 use Rattle.go_tree_nodes.specs.Shapes.{file_of}
-use Rattle.go_graph_core.specs.Packages.{IsAssembled, IsAssembly}
-use Rattle.go_graph_core.specs.Workspaces.{PackageModel}
+use Rattle.go_part_core.specs.graph_core.Packages.{IsAssembled, IsAssembly}
+use Rattle.go_part_core.specs.graph_core.Workspaces.{PackageModel}
 use Rattle.govisd_core.specs.mirrors.Making.{IsTold}
 use Rattle.govisd_core.proofs.Putting.{first_is, has_one_file, is_own}
 use Rattle.govisd_core.proofs.ReportLemmas.{no_name_reports, whole_report}

@@ -1,7 +1,7 @@
 use Rattle.std.proofs.Common.{◌≡◌, ◌∙◌, ◌∷◌, [], ◌++◌, map, refl, sym, ap, subst, append_assoc, rules}
 use Rattle.std.specs.Prelude.{string_bytes}
 use Rattle.std.specs.Vec.Iter.{into_iter_items}
-use Rattle.go_graph_core.proofs.Reading.{drained, map_last}
+use Rattle.go_snap_core.specs.graph_core.Reading.{drained, map_last}
 use Rattle.govisd_folders.specs.Puts.{ArePut, StateModel, folder_of}
 use Rattle.govisd_folders.proofs.PuttingLemmas.{put_more}
 use Rattle.govisd_folders.proofs.putting.put_all.Goals as goal

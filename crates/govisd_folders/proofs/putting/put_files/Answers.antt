@@ -1,6 +1,6 @@
 use Rattle.std.proofs.Common.{◌∙◌, subst}
 use Rattle.std.specs.Prelude.{string_bytes}
-use Rattle.go_graph_core.specs.Workspaces.{given_files}
+use Rattle.go_snap_core.specs.graph_core.Workspaces.{given_files}
 use Rattle.govisd_folders.specs.Puts.{IsPathOf}
 use Rattle.govisd_folders.proofs.PuttingLemmas.{is_put, not_put}
 use Rattle.govisd_folders.proofs.putting.put_files.Goals as goal

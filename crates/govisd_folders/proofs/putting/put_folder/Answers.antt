@@ -1,6 +1,6 @@
 use Rattle.std.proofs.Common.{OnOk, ap₂, subst}
 use Rattle.std.specs.Prelude.{string_bytes}
-use Rattle.go_graph_core.specs.Workspaces.{given_files}
+use Rattle.go_snap_core.specs.graph_core.Workspaces.{given_files}
 use Rattle.govisd_folders.specs.Puts.{FolderModel, IsPut}
 use Rattle.govisd_folders.proofs.FileNames.{distinct_names}
 use Rattle.govisd_folders.proofs.putting.put_folder.Goals as goal

@@ -1,5 +1,5 @@
 use Rattle.std.proofs.Common.{subst}
-use Rattle.go_graph_core.specs.Workspaces.{IsWorkspace}
+use Rattle.govisd_show.specs.graph_core.Workspaces.{IsWorkspace}
 use Rattle.govisd_snapshot.proofs.Fitting.{input_is_read}
 use Rattle.govisd_snapshot.proofs.comparing.input_at.Goals as goal
 

@@ -1,5 +1,5 @@
 use Rattle.std.proofs.Common.{All, sym, ap, subst, ◌∙◌, reverse}
-use Rattle.go_graph_core.specs.Workspaces.{IsWorkspace}
+use Rattle.govisd_show.specs.graph_core.Workspaces.{IsWorkspace}
 use Rattle.govisd_snapshot.proofs.Fitting.{IfPlaced, are_parts_of, parts_are_placed}
 use Rattle.govisd_snapshot.proofs.joining.joined.Goals as goal
 use Rattle.go_snap_core.specs.part_core.Slots.{somes}

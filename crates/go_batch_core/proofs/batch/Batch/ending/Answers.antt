@@ -1,7 +1,7 @@
 use Rattle.std.proofs.Common.{◌≡◌, List, Option, Some, None, set, refl, sym, ap, ◌∙◌, subst}
-use Rattle.go_submit_core.specs.summary_core.Summaries.{SummaryModel}
-use Rattle.go_submit_core.specs.part_core.Parts.{PartModel}
-use Rattle.go_submit_core.specs.make_core.Telling.{told_of}
+use Rattle.go_snap_core.specs.summary_core.Summaries.{SummaryModel}
+use Rattle.go_snap_core.specs.part_core.Parts.{PartModel}
+use Rattle.go_snap_core.specs.make_core.Telling.{told_of}
 use Rattle.go_batch_core.specs.Batches.{Awaits, BatchModel}
 use Rattle.go_batch_core.proofs.Steps.{told_more}
 use Rattle.go_batch_core.proofs.batch.Batch.ending.Goals as goal

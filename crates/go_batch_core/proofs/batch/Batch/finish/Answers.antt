@@ -1,10 +1,10 @@
 use Rattle.std.proofs.Common.{rules, ◌≡◌, ◌<◌, ◌≤◌, ◌+◌, ◌-◌, ℕ, List, Option, Some, None, true, false, length, map, set, refl, sym, ap, ◌∙◌, subst, arith}
 use Rattle.std.specs.Prelude.{slice_get, MatchOption}
 use Rattle.std.proofs.lemmas.Option.{slice_get_within, slice_get-get_or}
-use Rattle.go_graph_core.specs.Workspaces.{PackageModel, AreAllRead}
-use Rattle.go_submit_core.specs.part_core.Parts.{PartModel}
-use Rattle.go_submit_core.specs.whole_core.Inputs.{AreParts, HasReached, IsInputAt}
-use Rattle.go_submit_core.specs.make_core.Telling.{told_of}
+use Rattle.go_snap_core.specs.graph_core.Workspaces.{PackageModel, AreAllRead}
+use Rattle.go_snap_core.specs.part_core.Parts.{PartModel}
+use Rattle.go_snap_core.specs.whole_core.Inputs.{AreParts, HasReached, IsInputAt}
+use Rattle.go_snap_core.specs.make_core.Telling.{told_of}
 use Rattle.go_batch_core.specs.declared.slot.Slot.{Slot}
 use Rattle.go_batch_core.specs.declared.slot.Slot.TheVariants.{NoAction, Untaken, Taken, Finished}
 use Rattle.go_batch_core.specs.declared.batch.Ending.{Ending}

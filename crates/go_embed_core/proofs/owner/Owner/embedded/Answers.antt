@@ -1,5 +1,5 @@
 use Rattle.std.proofs.Common.{sym, ap, ◌∙◌}
-use Rattle.go_type_core.specs.term_core.Shapes.{Line, line_shapes}
+use Rattle.go_term_core.specs.Shapes.{Line, line_shapes}
 use Rattle.go_embed_core.specs.OwnersShown.{owner_shown}
 use Rattle.go_embed_core.proofs.Edging.{embeds_past, embeds_hidden, embeds_shown}
 use Rattle.go_embed_core.specs.mirrors.Edges.{IsHiding, edge_if}

@@ -1,4 +1,4 @@
-use Rattle.go_type_core.specs.term_core.Shapes.{line_shapes}
+use Rattle.go_term_core.specs.Shapes.{line_shapes}
 use Rattle.go_embed_core.specs.OwnersShown.{owner_shown}
 use Rattle.go_embed_core.proofs.Edging.{count_owner}
 use Rattle.go_embed_core.proofs.owner.Owner.field_count.Goals as goal

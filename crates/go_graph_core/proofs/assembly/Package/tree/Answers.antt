@@ -1,6 +1,6 @@
 use Rattle.std.proofs.Common.{◌≡◌, ◌∙◌, ap, subst, Some, get_or, slice_get}
 use Rattle.std.specs.Option.{option_map}
-use Rattle.go_parse_core.specs.tree_nodes.Shapes.{file_of}
+use Rattle.go_tree_nodes.specs.Shapes.{file_of}
 use Rattle.go_graph_core.specs.Packages.{IsAssembled, IsTreeAt, tree_shown, trees_of}
 use Rattle.go_graph_core.proofs.Assemblies.{tree_there}
 use Rattle.go_graph_core.proofs.assembly.Package.tree.Goals as goal

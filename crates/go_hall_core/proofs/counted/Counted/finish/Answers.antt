@@ -1,5 +1,5 @@
 use Rattle.std.proofs.Common.{◌+◌, refl, sym, ap, ◌∙◌}
-use Rattle.go_board_core.specs.sched_core.declared.event.Event.TheVariants.{Finish}
+use Rattle.go_sched_core.specs.declared.event.Event.TheVariants.{Finish}
 use Rattle.go_hall_core.proofs.Pushes.{recorded_counts}
 use Rattle.go_hall_core.proofs.counted.Counted.finish.Goals as goal
 

@@ -1,7 +1,7 @@
 use Rattle.std.proofs.Common.{rules, ◌≡◌, List, sym, subst, arith}
 use Rattle.std.specs.Prelude.{MatchOption}
-use Rattle.go_board_core.specs.sched_core.Steps.{Step}
-use Rattle.go_board_core.specs.sched_core.declared.event.Event.TheVariants.{Close}
+use Rattle.go_sched_core.specs.Steps.{Step}
+use Rattle.go_sched_core.specs.declared.event.Event.TheVariants.{Close}
 use Rattle.go_board_core.specs.submit_core.declared.published.PublishedBatch.{PublishedBatch}
 use Rattle.go_hall_core.proofs.Rooms.{closed_room}
 use Rattle.go_hall_core.proofs.state.HallState.close.Goals as goal

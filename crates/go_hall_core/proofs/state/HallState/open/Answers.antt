@@ -1,8 +1,8 @@
 use Rattle.std.proofs.Common.{rules, ◌≡◌, subst, sym, List, ℕ, arith}
 use Rattle.std.specs.Prelude.{MatchOption}
-use Rattle.go_board_core.specs.sched_core.Service.{Service, open_rule}
-use Rattle.go_board_core.specs.sched_core.Steps.{Step}
-use Rattle.go_board_core.specs.sched_core.declared.event.Event.TheVariants.{Open}
+use Rattle.go_sched_core.specs.Service.{Service, open_rule}
+use Rattle.go_sched_core.specs.Steps.{Step}
+use Rattle.go_sched_core.specs.declared.event.Event.TheVariants.{Open}
 use Rattle.go_board_core.specs.submit_core.declared.published.PublishedBatch.{PublishedBatch}
 use Rattle.go_hall_core.specs.Kept.{IsRefusal, Kept}
 use Rattle.go_hall_core.proofs.Refusals.{open_refusal, open_refused}

@@ -1,5 +1,5 @@
 use Rattle.std.proofs.Common.{rules, subst}
-use Rattle.go_board_core.specs.sched_core.Service.{submit_rule}
+use Rattle.go_sched_core.specs.Service.{submit_rule}
 use Rattle.go_board_core.specs.submit_core.Trees.{TreeModel}
 use Rattle.go_hall_core.specs.Kept.{IsRefusal, Kept}
 use Rattle.go_hall_core.proofs.Refusals.{submit_refusal, submit_refused}

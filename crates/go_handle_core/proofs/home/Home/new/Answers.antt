@@ -1,7 +1,7 @@
 use Rattle.std.proofs.Common.{refl, ap, ◌∙◌}
-use Rattle.go_decide_core.specs.term_core.Terms.{InterfaceOf, NoMethod}
-use Rattle.go_decide_core.specs.term_core.Shapes.{method_shapes}
-use Rattle.go_decide_core.specs.term_core.TermShapes.{shape_interface}
+use Rattle.go_term_core.specs.Terms.{InterfaceOf, NoMethod}
+use Rattle.go_term_core.specs.Shapes.{method_shapes}
+use Rattle.go_term_core.proofs.TermShapes.{shape_interface}
 use Rattle.go_handle_core.proofs.home.Home.new.Goals as goal
 
 pub invariant_of-result : goal.invariant_of-result

@@ -1,6 +1,6 @@
 use Rattle.std.proofs.Common.{sym, ap, ◌∙◌, ◌<◌, subst}
 use Rattle.std.specs.Prelude.{length, slice_get, Some}
-use Rattle.go_decide_core.specs.term_core.Shapes.{shape_found, param_shapes as shown}
+use Rattle.go_term_core.specs.Shapes.{shape_found, param_shapes as shown}
 use Rattle.go_decide_core.specs.table_core.Entries.{find_entry}
 use Rattle.go_decide_core.specs.Rules.{param_types_of}
 use Rattle.go_handle_core.proofs.Listed.{typed_length, typed_at}

@@ -1,8 +1,8 @@
 use Rattle.std.proofs.Common.{◌≡◌, ℕ, List, map, sym, ap, ap₂, subst, ◌∙◌}
-use Rattle.go_summary_core.specs.graph_core.Packages.{trees_of}
-use Rattle.go_summary_core.specs.block_core.declared.imports.Imported.{Imported}
-use Rattle.go_summary_core.specs.block_core.Naming.{HaveOneEach, imported_in}
-use Rattle.go_summary_core.specs.Summaries.{SummaryModel}
+use Rattle.go_package_core.specs.graph_core.Packages.{trees_of}
+use Rattle.go_package_core.specs.block_core.declared.imports.Imported.{Imported}
+use Rattle.go_package_core.specs.block_core.Naming.{HaveOneEach, imported_in}
+use Rattle.go_package_core.specs.summary_core.Summaries.{SummaryModel}
 use Rattle.go_part_core.specs.Inputs.{AreOfOthers, input_with}
 use Rattle.go_part_core.proofs.input.PartInput.with_package.Goals as goal
 

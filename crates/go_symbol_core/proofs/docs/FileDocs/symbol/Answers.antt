@@ -1,7 +1,7 @@
 use Rattle.std.proofs.Common.{List, length, map, refl, ap, subst, arith}
 use Rattle.std.proofs.lemmas.List.{length-map}
-use Rattle.go_decl_core.specs.Shown.{decl_shown}
-use Rattle.go_decl_core.specs.declared.tops.TopDecl.{TopDecl}
+use Rattle.go_block_core.specs.decl_core.Shown.{decl_shown}
+use Rattle.go_block_core.specs.decl_core.declared.tops.TopDecl.{TopDecl}
 use Rattle.go_symbol_core.specs.mirrors.Docs.{HasNumberAt, docs_shown}
 use Rattle.go_symbol_core.proofs.Rising.{shown_rising}
 use Rattle.go_symbol_core.proofs.Showing.{anchored, shown_at}

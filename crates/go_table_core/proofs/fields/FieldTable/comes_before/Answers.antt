@@ -2,7 +2,7 @@ use Rattle.std.proofs.Common.{◌≡◌, None, Some, sym, ap, ◌∙◌}
 use Rattle.std.specs.Str.{chars}
 use Rattle.std.proofs.lemmas.Bool.{true≢false}
 use Rattle.go_settle_core.specs.text_core.Text.{exported}
-use Rattle.go_settle_core.specs.term_core.Shapes.{shape}
+use Rattle.go_term_core.specs.Shapes.{shape}
 use Rattle.go_table_core.specs.Methods.{has_field_before}
 use Rattle.go_table_core.specs.Shown.{member_shown}
 use Rattle.go_table_core.specs.mirrors.Spots.{named_places, found_places}

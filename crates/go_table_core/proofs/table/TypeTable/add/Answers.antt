@@ -1,6 +1,6 @@
 use Rattle.std.proofs.Common.{◌≡◌, ◌<◌, ◌+◌, ◌++◌, length, refl, sym, ap, ◌∙◌, subst, arith}
 use Rattle.std.specs.Prelude.{string_bytes}
-use Rattle.go_settle_core.specs.term_core.Shapes.{shape}
+use Rattle.go_term_core.specs.Shapes.{shape}
 use Rattle.go_table_core.specs.Tables.{AreOthers}
 use Rattle.go_table_core.specs.mirrors.Holding.{numbered}
 use Rattle.go_table_core.proofs.Adding.{table_more}

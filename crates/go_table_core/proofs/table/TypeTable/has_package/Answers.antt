@@ -1,5 +1,5 @@
 use Rattle.std.proofs.Common.{◌≡◌, ◌↔◌, false, is_some, ap, ◌∙◌, subst}
-use Rattle.go_settle_core.specs.term_core.Shapes.{shape}
+use Rattle.go_term_core.specs.Shapes.{shape}
 use Rattle.go_table_core.specs.Tables.{AreOthers}
 use Rattle.go_table_core.specs.mirrors.Holding.{packages_of, package_at}
 use Rattle.go_table_core.proofs.Adding.{in_map}

@@ -1,5 +1,5 @@
 use Rattle.std.proofs.Common.{All, subst}
-use Rattle.go_settle_core.specs.term_core.Shapes.{shape}
+use Rattle.go_term_core.specs.Shapes.{shape}
 use Rattle.go_table_core.specs.Entries.{IsUnnamed}
 use Rattle.go_table_core.specs.mirrors.Holding.{packages_of}
 use Rattle.go_table_core.proofs.Finding.{table_plain}

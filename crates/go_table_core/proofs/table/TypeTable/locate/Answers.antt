@@ -1,5 +1,5 @@
 use Rattle.std.proofs.Common.{◌≡◌, ◌+◌, Some, sym, ap, ◌∙◌, subst, arith}
-use Rattle.go_settle_core.specs.term_core.Shapes.{shape}
+use Rattle.go_term_core.specs.Shapes.{shape}
 use Rattle.go_table_core.specs.Entries.{find_entry}
 use Rattle.go_table_core.specs.Tables.{ArePackageTypes, IsPlaceOf}
 use Rattle.go_table_core.specs.mirrors.Holding.{packages_of, package_at}

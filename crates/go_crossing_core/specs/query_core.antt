@@ -1,3 +1,0 @@
--- What the crates above name of go_query_core.
-pub use Rattle.go_hall.specs.query_core.Entries as Entries
-pub use Rattle.go_hall.specs.query_core.declared as declared

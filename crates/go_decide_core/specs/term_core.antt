@@ -1,7 +1,0 @@
--- What the crates above name of go_term_core.
-pub use Rattle.go_denote_core.specs.term_core.Identity as Identity
-pub use Rattle.go_denote_core.specs.term_core.Shapes as Shapes
-pub use Rattle.go_denote_core.specs.term_core.TermShapes as TermShapes
-pub use Rattle.go_denote_core.specs.term_core.Terms as Terms
-pub use Rattle.go_denote_core.specs.term_core.codes as codes
-pub use Rattle.go_denote_core.specs.term_core.declared as declared

@@ -1,2 +1,0 @@
--- What the crates above name of go_tree_nodes.
-pub use Rattle.go_tree_nodes.specs.Trees as Trees

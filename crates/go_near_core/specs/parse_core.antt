@@ -1,0 +1,3 @@
+-- What the crates above name of go_parse_core.
+pub use Rattle.go_emit_core.specs.parse_core.Correct as Correct
+pub use Rattle.go_emit_core.specs.parse_core.declared as declared

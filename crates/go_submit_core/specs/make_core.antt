@@ -1,2 +1,0 @@
--- What the crates above name of go_make_core.
-pub use Rattle.go_thread_core.specs.make_core.Telling as Telling

@@ -1,3 +1,0 @@
--- What the crates above name of go_whole_core.
-pub use Rattle.go_thread_core.specs.whole_core.Inputs as Inputs
-pub use Rattle.go_thread_core.specs.whole_core.Laws as Laws

@@ -1,0 +1,3 @@
+-- What the crates above name of go_literal_core.
+pub use Rattle.go_piece_core.specs.literal_core.Look as Look
+pub use Rattle.go_piece_core.specs.literal_core.declared as declared

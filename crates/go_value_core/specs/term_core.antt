@@ -1,2 +1,0 @@
--- What the crates above name of go_term_core.
-pub use Rattle.go_env_core.specs.term_core.Terms as Terms
