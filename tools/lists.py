@@ -1,10 +1,10 @@
 #!/usr/bin/env python3
 """Writes the lists of crates.txt, and what crates pass on, anew: python3 tools/lists.py [ROOT]
 
-A crate lists what it names. The toolchain goes down every path of crates.txt, so the paths are kept within a budget (BUDGET): where they are more, the
-edges whose names cost least for the paths that they save are left out, and a crate between passes on what is named of the one below: in code item by
-item, in a module `x_core` at the end of src/lib.rt, in definitions and proofs module by module, in a file specs/x_core.antt. Each name in src/, specs/,
-proofs/, must-fail/ and bench/wrong_bodies/ is written by the way that leads to it. Why is in docs/DESIGN.md, "What a crate lists". It may be run again at any time, and changes nothing where nothing is to be changed: a way that
+A crate lists what it names and cannot have through another that it lists. The toolchain goes down every path of crates.txt, so the paths are kept few.
+What a crate does not list is passed on by one between: in code item by item, in a module `x_core` at the end of src/lib.rt, in definitions and proofs
+module by module, in a file specs/x_core.antt. Each name in src/, specs/, proofs/, must-fail/ and bench/wrong_bodies/ is written by the way that leads to
+it. Why is in docs/DESIGN.md, "What a crate lists". It may be run again at any time, and changes nothing where nothing is to be changed: a way that
 is there stays as long as it leads on, so that a new crate changes next to nothing of those below it, which then stay proved. Run `rt fmt` in the
 crates that it names, since the order of `use` lines may be another.
 """

@@ -1,5 +1,5 @@
 //! All that selectors may denote behind an operand.
-ghost use Rattle.std.specs.Prelude.{◌≡◌, length, option_to_list, IfOk, OnOk};
+ghost use Rattle.std.specs.Prelude.{◌≡◌, ◌+◌, length, option_to_list, IfOk, OnOk};
 ghost use Rattle.go_level_core.specs.table_core.Entries.{find_entry};
 ghost use Rattle.go_term_core.specs.Shapes.{shape};
 ghost use Rattle.go_select_core.specs.Selections.{AreSelections, IsListing};
@@ -13,6 +13,10 @@ use go_level_core::type_core::{TypeTable, TypeTerm};
 use go_level_core::{Levels, Operand, Reached, Selected, behind, expand, is_field};
 use go_text_core::{Name, add};
 use std::alloc::{AllocError, Global};
+
+// How many embedded fields the paths of one listing may have in all. A chain of embedded types has some half of its square: in a text of a megabyte
+// they would take gigabytes.
+const MOST_STEPS: usize = 1_048_576;
 
 /// The types that paths reach from a type, and the identifiers of their members.
 #[derive(Drop)]
@@ -94,6 +98,16 @@ fn entry<'a>(
     Ok(Some(selected))
 }
 
+// What is left of the room for paths behind one more.
+fn room_behind(room: usize, path: &[usize]) -> Result<usize, AllocError>
+    ensures { IfOk result (λ left. left + length path.now ≡ room) }
+{
+    if path.len() > room {
+        return Err(AllocError);
+    }
+    Ok(room - path.len())
+}
+
 // What is listed of all identifiers that are known, in order.
 fn list_names<'a>(
     alloc: Global,
@@ -106,9 +120,11 @@ fn list_names<'a>(
     ensures { IfOk result (λ found. AreListed survey.now.levels.trails survey.now.levels.types.items by_pointer with_methods survey.now.names.known.entries found.items) }
 {
     let mut listed = Vec::new(alloc);
+    let mut room = MOST_STEPS;
     'names: for (_, known) in &survey.names.known {
         let one = entry(alloc, &survey.levels, *known, by_pointer, with_methods)?;
         if let Some(selected) = one {
+            room = room_behind(room, selected.path.steps())?;
             add(&mut listed, selected)?;
         }
     }
@@ -138,7 +154,7 @@ fn selections_in<'a>(
 ///
 /// # Errors
 ///
-/// `AllocError` where memory is wanting.
+/// `AllocError` where memory is wanting, and where the paths would have more than 1,048,576 embedded fields in all.
 pub fn selections<'a>(
     alloc: Global,
     table: &'a TypeTable,
@@ -179,7 +195,7 @@ fn seen_from<'a>(
 ///
 /// # Errors
 ///
-/// `AllocError` where memory is wanting.
+/// `AllocError` where memory is wanting, and where the paths would have more than 1,048,576 embedded fields in all.
 pub fn selectable<'a>(
     alloc: Global,
     table: &'a TypeTable,
