@@ -21,6 +21,7 @@ SERIAL = {
     "go_fault_core": ["go_summary_core"],
     "go_ready_core": ["go_known_core", "go_used_core", "go_file_core"],
     "go_near_core": ["go_emit_core"],
+    "go_board_core": ["go_draft_core"],
     "go_spelling_core": ["go_snap_core"],
     "go_hint_core": ["go_complete_core"],
 }

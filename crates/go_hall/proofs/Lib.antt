@@ -1,9 +1,3 @@
 pub mod Answered
-pub mod Changes
-pub mod Insides
 pub mod Lasts
-pub mod Listed
-pub mod Prefixes
 pub mod Refused
-pub mod Texts
-pub mod Walks

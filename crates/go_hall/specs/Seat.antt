@@ -20,11 +20,3 @@ seat_with id draft seen told submits = record { id = id; draft = draft; seen = s
 abbrev pub view_by : {X : Type 0} → (X → View) → Option X → View
 view_by f None = newcomer
 view_by f (Some x) = f x
-
--- what a contract sees of a look at the board: the module, and the batches on the board
-pub record Looked : Type 0 where
-  pub own : List ℕ
-  pub board : List PublishedBatch
-
-abbrev pub looked_with : List ℕ → List PublishedBatch → Looked
-looked_with own board = record { own = own; board = board }

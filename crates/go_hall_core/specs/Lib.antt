@@ -4,6 +4,5 @@ pub mod Kept
 pub mod batch_core
 pub mod board_core
 pub mod board_core_lemmas
-pub mod part_core
 pub mod sched_core
 pub mod submit_core

@@ -33,5 +33,5 @@ pub mod sched_core {
 
 /// What the crates above name of `go_submit_core`.
 pub mod submit_core {
-    pub use go_board_core::submit_core::{ModuleTree, PublishedBatch, Ticket};
+    pub use go_board_core::submit_core::{ModuleTree, Ticket};
 }

@@ -51,3 +51,8 @@ pub mod scope_core {
 pub mod snap_core {
     pub use go_hint_core::snap_core::{PlacedFault, Snapshot};
 }
+
+/// What the crates above name of `go_symbol_core`.
+pub mod symbol_core {
+    pub use go_symbol_core::Symbol;
+}

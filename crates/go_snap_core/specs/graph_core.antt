@@ -5,6 +5,7 @@ pub use Rattle.go_make_core.specs.graph_core.Lists as Lists
 pub use Rattle.go_make_core.specs.graph_core.Numbers as Numbers
 pub use Rattle.go_make_core.specs.graph_core.OutcomeLaws as OutcomeLaws
 pub use Rattle.go_make_core.specs.graph_core.Packages as Packages
+pub use Rattle.go_make_core.specs.graph_core.Places as Places
 pub use Rattle.go_make_core.specs.graph_core.Plans as Plans
 pub use Rattle.go_make_core.specs.graph_core.Reading as Reading
 pub use Rattle.go_make_core.specs.graph_core.Sources as Sources

@@ -5,4 +5,5 @@ pub mod Published
 pub mod Submitted
 pub mod Trees
 pub mod mirrors
+pub mod graph_core
 pub mod part_core

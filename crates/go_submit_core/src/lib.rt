@@ -18,6 +18,11 @@ pub use published::PublishedBatch;
 pub use submission::{Submission, Submissions, Ticket, has_ticket};
 pub use tree_rules::{MAX_FILES, MAX_PACKAGES, MAX_TEXT};
 
+/// What the crates above name of `go_graph_core`.
+pub mod graph_core {
+    pub use go_snap_core::graph_core::{PackageSource, SourceFile, Workspace};
+}
+
 /// What the crates above name of `go_part_core`.
 pub mod part_core {
     pub use go_snap_core::part_core::Part;

@@ -9,3 +9,4 @@ pub mod place_core
 pub mod query_core
 pub mod shown_core
 pub mod snap_core
+pub mod symbol_core

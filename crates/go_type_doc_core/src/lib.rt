@@ -22,3 +22,8 @@ pub mod query_core {
 pub mod snap_core {
     pub use go_query_core::snap_core::{PlacedFault, Snapshot};
 }
+
+/// What the crates above name of `go_symbol_core`.
+pub mod symbol_core {
+    pub use go_query_core::symbol_core::Symbol;
+}

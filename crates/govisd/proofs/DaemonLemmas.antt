@@ -7,16 +7,16 @@ use Rattle.clap.specs.declared.error.Error.{Error}
 use Rattle.clap.specs.declared.error.kind.ErrorKind.TheVariants as kind
 use Rattle.clap.proofs.OnLiterals.{clap_on_literals}
 use Rattle.govisd.specs.declared.program.Ran.{Ran}
-use Rattle.govisd.specs.declared.words.CountOption.{CountOption}
-use Rattle.govisd.specs.declared.words.CountOption.TheVariants.{Workers}
-use Rattle.govisd.specs.declared.words.Request.{Request}
-use Rattle.govisd.specs.declared.words.Request.TheVariants.{Resolve, Explain, Check, Run, Script, Serve, Help, Version, BadCount}
-use Rattle.govisd.specs.Asking.{Asks, ToRefuse, ToScript, ToServe, command_line, asked_by_subcommand as asked_by, refusals, said, script_with, serve_with}
+use Rattle.govisd_words.specs.declared.words.CountOption.{CountOption}
+use Rattle.govisd_words.specs.declared.words.CountOption.TheVariants.{Workers}
+use Rattle.govisd_words.specs.declared.words.Request.{Request}
+use Rattle.govisd_words.specs.declared.words.Request.TheVariants.{Resolve, Explain, Check, Run, Script, Serve, Help, Version, BadCount}
+use Rattle.govisd_words.specs.Asking.{Asks, ToRefuse, ToScript, ToServe, command_line, asked_by_subcommand as asked_by, refusals, said, script_with, serve_with}
 use Rattle.govisd.specs.Daemons.{Scripts, Serves}
 use Rattle.govisd.specs.Runs.{Around, Does, RefusesCount, RefusesNowhere, RefusesWorkers, Runs, ScriptsAlone, ScriptsEach, ServesAsTold, ServesEach}
 use Rattle.govisd.specs.Says.{RunsOut}
 use Rattle.govisd.proofs.FlagLemmas.{refused_for}
-use Rattle.govisd.proofs.PlainWords.{script_workers, script_workers_named, serve_at, serve_at_named, serve_told, serve_told_named}
+use Rattle.govisd_words.proofs.PlainWords.{script_workers, script_workers_named, serve_at, serve_at_named, serve_told, serve_told_named}
 use Rattle.govisd.proofs.RunLemmas.{asked, failed, ran_out}
 
 same_option : (a b : CountOption) → ToRefuse a ≡ ToRefuse b → a ≡ b

@@ -10,13 +10,13 @@ use Rattle.clap.specs.declared.error.kind.ErrorKind.{ErrorKind}
 use Rattle.clap.specs.declared.error.kind.ErrorKind.TheVariants as kind
 use Rattle.clap.proofs.OnLiterals.{clap_on_literals}
 use Rattle.govisd.specs.declared.program.Ran.{Ran}
-use Rattle.govisd.specs.declared.words.Request.{Request}
-use Rattle.govisd.specs.declared.words.Request.TheVariants.{Resolve, Explain, Check, Run, Script, Serve, Help, Version, BadCount}
-use Rattle.govisd.specs.Asking.{Asks, ToHelp, ToResolve, ToTellVersion, command_behind, command_line, asked_by_subcommand as asked_by, refusals, said}
+use Rattle.govisd_words.specs.declared.words.Request.{Request}
+use Rattle.govisd_words.specs.declared.words.Request.TheVariants.{Resolve, Explain, Check, Run, Script, Serve, Help, Version, BadCount}
+use Rattle.govisd_words.specs.Asking.{Asks, ToHelp, ToResolve, ToTellVersion, command_behind, command_line, asked_by_subcommand as asked_by, refusals, said}
 use Rattle.govisd.specs.Runs.{Around, Does, HelpsAlone, HelpsByFlag, Refuses, RefusesFor, RefusesNothing, RefusesWordBehind, Resolves, ResolvesAlone, Runs, ShowsOrRunsOut, ShowsText, TellsVersion}
 use Rattle.govisd.specs.Says.{RunsOut}
-use Rattle.govisd.specs.Texts.{program_help_text, version_text}
-use Rattle.govisd.proofs.PlainWords.{resolve_word}
+use Rattle.govisd_words.specs.Texts.{program_help_text, version_text}
+use Rattle.govisd_words.proofs.PlainWords.{resolve_word}
 use Rattle.govisd.proofs.RunLemmas.{asked, failed, helped, helps, ran_out}
 
 -- ---- words that are refused for one reason

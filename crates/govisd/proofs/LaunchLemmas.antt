@@ -4,15 +4,15 @@ use Rattle.std.specs.Prelude.{codes, option_map}
 use Rattle.std.specs.Io.KnownBytes.{Keeps}
 use Rattle.clap.specs.Walk.{Text}
 use Rattle.govisd.specs.declared.program.Ran.{Ran}
-use Rattle.govisd.specs.declared.words.CountOption.TheVariants.{Steps}
-use Rattle.govisd.specs.declared.words.Request.{Request}
-use Rattle.govisd.specs.declared.words.Request.TheVariants.{Resolve, Explain, Check, Run, Script, Serve, Help, Version, BadCount}
-use Rattle.govisd.specs.Asking.{ToRun, command_line, asked_by_subcommand as asked_by, refusals, run_with, said}
+use Rattle.govisd_words.specs.declared.words.CountOption.TheVariants.{Steps}
+use Rattle.govisd_words.specs.declared.words.Request.{Request}
+use Rattle.govisd_words.specs.declared.words.Request.TheVariants.{Resolve, Explain, Check, Run, Script, Serve, Help, Version, BadCount}
+use Rattle.govisd_words.specs.Asking.{ToRun, command_line, asked_by_subcommand as asked_by, refusals, run_with, said}
 use Rattle.govisd.specs.Launches.{RunsFolder}
 use Rattle.govisd.specs.Runs.{Around, Does, RefusesSteps, Runs, RunsAsTold, RunsEach}
 use Rattle.govisd.specs.Says.{RunsOut}
 use Rattle.govisd.proofs.DaemonLemmas.{count_refused}
-use Rattle.govisd.proofs.PlainWords.{run_folder, run_folder_named, run_steps, run_steps_named, run_told, run_told_named}
+use Rattle.govisd_words.proofs.PlainWords.{run_folder, run_folder_named, run_steps, run_steps_named, run_told, run_told_named}
 use Rattle.govisd.proofs.RunLemmas.{done}
 
 same_folder : (a b : Text) (p q m n : Option Text) (i j : ℕ) → ToRun a p m i ≡ ToRun b q n j → a ≡ b

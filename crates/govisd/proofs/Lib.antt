@@ -1,10 +1,6 @@
-pub mod CommandLemmas
-pub mod CountLemmas
 pub mod DaemonLemmas
 pub mod FlagLemmas
 pub mod LaunchLemmas
 pub mod MadeLemmas
-pub mod PlainWords
 pub mod RunLemmas
 pub mod SayLemmas
-pub mod WordLemmas

@@ -8,7 +8,7 @@ use Rattle.go_explain_core.specs.Telling.{unknown_text}
 use Rattle.govisd_core.proofs.OutputLemmas.{keeps_same}
 use Rattle.govisd.specs.Runs.{Explains, ExplainsFound, Helps, HelpsFound, RefusesMade, RefusesName}
 use Rattle.govisd.specs.Says.{SaysText}
-use Rattle.govisd.specs.Texts.{help_of, unknown_command_text}
+use Rattle.govisd_words.specs.Texts.{help_of, unknown_command_text}
 
 -- what was made is known
 refused : {Z E : Type 0} (made : Result (String Z) E) (text : List ℕ) (ran : Ran) (err err' : Option (List ℕ)) → IfOk made (λ t. string_bytes t ≡ text) → RefusesMade made ran err err' → RefusesName text ran err err'

@@ -15,13 +15,13 @@ use Rattle.go_explain_core.specs.Telling.{explained_text, list_text, unknown_tex
 use Rattle.go_explain_core.proofs.Everywhere.{everywhere}
 use Rattle.go_explain_core.proofs.Numbers.{names_each}
 use Rattle.govisd.specs.declared.program.Ran.{Ran}
-use Rattle.govisd.specs.declared.words.Request.{Request}
-use Rattle.govisd.specs.declared.words.Request.TheVariants.{Resolve, Explain, Check, Run, Script, Serve, Help, Version, BadCount}
-use Rattle.govisd.specs.Asking.{Asks, ToCheck, ToExplain, ToHelp, is_plain, command_line, asked_by_subcommand as asked_by, refusals, said}
+use Rattle.govisd_words.specs.declared.words.Request.{Request}
+use Rattle.govisd_words.specs.declared.words.Request.TheVariants.{Resolve, Explain, Check, Run, Script, Serve, Help, Version, BadCount}
+use Rattle.govisd_words.specs.Asking.{Asks, ToCheck, ToExplain, ToHelp, is_plain, command_line, asked_by_subcommand as asked_by, refusals, said}
 use Rattle.govisd.specs.Runs.{Around, ChecksEach, ChecksEachAsJson, ChecksEachModule, ChecksFolder, Does, Explains, ExplainsEach, ExplainsFound, Helps, HelpsEach, HelpsFound, ListsAll, Refuses, RefusesName, RefusesOtherCommands, RefusesOthers, Runs, ShowsOrRunsOut}
 use Rattle.govisd.specs.Says.{RunsOut}
-use Rattle.govisd.specs.Texts.{help_of, unknown_command_text}
-use Rattle.govisd.proofs.PlainWords.{check_folder, check_folder_named, check_module, check_module_json, check_module_json_named, check_module_named, explain_word, explain_word_named, help_word, help_word_named}
+use Rattle.govisd_words.specs.Texts.{help_of, unknown_command_text}
+use Rattle.govisd_words.proofs.PlainWords.{check_folder, check_folder_named, check_module, check_module_json, check_module_json_named, check_module_named, explain_word, explain_word_named, help_word, help_word_named}
 
 -- words that are not refused ask for what they name
 pub asked : (words : List Text) (request : Request) → refusals words ≡ [] → Asks words (Ok request) → said request ≡ asked_by words

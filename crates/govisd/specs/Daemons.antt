@@ -1,14 +1,13 @@
 -- What `script` and `serve` do.
 use Rattle.std.specs.Prelude.{◌≡◌, ◌⊎◌, ◌++◌, ℕ, List, Option, IfSome}
-use Rattle.std.specs.Net.Addr.{IsLoopbackV4, IsLoopbackV6, MatchIp}
-use Rattle.std.specs.Net.Socket.{socket_ip}
 use Rattle.std.specs.declared.net.socket_addr.SocketAddr.{SocketAddr}
 use Rattle.go_wire_core.specs.declared.serving.ServeEnd.{ServeEnd}
 use Rattle.govisd_service.specs.Ends.{IsScript}
 use Rattle.govisd.specs.declared.program.Ran.{Ran}
 use Rattle.govisd.specs.Says.{RunsOut, SaysText}
-use Rattle.govisd.specs.Statuses.{serve_status}
-use Rattle.govisd.specs.Texts.{listening_line, script_end_text, serve_end_text, unbound_text, warning_line}
+use Rattle.govisd_words.specs.Listening.{IsListeningText}
+use Rattle.govisd_words.specs.Statuses.{serve_status}
+use Rattle.govisd_words.specs.Texts.{script_end_text, serve_end_text, unbound_text}
 
 -- a script was served: how it ended, over the bytes that the reader had, what was written, and what was said
 pub record Scripts (ran : Ran) (given left out out' err err' : Option (List ℕ)) : Type 0 where
@@ -16,14 +15,6 @@ pub record Scripts (ran : Ran) (given left out out' err err' : Option (List ℕ)
   pub serves : IfSome given (λ bytes. IsScript ending bytes left out out')
   pub status : ran.status ≡ serve_status ending
   pub says : SaysText ran.is_told (script_end_text ending) err err'
-
--- only this machine reaches an address
-abbrev pub IsLoopback : SocketAddr → Type 0
-IsLoopback place = MatchIp (socket_ip place) IsLoopbackV4 IsLoopbackV6
-
--- what is said once an address is listened at; of one that others may reach, that they may
-abbrev pub IsListeningText : SocketAddr → List ℕ → Type 0
-IsListeningText place text = (IsLoopback place × (text ≡ listening_line place)) ⊎ ((¬ IsLoopback place) × (text ≡ listening_line place ++ warning_line))
 
 -- it was served at an address: where that is was said before, and why it ended behind that
 pub record ServesThere (ran : Ran) (err err' : Option (List ℕ)) : Type 0 where

@@ -13,23 +13,23 @@ use Rattle.govisd_core.specs.Reports.{IsEnd, ReadsAll, max_bytes}
 use Rattle.govisd_core.specs.declared.run.ResolveEnd.{ResolveEnd}
 use Rattle.govisd_core.specs.declared.run.ResolveEnd.TheVariants.{WriteFault, Memory}
 use Rattle.govisd.specs.declared.program.Ran.{Ran}
-use Rattle.govisd.specs.declared.words.CountOption.{CountOption}
-use Rattle.govisd.specs.declared.words.CountOption.TheVariants.{Workers, Steps}
-use Rattle.govisd.specs.declared.words.Request.{Request}
-use Rattle.govisd.specs.declared.words.Request.TheVariants.{Resolve, Explain, Check, Run, Script, Serve, Help, Version, BadCount}
+use Rattle.govisd_words.specs.declared.words.CountOption.{CountOption}
+use Rattle.govisd_words.specs.declared.words.CountOption.TheVariants.{Workers, Steps}
+use Rattle.govisd_words.specs.declared.words.Request.{Request}
+use Rattle.govisd_words.specs.declared.words.Request.TheVariants.{Resolve, Explain, Check, Run, Script, Serve, Help, Version, BadCount}
 use Rattle.go_explain_core.specs.Naming.{rule_of_number}
 use Rattle.govisd_folders.specs.Checks.{IsAnswerOfCheck}
 use Rattle.govisd_folders.specs.declared.checking.CheckAnswer.{CheckAnswer}
 use Rattle.go_text_core.specs.Rules.{rule_number}
 use Rattle.go_text_core.specs.declared.rule.Rule.{Rule}
-use Rattle.govisd.specs.Asking.{Asks, is_plain, command_line}
+use Rattle.govisd_words.specs.Asking.{Asks, is_plain, command_line}
 use Rattle.go_explain_core.specs.Telling.{explained_text, list_text, unknown_text}
-use Rattle.govisd.specs.Counts.{connections_in, steps_in, workers_in}
+use Rattle.govisd_words.specs.Counts.{connections_in, steps_in, workers_in}
 use Rattle.govisd.specs.Daemons.{Scripts, Serves}
 use Rattle.govisd.specs.Launches.{Launching, RunsFolder}
 use Rattle.govisd.specs.Says.{RunsOut, SaysText, WritesAnswer}
-use Rattle.govisd.specs.Statuses.{end_status, refusal_status}
-use Rattle.govisd.specs.Texts.{bad_count_text, end_text, help_of, program_help_text, refused_text, unknown_command_text, version_text}
+use Rattle.govisd_words.specs.Statuses.{end_status, refusal_status}
+use Rattle.govisd_words.specs.Texts.{bad_count_text, end_text, help_of, program_help_text, refused_text, unknown_command_text, version_text}
 
 -- a run of `resolve`: how it ended, over the bytes that the reader had, what was written, and what was said
 pub record Resolves (ran : Ran) (given left out out' err err' : Option (List ℕ)) : Type 0 where

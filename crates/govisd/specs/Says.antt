@@ -5,7 +5,7 @@ use Rattle.govisd_core.specs.Outputs.{IsCutShort}
 use Rattle.govisd_core.specs.declared.run.ResolveEnd.TheVariants.{WriteFault, Memory}
 use Rattle.govisd_folders.specs.declared.checking.CheckAnswer.{CheckAnswer}
 use Rattle.govisd.specs.declared.program.Ran.{Ran}
-use Rattle.govisd.specs.Texts.{end_text}
+use Rattle.govisd_words.specs.Texts.{end_text}
 
 -- all of a text was written, or the first bytes alone
 abbrev pub SaysText : Bool → List ℕ → Option (List ℕ) → Option (List ℕ) → Type 0

@@ -1,14 +1,15 @@
 //! Scripts and daemons: Go sessions that are served.
 ghost use Rattle.std.specs.Prelude.{◌≡◌, ℕ, List, IfOk, string_bytes};
-ghost use Rattle.govisd.specs.Daemons.{IsListeningText, RefusesAddress, Scripts as ServesScript, Serves as ServesDaemon, ServesThere};
+ghost use Rattle.govisd_words.specs.Listening.{IsListeningText};
+ghost use Rattle.govisd.specs.Daemons.{RefusesAddress, Scripts as ServesScript, Serves as ServesDaemon, ServesThere};
 ghost use Rattle.govisd.specs.Says.{SaysMore};
-ghost use Rattle.govisd.specs.Texts.{unbound_text as text_of_unbound};
+ghost use Rattle.govisd_words.specs.Texts.{unbound_text as text_of_unbound};
 
 use crate::program::{Ended, Ran, run_out, tell};
-use crate::status::serve_status;
-use crate::texts::{listening_text, script_end_text, serve_end_text, unbound_text};
-use crate::words::Daemon;
 use govisd_service::{Served, run_script, run_serve};
+use govisd_words::{
+    Daemon, listening_text, script_end_text, serve_end_text, serve_status, unbound_text,
+};
 use std::alloc::{AllocError, Global};
 use std::io;
 use std::io::{Read, Write};

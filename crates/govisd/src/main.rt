@@ -4,15 +4,12 @@
 mod daemons;
 mod launches;
 mod program;
-mod status;
-mod texts;
-mod words;
 
 use govisd_folders::{CheckAnswer, Order, check_folder};
 use govisd_runs::{RunOrder, run_folder};
+use govisd_words::unread_status;
 use launches::Launches;
 use program::{Checks, run};
-use status::unread_status;
 use std::alloc::AllocError;
 use std::io;
 use std::process::ExitCode;

@@ -3,24 +3,22 @@ ghost use Rattle.std.specs.Prelude.{◌≡◌, ◌++◌, List, ℕ, map, option_
 ghost use Rattle.clap.specs.Values.{kind_of};
 ghost use Rattle.std.specs.Result.{result_ok};
 ghost use Rattle.govisd_folders.specs.Checks.{IsAnswerOfCheck};
-ghost use Rattle.govisd.specs.Texts.{refused_text as text_of_refused};
-ghost use Rattle.govisd.specs.Asking.{is_script};
+ghost use Rattle.govisd_words.specs.Texts.{refused_text as text_of_refused};
+ghost use Rattle.govisd_words.specs.Asking.{is_script};
 ghost use Rattle.govisd.specs.Runs.{ChecksEach, ChecksEachAsJson, ChecksEachModule, ChecksFolder, Does, Explains, Helps, Refuses, RefusesCount, RefusesMade, Resolves, Runs, ShowsText, ShowsMade, ExplainsEach, HelpsAlone, HelpsByFlag, HelpsEach, ListsAll, RefusesNothing, RefusesNowhere, RefusesOtherCommands, RefusesOthers, RefusesSteps, RefusesWordBehind, RefusesWorkers, ResolvesAlone, RunsAsTold, RunsEach, ScriptsAlone, ScriptsEach, ServesAsTold, ServesEach, TellsVersion, around};
 ghost use Rattle.govisd.specs.Says.{RunsOut, SaysText, WritesAnswer};
 
 use crate::daemons::{script, serve};
 use crate::launches::{Launches, launch};
-use crate::status::{end_status, refusal_status};
-use crate::texts::{
-    bad_count_text, command_help, end_text, program_help, refused_text, unknown_command,
-    version_text,
-};
-use crate::words::{CountOption, Request, read_words};
 use clap::Error;
 use clap::error::ErrorKind;
 use go_explain_core::{explained, listed, rule_named, unknown};
 use govisd_core::{ResolveEnd, run_resolve, write_report};
 use govisd_folders::{CheckAnswer, Order};
+use govisd_words::{
+    CountOption, Request, bad_count_text, command_help, end_status, end_text, program_help,
+    read_words, refusal_status, refused_text, unknown_command, version_text,
+};
 use std::alloc::{AllocError, Global};
 use std::convert::AsStr;
 use std::io::{Read, Write};

@@ -1,3 +1,2 @@
 mod Many
-mod Zips
 mod Opening

@@ -11,14 +11,14 @@ use Rattle.go_hall.specs.submit_core.Published.{BeginsWith}
 use Rattle.go_hall.specs.submit_core.Trees.{tree_with}
 use Rattle.go_hall.specs.submit_core.declared.published.PublishedBatch.{PublishedBatch}
 use Rattle.go_hall.specs.snap_core.Snapshots.{SnapshotModel}
-use Rattle.go_hall.specs.Asked.{IsAnswer}
-use Rattle.go_hall.specs.Built.{IsBuilt}
-use Rattle.go_hall.specs.declared.faults.Fault.{Fault}
-use Rattle.go_hall.specs.Edits.{IsEditOf, IsEditRefusal}
-use Rattle.go_hall.specs.Queries.{IsCompleteAnswer, IsDefineAnswer, IsDocAnswer, IsListAnswer, IsTypeDocAnswer}
+use Rattle.govisd_replies.specs.look_core.Asked.{IsAnswer}
+use Rattle.govisd_replies.specs.look_core.Built.{IsBuilt}
+use Rattle.govisd_replies.specs.look_core.declared.faults.Fault.{Fault}
+use Rattle.go_hall.specs.draft_core.Edits.{IsEditOf, IsEditRefusal}
+use Rattle.govisd_replies.specs.look_core.Queries.{IsCompleteAnswer, IsDefineAnswer, IsDocAnswer, IsListAnswer, IsTypeDocAnswer}
 use Rattle.go_hall.specs.Refusals.{IsBuildRefusal, IsOpenRefusal}
 use Rattle.go_hall.specs.Seat.{Seat}
-use Rattle.govisd_desk.specs.Told.{TellsDeclaration, TellsDoc, TellsListing, TellsNames, TellsTypeDoc, place_of}
+use Rattle.govisd_replies.specs.Told.{TellsDeclaration, TellsDoc, TellsListing, TellsNames, TellsTypeDoc, place_of}
 
 -- ---- open
 

@@ -1,14 +1,14 @@
 //! What an open session replies to each command.
 ghost use Rattle.std.specs.Prelude.{◌≡◌, option_map, string_bytes};
-ghost use Rattle.go_hall.specs.Queries.{IsCompleteAnswer, IsDefineAnswer, IsDocAnswer, IsListAnswer, IsTypeDocAnswer};
+ghost use Rattle.govisd_replies.specs.look_core.Queries.{IsCompleteAnswer, IsDefineAnswer, IsDocAnswer, IsListAnswer, IsTypeDocAnswer};
 ghost use Rattle.govisd_desk.specs.Sessions.{IsBuildReply, IsDocReply, IsEditReply, IsReply, IsTold};
-ghost use Rattle.govisd_desk.specs.Told.{TellsBuild, TellsDeclaration, TellsDoc, TellsListing, TellsNames, TellsTypeDoc};
+ghost use Rattle.govisd_replies.specs.Told.{TellsBuild, TellsDeclaration, TellsDoc, TellsListing, TellsNames, TellsTypeDoc};
 
-use crate::telling::{described, described_type, listed, names_told, or_memory, places};
 use go_hall::hall_core::Named;
 use go_hall::{Built, Look, Session};
 use go_text_core::Rule;
 use go_wire_core::{Text, WireReply};
+use govisd_replies::{described, described_type, listed, names_told, or_memory, places};
 use std::alloc::Global;
 use std::sync::Wait;
 

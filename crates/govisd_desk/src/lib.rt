@@ -5,7 +5,6 @@ mod asking;
 mod connection;
 mod script;
 mod seating;
-mod telling;
 
 pub use connection::ConnectionDesk;
 pub use script::ScriptDesk;

@@ -10,18 +10,8 @@ use crate::progress::Progress;
 use crate::telling::told;
 use go_snap_core::graph_core::Workspace;
 use go_snap_core::{PlacedFault, Snapshot, compile, faults_lie_in_files};
+use govisd_orders::Order;
 use std::alloc::{AllocError, Global};
-
-/// What is to be checked.
-#[derive(Clone, Copy)]
-pub struct Order<'a> {
-    /// The folder.
-    pub folder: &'a str,
-    /// The path of its module; if none is given, the name of the folder, which is the last component of its path from the root, without links.
-    pub module_path: Option<&'a str>,
-    /// Whether the faults are written as JSON.
-    pub json: bool,
-}
 
 /// What came of the check of a folder, or of a run of its program.
 #[derive(Drop)]

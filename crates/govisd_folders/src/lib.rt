@@ -10,8 +10,9 @@ mod putting;
 mod reading;
 mod telling;
 
-pub use checking::{CheckAnswer, Order, check_folder};
+pub use checking::{CheckAnswer, check_folder};
 pub use finding::{FoundPackages, ReadFolder, read_folder};
+pub use govisd_orders::Order;
 pub use notes::{name_or_quotes, note, note_rule, push};
 pub use progress::Progress;
 pub use putting::path_of;

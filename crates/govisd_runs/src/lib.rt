@@ -7,4 +7,5 @@ mod choosing;
 mod packages;
 mod running;
 
-pub use running::{RunOrder, run_folder};
+pub use govisd_orders::RunOrder;
+pub use running::run_folder;

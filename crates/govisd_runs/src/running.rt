@@ -9,20 +9,8 @@ use crate::packages::run_main;
 use go_site_core::graph_core::Workspace;
 use govisd_folders::snap_core::{PlacedFault, Snapshot, compile, faults_lie_in_files};
 use govisd_folders::{CheckAnswer, Progress, ReadFolder, push, read_folder, told};
+use govisd_orders::RunOrder;
 use std::alloc::{AllocError, Global};
-
-/// What is to be run.
-#[derive(Clone, Copy)]
-pub struct RunOrder<'a> {
-    /// The folder.
-    pub folder: &'a str,
-    /// The path of its module; if none is given, the name of the folder, which is the last component of its path from the root, without links.
-    pub module_path: Option<&'a str>,
-    /// The path of the package that is run; if none is given, the one package of the folder that is called `main`.
-    pub main_path: Option<&'a str>,
-    /// How many steps are done at most, one for each instruction.
-    pub steps: u64,
-}
 
 // Whether there is no fault, and nothing was left out.
 fn is_clean(faults: &[PlacedFault], notes: &str) -> bool

@@ -1,2 +1,3 @@
 mod Serving
 mod Unserved
+pub mod Crossing

@@ -2,10 +2,12 @@
 #![tactic(auto)]
 
 mod connections;
+mod laws;
 mod script;
 mod workers;
 
 pub use connections::{run_serve, serve_connection};
+pub use laws::halls_cross;
 pub use script::{Served, run_script};
 
 /// The turns of a script and of a connection: reads of at most 65,536 bytes each.

@@ -1,6 +1,6 @@
 use Rattle.std.proofs.Common.{subst}
 use Rattle.govisd.specs.Says.{SaysMore}
-use Rattle.govisd.specs.Texts.{serve_end_text}
+use Rattle.govisd_words.specs.Texts.{serve_end_text}
 use Rattle.govisd.proofs.SayLemmas.{said_more}
 use Rattle.govisd.proofs.daemons.serve_there.Goals as goal
 

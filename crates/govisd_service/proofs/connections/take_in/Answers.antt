@@ -2,7 +2,7 @@ use denote.Param.{param}
 use denote.Param.Send.{sendable}
 use Rattle.std.proofs.Crossing as std
 use Rattle.std.proofs.sync.atomic.AtomicU64.TheSendSync as atomic
-use Rattle.go_crossing_core.proofs.Crossing.{hall_row_sync}
+use Rattle.govisd_service.proofs.Crossing.{hall_row_sync}
 use Rattle.govisd_service.proofs.connections.take_in.Goals as goal
 
 pub spawn-requires-send-F : goal.spawn-requires-send-F

@@ -1,6 +1,6 @@
 use denote.Param.{param}
 use denote.Param.Send.{sendable}
-use Rattle.go_crossing_core.proofs.Crossing.{hall_row_sync}
+use Rattle.govisd_service.proofs.Crossing.{hall_row_sync}
 use Rattle.govisd_service.proofs.workers.start.Goals as goal
 
 pub spawn-requires-send-F : goal.spawn-requires-send-F

@@ -1,6 +1,0 @@
-use Rattle.go_crossing_core.specs.contracts.halls_cross.{L-row}
-use Rattle.go_crossing_core.proofs.halls_cross.Goals as goal
-use Rattle.go_crossing_core.proofs.Crossing.{hall_row_send, hall_row_sync}
-
-pub returns : goal.returns
-returns g c = (hall_row_send (L-row g.row.L) (record { all = g.L.Named.all }) (record { name = g.L.Ledger.name; parts = g.L.Ledger.parts }), hall_row_sync (L-row g.row.L) (record { all = g.L.Named.all }) (record { name = g.L.Ledger.name; parts = g.L.Ledger.parts }))

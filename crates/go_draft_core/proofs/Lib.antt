@@ -1,0 +1,4 @@
+pub mod Changes
+pub mod Prefixes
+pub mod Texts
+pub mod Walks

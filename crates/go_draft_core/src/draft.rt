@@ -1,0 +1,185 @@
+//! Edits of drafts.
+ghost use Rattle.std.specs.Prelude.{◌≡◌, ◌++◌, ◌⊎◌, IfErr, IfOk, MatchOption, None, OnOk, Some, option_map, string_bytes};
+ghost use Rattle.std.specs.BTreeMap.{is_at};
+ghost use Rattle.std.specs.List.Sorted.{IsStrictlySortedBy};
+ghost use Rattle.std.specs.Str.{bytes_eq};
+ghost use Rattle.go_submit_core.specs.graph_core.Workspaces.{HaveDistinctNames, by_bytes, files_at, given_files, names_of_files};
+ghost use Rattle.go_submit_core.specs.Trees.{tree_rule, tree_with};
+ghost use Rattle.go_draft_core.specs.Edits.{IsEditOf, IsEditRefusal, IsEdited, edited_texts, files_or_none, other_files, text_there, texts_of};
+
+use crate::places::draft_path;
+use go_path_core::ImportPath;
+use go_submit_core::ModuleTree;
+use go_submit_core::graph_core::{PackageSource, SourceFile, Workspace};
+use go_text_core::{Rule, add};
+use std::alloc::{AllocError, Global};
+
+// Whether a package is the one of a path.
+fn is_of_path(package: &PackageSource, path: &ImportPath) -> bool
+    ensures { result ≡ is_at (by_bytes path.now) «package».now.0 }
+{
+    package.path().is_same(path)
+}
+
+// The files of the package of a path, in byte order of name.
+#[tactic(auto, using(crate::proofs::Walks::found_here, crate::proofs::Walks::found_past, crate::proofs::Walks::found_nowhere))]
+fn files_of<'a>(packages: &'a [PackageSource], path: &ImportPath) -> Option<&'a [SourceFile]>
+    ensures { MatchOption result (files_at packages.now path.now ≡ None) (λ fs. (files_at packages.now path.now ≡ Some fs.now) × IsStrictlySortedBy by_bytes (names_of_files fs.now)) }
+{
+    for package in packages {
+        if is_of_path(package, path) {
+            return Some(package.files());
+        }
+    }
+    None
+}
+
+// Whether a file has a name.
+fn is_named(file: &SourceFile, name: &str) -> bool
+    ensures { result ≡ bytes_eq file.now.name name.now }
+{
+    file.name() == name
+}
+
+// The name and the text of a file, once more.
+fn text_of(alloc: Global, file: &SourceFile) -> Result<(String, String), AllocError>
+    ensures name { IfOk result (λ t. string_bytes t.0 ≡ file.now.name) }
+    ensures text { IfOk result (λ t. string_bytes t.1 ≡ file.now.text) }
+{
+    let name = String::from_str(alloc, file.name())?;
+    let text = String::from_str(alloc, file.text())?;
+    Ok((name, text))
+}
+
+// The names and texts of the files that are not of a name.
+#[tactic(auto, using(crate::proofs::Texts::others_here, crate::proofs::Texts::others_past))]
+fn other_texts(
+    alloc: Global,
+    files: &[SourceFile],
+    name: &str,
+) -> Result<Vec<(String, String)>, AllocError>
+    ensures { IfOk result (λ texts. given_files texts.items ≡ texts_of (other_files name.now files.now)) }
+{
+    let mut texts = Vec::new(alloc);
+    for file in files {
+        if !is_named(file, name) {
+            add(&mut texts, text_of(alloc, file)?)?;
+        }
+    }
+    Ok(texts)
+}
+
+// The same of the package of a path, if there is one.
+fn texts_beside(
+    alloc: Global,
+    packages: &[PackageSource],
+    path: &ImportPath,
+    name: &str,
+) -> Result<Vec<(String, String)>, AllocError>
+    ensures texts { IfOk result (λ texts. given_files texts.items ≡ texts_of (other_files name.now (files_or_none (files_at packages.now path.now)))) }
+    ensures order { OnOk result (IsStrictlySortedBy by_bytes (names_of_files (files_or_none (files_at packages.now path.now)))) }
+{
+    match files_of(packages, path) {
+        Some(files) => {
+            let texts = other_texts(alloc, files, name)?;
+            Ok(texts)
+        }
+        None => Ok(Vec::new(alloc)),
+    }
+}
+
+// Adds a text under its name, if there is one.
+#[tactic(auto, using(crate::proofs::Texts::given_more, crate::proofs::Texts::given_same))]
+fn add_text(
+    alloc: Global,
+    texts: &mut Vec<(String, String)>,
+    name: &str,
+    text: Option<String>,
+) -> Result<(), AllocError>
+    ensures { OnOk result (given_files texts.new.items ≡ given_files texts.old.items ++ text_there name.now (option_map (λ s. string_bytes s) text)) }
+{
+    match text {
+        Some(text) => {
+            let name = String::from_str(alloc, name)?;
+            add(texts, (name, text))?;
+            Ok(())
+        }
+        None => Ok(()),
+    }
+}
+
+// The names and texts of the files of the package of a path, with one set to a text, or without it.
+#[tactic(auto, using(crate::proofs::Texts::texts_are, crate::proofs::Texts::distinct_edited))]
+fn texts_edited(
+    alloc: Global,
+    packages: &[PackageSource],
+    path: &ImportPath,
+    name: &str,
+    text: Option<String>,
+) -> Result<Vec<(String, String)>, AllocError>
+    ensures texts { IfOk result (λ texts. given_files texts.items ≡ edited_texts (files_or_none (files_at packages.now path.now)) name.now (option_map (λ s. string_bytes s) text)) }
+    ensures distinct { IfOk result (λ texts. HaveDistinctNames (given_files texts.items)) }
+{
+    let mut texts = texts_beside(alloc, packages, path, name)?;
+    add_text(alloc, &mut texts, name, text)?;
+    Ok(texts)
+}
+
+// The packages with a file set to a text, or without it.
+#[tactic(auto, using(crate::proofs::Texts::edited_from))]
+fn put_file(
+    alloc: Global,
+    packages: &Workspace,
+    path: &ImportPath,
+    name: &str,
+    text: Option<String>,
+) -> Result<Workspace, AllocError>
+    ensures { IfOk result (λ new. IsEdited packages.now path.now name.now (option_map (λ s. string_bytes s) text) new) }
+{
+    let texts = texts_edited(alloc, packages.packages(), path, name, text)?;
+    let mut edited = packages.copy(alloc)?;
+    match edited.put(alloc, path, texts) {
+        Ok(()) => Ok(edited),
+        Err(_) => Err(AllocError),
+    }
+}
+
+// A tree of the module of a draft.
+fn tree_of(alloc: Global, draft: &ModuleTree, packages: Workspace) -> Result<ModuleTree, Rule>
+    ensures ok { IfOk result (λ new. (new ≡ tree_with draft.now.own packages) × (tree_rule draft.now.own packages ≡ None)) }
+    ensures err { IfErr result (λ rule. (rule ≡ Rule.M0) ⊎ (tree_rule draft.now.own packages ≡ Some rule)) }
+{
+    let Ok(own) = draft.own().share() else {
+        return Err(Rule::M0);
+    };
+    match ModuleTree::make(alloc, own, packages) {
+        Ok(new) => Ok(new),
+        Err(rule) => Err(rule),
+    }
+}
+
+/// A draft with a file set to a text, or without it. A file that is away already is no fault.
+///
+/// # Errors
+///
+/// `Rule::E1` where the path is none or lies outside the module; else the first of the rules `Rule::E1` to `Rule::E5` that the draft would break then.
+/// `Rule::M0` where memory is wanting.
+pub fn edited(
+    alloc: Global,
+    draft: &ModuleTree,
+    path: &str,
+    name: &str,
+    text: Option<String>,
+) -> Result<ModuleTree, Rule>
+    ensures ok { IfOk result (λ new. IsEditOf draft.now path.now name.now (option_map (λ s. string_bytes s) text) new) }
+    ensures err { IfErr result (λ rule. IsEditRefusal draft.now path.now name.now (option_map (λ s. string_bytes s) text) rule) }
+{
+    let path = draft_path(alloc, draft.own(), path)?;
+    let Ok(packages) = put_file(alloc, draft.packages(), &path, name, text) else {
+        return Err(Rule::M0);
+    };
+    match tree_of(alloc, draft, packages) {
+        Ok(new) => Ok(new),
+        Err(rule) => Err(rule),
+    }
+}

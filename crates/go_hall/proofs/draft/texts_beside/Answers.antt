@@ -1,6 +1,0 @@
-use Rattle.go_graph_core.specs.Workspaces.{files_at}
-use Rattle.go_hall.proofs.Texts.{no_files}
-use Rattle.go_hall.proofs.draft.texts_beside.Goals as goal
-
-pub returns-in-None-clause-order : goal.returns-in-None-clause-order
-returns-in-None-clause-order c = no_files (files_at c.args.packages.now c.args.path.now) c.in-None.ensures

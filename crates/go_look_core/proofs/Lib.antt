@@ -1,0 +1,4 @@
+pub mod Answered
+pub mod Insides
+pub mod Lasts
+pub mod Listed

@@ -1,0 +1,13 @@
+pub mod Asked
+pub mod Built
+pub mod Coding
+pub mod Looked
+pub mod Queries
+pub mod mirrors
+pub mod draft_core
+pub mod member_core
+pub mod query_core
+pub mod shown_core
+pub mod snap_core
+pub mod symbol_core
+pub mod type_doc_core

@@ -1,6 +1,0 @@
-use Rattle.std.proofs.Common.{◌≡◌, map, take}
-use Rattle.govisd_desk.specs.Told.{place_of}
-use Rattle.govisd_desk.proofs.telling.places.Given as goal
-
-abbrev pub invariant-loop-fault : goal.invariant-loop-fault
-invariant-loop-fault l = l.places.items ≡ map place_of (take l.fault-index l.all)

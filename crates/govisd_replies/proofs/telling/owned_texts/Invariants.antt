@@ -1,0 +1,6 @@
+use Rattle.std.proofs.Common.{◌≡◌, take}
+use Rattle.go_look_core.specs.shown_core.Shown.{texts}
+use Rattle.govisd_replies.proofs.telling.owned_texts.Given as goal
+
+abbrev pub invariant-loop-text : goal.invariant-loop-text
+invariant-loop-text l = l.owned.items ≡ texts (take l.text-index l.all)

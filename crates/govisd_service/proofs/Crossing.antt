@@ -1,0 +1,88 @@
+-- A hall may go to a thread and be seen by several, with all that it holds: from the events of a service up.
+use denote.RattleType.{RattleType}
+use denote.Param.Send.{IsSend, IsSync, sendable}
+use Rattle.std.specs.declared.sync.ledger.Ledger as ledger
+use Rattle.std.proofs.Crossing as std
+use Rattle.std.proofs.collections.LinkedList.TheSendSync as list
+use Rattle.std.proofs.sync.ledger.Book.TheSendSync as book
+use Rattle.std.proofs.sync.ledger.Share.TheSendSync as share
+use Rattle.left_right.proofs.reader.Reader.TheSendSync as reader
+use Rattle.left_right.proofs.writer.Writer.TheSendSync as writer
+use Rattle.go_thread_core.proofs.Crossing.{crossing, leaves, summary_list_row_send, summary_list_row_sync}
+use Rattle.go_graph_core.specs.contracts.planning.Plan as plan
+use Rattle.go_reach_core.specs.contracts.graph.Reached as reached
+use Rattle.go_turn_core.specs.contracts.turns.Turns as turns
+use Rattle.govisd_desk.specs.batch_core.contracts.slot.Slot as slot
+use Rattle.govisd_desk.specs.batch_core.contracts.batch.Batch as batch
+use Rattle.govisd_desk.specs.submit_core.contracts.batches.Batches as batches
+use Rattle.govisd_desk.specs.sched_core.contracts.event.Event as event
+use Rattle.govisd_desk.specs.sched_core.contracts.event.Held as held
+use Rattle.govisd_desk.specs.sched_core.contracts.running.Running as running
+use Rattle.govisd_desk.specs.sched_core.contracts.machine.Core as core
+use Rattle.govisd_desk.specs.board_core.contracts.board.Board as board
+use Rattle.govisd_desk.specs.hall_core.contracts.desk.Desk as desk
+use Rattle.govisd_desk.specs.hall_core.contracts.state.HallState as state
+use Rattle.govisd_desk.specs.hall_core.contracts.counted.Counted as counted
+use Rattle.govisd_desk.specs.hall_core.declared.counted.Named as named
+use Rattle.govisd_desk.specs.hall.contracts.hall.Hall as hall
+
+ruleset below = (summary_list_row_send, summary_list_row_sync, crossing, std.crosses)
+
+event_row_send : IsSend event.the_row
+event_row_send = search (below, sendable) depth 60 fits 20000
+
+held_row_send : IsSend held.the_row
+held_row_send = search (below, sendable) depth 60 fits 20000
+
+plan_row_send : IsSend plan.the_row
+plan_row_send = search (crossing, leaves, std.crosses, sendable) depth 60 fits 20000
+
+reached_row_send : IsSend reached.the_row
+reached_row_send = search (crossing, std.crosses, sendable) depth 60 fits 20000
+
+turns_row_send : IsSend turns.the_row
+turns_row_send = search (crossing, std.crosses, sendable) depth 60 fits 20000
+
+slot_row_send : IsSend slot.the_row
+slot_row_send = search (crossing, std.crosses, sendable) depth 60 fits 20000
+
+batch_row_send : IsSend batch.the_row
+batch_row_send = search (plan_row_send, reached_row_send, turns_row_send, slot_row_send, below, sendable) depth 60 fits 20000
+
+running_row_send : IsSend running.the_row
+running_row_send = search (batch_row_send, below, sendable) depth 60 fits 20000
+
+batches_row_send : IsSend batches.the_row
+batches_row_send = search (below, sendable) depth 60 fits 20000
+
+batches_row_sync : IsSync batches.the_row
+batches_row_sync = search (below, sendable) depth 60 fits 20000
+
+core_row_send : IsSend core.the_row
+core_row_send = search (list.the_send, held_row_send, running_row_send, batches_row_send, below, sendable) depth 60 fits 20000
+
+board_row_send : IsSend board.the_row
+board_row_send = search (batches_row_send, sendable) depth 20
+
+board_row_sync : IsSync board.the_row
+board_row_sync = search (batches_row_sync, sendable) depth 20
+
+desk_row_send : IsSend desk.the_row
+desk_row_send = search (writer.the_field_send, board_row_send, board_row_sync, std.frees, std.send, std.sync, sendable) depth 60 fits 20000
+
+state_row_send : IsSend state.the_row
+state_row_send = search (event_row_send, core_row_send, desk_row_send, reader.the_send, reader.the_field_send, board_row_sync, std.crosses, sendable) depth 60 fits 20000
+
+-- under each name of a ledger
+module _ (L : RattleType) (n : named.Ghosts L.Denot) (l : ledger.Ghosts L.Denot) where
+  counted_row_send : IsSend (counted.the_row L n l)
+  counted_row_send = search (state_row_send, book.the_send, share.the_send, sendable) depth 30
+
+  pub hall_row_send : IsSend (hall.the_row L n l)
+  hall_row_send = search (counted_row_send, std.crosses, sendable) depth 30
+
+  pub hall_row_sync : IsSync (hall.the_row L n l)
+  hall_row_sync = search (counted_row_send, std.crosses, sendable) depth 30
+
+  pub hall_sync : IsSync (hall.the_field L n l).row
+  hall_sync = search (counted_row_send, std.crosses, sendable) depth 30

@@ -1,0 +1,10 @@
+-- What may go to a thread (`IsSend`), and be seen by several at one time (`IsSync`), as the logic has the two.
+use denote.RattleType.{RattleType}
+use denote.Param.Send.{IsSend, IsSync}
+use Rattle.std.specs.declared.sync.ledger.Ledger as ledger
+use Rattle.govisd_desk.specs.hall_core.declared.counted.Named as named
+use Rattle.govisd_desk.specs.hall.contracts.hall.Hall as hall
+
+-- a hall under a name of a ledger
+abbrev pub HallsCross : (L : RattleType) → named.Ghosts L.Denot → ledger.Ghosts L.Denot → Type 0
+HallsCross L n l = IsSend (hall.the_row L n l) × IsSync (hall.the_row L n l)

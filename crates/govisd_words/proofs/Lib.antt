@@ -1,0 +1,4 @@
+pub mod CommandLemmas
+pub mod CountLemmas
+pub mod PlainWords
+pub mod WordLemmas

@@ -1,0 +1,5 @@
+pub mod Asking
+pub mod Counts
+pub mod Listening
+pub mod Statuses
+pub mod Texts

@@ -1,0 +1,13 @@
+//! What the words of a command line ask for, what the program writes of itself, and its exit statuses.
+#![tactic(auto)]
+
+mod status;
+mod texts;
+mod words;
+
+pub use status::{end_status, refusal_status, serve_status, unread_status};
+pub use texts::{
+    bad_count_text, command_help, end_text, listening_text, program_help, refused_text,
+    script_end_text, serve_end_text, unbound_text, unknown_command, version_text,
+};
+pub use words::{CountOption, Daemon, Request, forms, read_words};

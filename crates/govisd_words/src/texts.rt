@@ -1,0 +1,218 @@
+//! What the program writes of itself.
+ghost use Rattle.std.specs.Prelude.{◌≡◌, ◌↔◌, IfOk, IsTrue, option_map, string_bytes};
+ghost use Rattle.govisd_words.specs.Listening.{IsListeningText, IsLoopback};
+ghost use Rattle.govisd_words.specs.Texts.{check_help_text, explain_help_text, help_of, program_help_text, run_help_text, script_help_text, serve_help_text, bad_count_text as text_of_bad_count, listening_line as line_of_listening, script_end_text as text_of_script_end, serve_end_text as text_of_serve_end, unbound_front as front_of_unbound, unbound_text as text_of_unbound, unknown_command_text, resolve_help_text, version_text as text_of_version, refused_text as text_of_refused, end_text as text_of_end};
+
+use crate::words::CountOption;
+use go_wire_core::ServeEnd;
+use govisd_core::ResolveEnd;
+use std::alloc::{AllocError, Global};
+use std::net::SocketAddr;
+
+/// What the program takes, and its exit statuses.
+pub fn program_help() -> &'static str
+    ensures { result.now ≡ program_help_text }
+{
+    "Answers questions on Go sources\n\nUsage: govisd <COMMAND>\n\nCommands:\n  resolve  Reads a Go file from standard input, and writes what each identifier in it denotes\n  check    Checks the Go packages of a folder, and tells each fault with its place\n  explain  Says what a rule means, with an example that breaks it\n  run      Compiles the Go packages of a folder, and runs one\n  script   Serves Go sessions by lines of JSON on standard input and output\n  serve    Serves Go sessions by lines of JSON over TCP\n  help     Writes this text, or that of a command: govisd help explain\n\nOptions:\n  -h, --help     Writes this text\n  -V, --version  Writes the version\n\nExamples:\n  govisd resolve < a.go\n  govisd check . --module example.com/mine\n  govisd explain N1\n  govisd serve --listen 127.0.0.1:7000\n\nExit status: 0 where the source has no fault or a service came to its end, 1 where it has one or the run failed, 2 where the command line, the folder or a name is refused\n"
+}
+
+fn resolve_help() -> &'static str
+    ensures { result.now ≡ resolve_help_text }
+{
+    "Reads a Go file from standard input, and writes what each identifier in it denotes\n\nUsage: govisd resolve\n\nOptions:\n  -h, --help  Writes this text\n\nThe file is taken as the one file of a package that stands alone, so each import in it is refused. It may have 1,048,576 bytes of UTF-8.\nWritten is a line for each identifier that is used, in order of place: its offset in bytes from 0, its role, the identifier,\nand the declaration that it denotes or the rule that it breaks. Behind these stand the other faults, as fault OFFSET RULE.\n\nExample:\n  govisd resolve < a.go\n\nExit status: 0 where the source has no fault, 1 where it has one or the run failed, 2 where the command line is refused\n"
+}
+
+fn check_help() -> &'static str
+    ensures { result.now ≡ check_help_text }
+{
+    "Checks the Go packages of a folder, and tells each fault with its place. Nothing is written into the folder\n\nUsage: govisd check [OPTIONS] <FOLDER>\n\nArguments:\n  <FOLDER>  The folder of a module. The .go files of each folder in it are a package, but for tests (_test.go), for names that begin\n            with . or _, and for the folders testdata and vendor\n\nOptions:\n  --module <PATH>  The import path of the module, as in its go.mod. Without it, the name of the folder\n  --json           One JSON object a line for each fault, and nothing else on standard output\n  -h, --help       Writes this text\n\nEach line is FILE:LINE:COLUMN: RULE and what the rule means: govisd explain RULE says more. Lines and bytes are counted from 1.\nWhat cannot be read is named on standard error, and all else is checked. Only packages of the folder are known: an import of the\nstandard library or of another module is I2. Neither go.mod nor build constraints are read.\n\nExamples:\n  govisd check .\n  govisd check shop --module example.com/shop\n  govisd check shop --json\n\nExit status: 0 where there is no fault, 1 where there is one or something was left out, 2 where nothing was checked\n"
+}
+
+fn explain_help() -> &'static str
+    ensures { result.now ≡ explain_help_text }
+{
+    "Says what a rule means, with an example that breaks it and how to mend it\n\nUsage: govisd explain [RULE]\n\nArguments:\n  [RULE]  The name of a rule, as N1. Without it all rules are listed, one a line\n\nOptions:\n  -h, --help  Writes this text\n\nExamples:\n  govisd explain N1\n  govisd explain\n\nExit status: 0, or 2 where no rule has this name\n"
+}
+
+fn run_help() -> &'static str
+    ensures { result.now ≡ run_help_text }
+{
+    "Compiles the Go packages of a folder, and runs one\n\nUsage: govisd run [OPTIONS] <FOLDER>\n\nArguments:\n  <FOLDER>  The folder of a module, as govisd check takes it\n\nOptions:\n  --module <PATH>  The import path of the module, as in its go.mod. Without it, the name of the folder\n  --main <PATH>    The import path of the package that is run. Without it, the one that is named main\n  --steps <N>      Stops after so many steps, one for each instruction. Without it, after 1,000,000,000\n  -h, --help       Writes this text\n\nWhat the program prints goes to standard output. Where it is not run, standard error says why: faults are told as govisd check tells them.\n\nExamples:\n  govisd run primes\n  govisd run shop --module example.com/shop --main example.com/shop/cmd\n\nExit status: 0 where the program ended, 1 where it was not run, 2 where it panicked or the command line is refused, 3 where its steps\nwere spent\n"
+}
+
+fn script_help() -> &'static str
+    ensures { result.now ≡ script_help_text }
+{
+    "Serves Go sessions by lines of JSON on standard input and output\n\nUsage: govisd script [OPTIONS]\n\nOptions:\n  --workers <N>  How many packages are compiled at once, 1 to 64. Without it, 1\n  -h, --help     Writes this text\n\nEach line is one request of a session, whose number, 1 to 32, is its member \"s\". Each is answered by one line, in order.\n\nExample:\n  printf '{\"cmd\":\"open\",\"module\":\"example.com/a\",\"s\":1}\\n' | govisd script\n\nExit status: 0 where the input ended, 1 where a line was too long, reading or writing failed, or memory or threads ran out, 2 where the command\nline is refused\n"
+}
+
+fn serve_help() -> &'static str
+    ensures { result.now ≡ serve_help_text }
+{
+    "Serves Go sessions by lines of JSON over TCP\n\nUsage: govisd serve [OPTIONS] --listen <ADDRESS>\n\nOptions:\n  --listen <ADDRESS>  An address and a port, as 127.0.0.1:7000. With port 0 the system chooses one\n  --workers <N>       How many packages are compiled at once, 1 to 64. Without it, 1\n  --connections <K>   Ends once so many connections came and have ended. Without it, there is no end\n  -h, --help          Writes this text\n\nOnce it listens, it says so on standard error, with the address and the port: govisd: listening on 127.0.0.1:7000. Each line of a\nconnection is one request, answered by one line, in order. A connection has one session at a time, which ends with it. At most 32 connections\nare served at once: another is told {\"err\":\"O4\"} and closed. Whoever reaches the address may open sessions: nobody is asked for a name.\n\nExample:\n  govisd serve --listen 127.0.0.1:7000 --workers 4\n\nExit status: 0 after the last connection, 1 where the address cannot be listened on, a connection cannot be accepted, or memory or threads\nran out, 2 where the command line is refused\n"
+}
+
+/// What a command takes, if there is one of this name.
+pub fn command_help(name: &str) -> Option<&'static str>
+    ensures { option_map (λ text. text.now) result ≡ help_of name.now }
+{
+    if name == "resolve" {
+        return Some(resolve_help());
+    }
+    if name == "check" {
+        return Some(check_help());
+    }
+    if name == "explain" {
+        return Some(explain_help());
+    }
+    if name == "script" {
+        return Some(script_help());
+    }
+    if name == "serve" {
+        return Some(serve_help());
+    }
+    if name == "run" {
+        return Some(run_help());
+    }
+    if name == "help" {
+        return Some(program_help());
+    }
+    None
+}
+
+/// That no command has a name, as `govisd help` refuses it.
+///
+/// # Errors
+///
+/// `AllocError` for want of memory.
+pub fn unknown_command(alloc: Global, name: &str) -> Result<String, AllocError>
+    ensures { IfOk result (λ text. string_bytes text ≡ unknown_command_text name.now) }
+{
+    let mut text = String::new(alloc);
+    text.push_str("govisd: there is no command ")?;
+    text.push_str(name)?;
+    text.push_str("\ngovisd: govisd help lists all commands\n")?;
+    Ok(text)
+}
+
+/// The program's name and version.
+pub fn version_text() -> &'static str
+    ensures { result.now ≡ text_of_version }
+{
+    "govisd 0.1.0\n"
+}
+
+/// The last line of what is said of a command line that is refused.
+pub fn refused_text() -> &'static str
+    ensures { result.now ≡ text_of_refused }
+{
+    "govisd: the command line is refused\n"
+}
+
+/// Why a run wrote no whole report, or nothing where it wrote one.
+pub fn end_text(end: ResolveEnd) -> &'static str
+    ensures { result.now ≡ text_of_end end }
+{
+    match end {
+        ResolveEnd::Clean | ResolveEnd::Faults => "",
+        ResolveEnd::ReadFault => "govisd: standard input cannot be read\n",
+        ResolveEnd::WriteFault => "govisd: standard output cannot be written\n",
+        ResolveEnd::Memory => "govisd: memory ran out\n",
+    }
+}
+
+/// What is wrong with a number, and that the command line is refused.
+pub fn bad_count_text(option: CountOption) -> &'static str
+    ensures { result.now ≡ text_of_bad_count option }
+{
+    match option {
+        CountOption::Workers => {
+            "govisd: --workers takes a number from 1 to 64\ngovisd: the command line is refused\n"
+        }
+        CountOption::Connections => {
+            "govisd: --connections takes a number from 0 to 18446744073709551615\ngovisd: the command line is refused\n"
+        }
+        CountOption::Steps => {
+            "govisd: --steps takes a number from 0 to 18446744073709551615\ngovisd: the command line is refused\n"
+        }
+    }
+}
+
+/// Why a script ended before its input did, or nothing where it ended with it.
+pub fn script_end_text(end: ServeEnd) -> &'static str
+    ensures { result.now ≡ text_of_script_end end }
+{
+    match end {
+        ServeEnd::Done => "",
+        ServeEnd::TooLong => "govisd: a line has more than 2,097,152 bytes\n",
+        ServeEnd::ReadFault => "govisd: standard input cannot be read\n",
+        ServeEnd::WriteFault => "govisd: standard output cannot be written\n",
+        ServeEnd::Turns => "govisd: standard input came in too many pieces\n",
+        ServeEnd::Memory => "govisd: memory or threads ran out\n",
+    }
+}
+
+/// Why a daemon ended before its last connection, or nothing where it ended behind it.
+pub fn serve_end_text(end: ServeEnd) -> &'static str
+    ensures { result.now ≡ text_of_serve_end end }
+{
+    match end {
+        ServeEnd::Done => "",
+        ServeEnd::ReadFault => "govisd: a connection cannot be accepted\n",
+        ServeEnd::Memory => "govisd: memory or threads ran out\n",
+        ServeEnd::TooLong | ServeEnd::WriteFault | ServeEnd::Turns => {
+            "govisd: serving ended early\n"
+        }
+    }
+}
+
+// That an address and a port are listened at.
+fn listening_line(alloc: Global, place: SocketAddr) -> Result<String, AllocError>
+    ensures { IfOk result (λ text. string_bytes text ≡ line_of_listening place) }
+{
+    format!(in alloc; "govisd: listening on {place}\n")
+}
+
+// Whether only this machine reaches an address.
+fn is_loopback(place: SocketAddr) -> bool
+    ensures { IsTrue result ↔ IsLoopback place }
+{
+    place.ip().is_loopback()
+}
+
+/// That an address and a port are listened at; and, where that is no loopback address, that others may reach it.
+///
+/// # Errors
+///
+/// `AllocError` for want of memory.
+pub fn listening_text(alloc: Global, place: SocketAddr) -> Result<String, AllocError>
+    ensures { IfOk result (λ text. IsListeningText place (string_bytes text)) }
+{
+    let mut text = listening_line(alloc, place)?;
+    if is_loopback(place) {
+        return Ok(text);
+    }
+    text.push_str("govisd: this is no loopback address: whoever reaches it may open sessions\n")?;
+    Ok(text)
+}
+
+// That an address cannot be listened at.
+fn unbound_front(alloc: Global, address: &str) -> Result<String, AllocError>
+    ensures { IfOk result (λ text. string_bytes text ≡ front_of_unbound address.now) }
+{
+    format!(in alloc; "govisd: {address} cannot be listened on: ")
+}
+
+/// That an address cannot be listened at, and why.
+///
+/// # Errors
+///
+/// `AllocError` for want of memory.
+pub fn unbound_text(alloc: Global, address: &str, why: &str) -> Result<String, AllocError>
+    ensures { IfOk result (λ text. string_bytes text ≡ text_of_unbound address.now why.now) }
+{
+    let mut text = unbound_front(alloc, address)?;
+    text.push_str(why)?;
+    text.push_str("\n")?;
+    Ok(text)
+}

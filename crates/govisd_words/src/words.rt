@@ -1,0 +1,402 @@
+//! What the words of a command line ask for.
+ghost use Rattle.std.specs.Prelude.{◌≡◌, [], IfOk, codes, false, map, option_map, unwrap_or};
+ghost use Rattle.clap.specs.Walk.{first_of};
+ghost use Rattle.govisd_words.specs.Counts.{connections_in, in_workers, number_of, steps_in, workers_in};
+ghost use Rattle.clap.specs.Words.{app_of, found_of, rows_of};
+ghost use Rattle.clap.specs.declared.builder.command.Command.TheViews.{out-Command as fields_of};
+ghost use Rattle.govisd_words.specs.Asking.{Asks, Forms, asked_in, check_app, command_behind, explain_app, govisd_app, source_app, help_app, if_command, main_app, names_checker, names_command, order_in, said, said_daemon, said_order, said_run, run_app, run_in, run_of_steps, script_app, script_in, serve_app, serve_in};
+
+use clap::error::ErrorKind;
+use clap::{Arg, ArgAction, ArgMatches, Command, Error};
+use govisd_orders::{Order, RunOrder};
+use std::alloc::{AllocError, Global};
+use std::convert::AsStr;
+
+/// What a daemon is asked to be.
+#[derive(Clone, Copy)]
+pub struct Daemon<'a> {
+    /// Where it is to listen: an address and a port.
+    pub address: &'a str,
+    /// How many packages it compiles at once: 1 to 64.
+    pub workers: usize,
+    /// After how many connections it ends; if none is given, it does not.
+    pub connections: Option<u64>,
+}
+
+/// An option with a number behind it.
+#[derive(Clone, Copy, Debug, PartialEq, Eq)]
+pub enum CountOption {
+    /// `--workers`, which takes 1 to 64.
+    Workers,
+    /// `--connections`, which takes any number below 2^64.
+    Connections,
+    /// `--steps`, which takes any number below 2^64.
+    Steps,
+}
+
+/// What a command line asks for.
+#[derive(Clone, Copy)]
+pub enum Request<'a> {
+    /// A run of `resolve`.
+    Resolve,
+    /// What a rule means, by its name, or all rules.
+    Explain(Option<&'a str>),
+    /// The check of a folder.
+    Check(Order<'a>),
+    /// The run of a folder.
+    Run(RunOrder<'a>),
+    /// A script with so many workers, 1 to 64.
+    Script(usize),
+    /// A daemon.
+    Serve(Daemon<'a>),
+    /// The help of a command, by its name, or the program's.
+    Help(Option<&'a str>),
+    /// The program's version.
+    Version,
+    /// Nothing, since the number behind an option is none that it takes.
+    BadCount(CountOption),
+}
+
+// The command `explain`, with the name of a rule.
+fn explain_command<'a>(alloc: Global) -> Result<Command<'a>, AllocError>
+    ensures shape { IfOk result (λ c. app_of c ≡ explain_app) }
+    ensures local { IfOk result (λ c. (fields_of c).has_globals ≡ false) }
+{
+    let rule = Arg::new(alloc, "rule");
+    Command::new(alloc, "explain").arg(rule)
+}
+
+// The command `check`, with a folder, the path of its module, and how the faults are written.
+fn check_command<'a>(alloc: Global) -> Result<Command<'a>, AllocError>
+    ensures shape { IfOk result (λ c. app_of c ≡ check_app) }
+    ensures local { IfOk result (λ c. (fields_of c).has_globals ≡ false) }
+{
+    let folder = Arg::new(alloc, "folder").required(true);
+    let path = Arg::new(alloc, "module").long("module");
+    let json = Arg::new(alloc, "json")
+        .long("json")
+        .action(ArgAction::Count);
+    Command::new(alloc, "check")
+        .arg(folder)?
+        .arg(path)?
+        .arg(json)
+}
+
+// The command `help`, with the name of a command.
+fn help_command<'a>(alloc: Global) -> Result<Command<'a>, AllocError>
+    ensures shape { IfOk result (λ c. app_of c ≡ help_app) }
+    ensures local { IfOk result (λ c. (fields_of c).has_globals ≡ false) }
+{
+    let topic = Arg::new(alloc, "command");
+    Command::new(alloc, "help").arg(topic)
+}
+
+// The command `run`, with a folder, the path of its module and that of a package.
+fn main_command<'a>(alloc: Global) -> Result<Command<'a>, AllocError>
+    ensures shape { IfOk result (λ c. app_of c ≡ main_app) }
+    ensures local { IfOk result (λ c. (fields_of c).has_globals ≡ false) }
+{
+    let root = Arg::new(alloc, "folder").required(true);
+    let path = Arg::new(alloc, "module").long("module");
+    let main = Arg::new(alloc, "main").long("main");
+    Command::new(alloc, "run").arg(root)?.arg(path)?.arg(main)
+}
+
+// The same with a number of steps.
+fn run_command<'a>(alloc: Global) -> Result<Command<'a>, AllocError>
+    ensures shape { IfOk result (λ c. app_of c ≡ run_app) }
+    ensures local { IfOk result (λ c. (fields_of c).has_globals ≡ false) }
+{
+    let steps = Arg::new(alloc, "steps").long("steps");
+    main_command(alloc)?.arg(steps)
+}
+
+// The command `script`, with a number of workers.
+fn script_command<'a>(alloc: Global) -> Result<Command<'a>, AllocError>
+    ensures shape { IfOk result (λ c. app_of c ≡ script_app) }
+    ensures local { IfOk result (λ c. (fields_of c).has_globals ≡ false) }
+{
+    let workers = Arg::new(alloc, "workers").long("workers");
+    Command::new(alloc, "script").arg(workers)
+}
+
+// The command `serve`, with an address, a number of workers and one of connections.
+fn serve_command<'a>(alloc: Global) -> Result<Command<'a>, AllocError>
+    ensures shape { IfOk result (λ c. app_of c ≡ serve_app) }
+    ensures local { IfOk result (λ c. (fields_of c).has_globals ≡ false) }
+{
+    let listen = Arg::new(alloc, "listen").long("listen").required(true);
+    let workers = Arg::new(alloc, "workers").long("workers");
+    let connections = Arg::new(alloc, "connections").long("connections");
+    Command::new(alloc, "serve")
+        .arg(listen)?
+        .arg(workers)?
+        .arg(connections)
+}
+
+// The program with its commands on sources.
+fn source_commands<'a>(alloc: Global) -> Result<Command<'a>, AllocError>
+    ensures { IfOk result (λ c. app_of c ≡ source_app) }
+{
+    let explain = explain_command(alloc)?;
+    let check = check_command(alloc)?;
+    Command::new(alloc, "govisd")
+        .version("0.1.0")
+        .subcommand_required(true)
+        .disable_help_subcommand(true)
+        .subcommand(Command::new(alloc, "resolve"))?
+        .subcommand(explain)?
+        .subcommand(check)
+}
+
+// The words that the program takes.
+fn command<'a>(alloc: Global) -> Result<Command<'a>, AllocError>
+    ensures { IfOk result (λ c. app_of c ≡ govisd_app) }
+{
+    let help = help_command(alloc)?;
+    let script = script_command(alloc)?;
+    let serve = serve_command(alloc)?;
+    let run = run_command(alloc)?;
+    source_commands(alloc)?
+        .subcommand(help)?
+        .subcommand(script)?
+        .subcommand(serve)?
+        .subcommand(run)
+}
+
+// The number that a word writes.
+fn number_of(word: &str) -> Option<u64>
+    ensures { result ≡ number_of word.now }
+{
+    word.parse::<u64>().ok()
+}
+
+// So many workers, where they are 1 to 64.
+fn in_workers(count: u64) -> Option<usize>
+    ensures { result ≡ in_workers count }
+{
+    if count < 1 {
+        return None;
+    }
+    if count > 64 {
+        return None;
+    }
+    Some(count as usize)
+}
+
+// So many workers: 1 where none are told, and nothing where what is told is not 1 to 64.
+fn workers_of(word: Option<&str>) -> Option<usize>
+    ensures { result ≡ workers_in (option_map (λ w. w.now) word.entry) }
+{
+    match word {
+        None => Some(1),
+        Some(word) => match number_of(word) {
+            Some(count) => in_workers(count),
+            None => None,
+        },
+    }
+}
+
+// After so many connections: after none where none are told, and nothing where what is told is no number.
+fn connections_of(word: Option<&str>) -> Option<Option<u64>>
+    ensures { result ≡ connections_in (option_map (λ w. w.now) word.entry) }
+{
+    match word {
+        None => Some(None),
+        Some(word) => match number_of(word) {
+            Some(count) => Some(Some(count)),
+            None => None,
+        },
+    }
+}
+
+// The workers that are told behind a command.
+fn workers_told(found: &ArgMatches<'_>) -> Option<usize>
+    ensures { result ≡ workers_in (first_of (codes "workers") (rows_of (found_of found.now))) }
+{
+    workers_of(found.get_str("workers"))
+}
+
+// The connections that are told behind a command.
+fn connections_told(found: &ArgMatches<'_>) -> Option<Option<u64>>
+    ensures { result ≡ connections_in (first_of (codes "connections") (rows_of (found_of found.now))) }
+{
+    connections_of(found.get_str("connections"))
+}
+
+// After so many steps: 1,000,000,000 where none are told, and nothing where what is told is no number.
+fn steps_of(word: Option<&str>) -> Option<u64>
+    ensures { result ≡ steps_in (option_map (λ w. w.now) word.entry) }
+{
+    match word {
+        None => Some(1_000_000_000),
+        Some(word) => number_of(word),
+    }
+}
+
+// The steps that are told behind a command.
+fn steps_told(found: &ArgMatches<'_>) -> Option<u64>
+    ensures { result ≡ steps_in (first_of (codes "steps") (rows_of (found_of found.now))) }
+{
+    steps_of(found.get_str("steps"))
+}
+
+// The run of so many steps that is asked for, by what stands behind the command.
+#[tactic(auto, using(crate::proofs::WordLemmas::value_in_rows))]
+fn run_for<'a>(found: &ArgMatches<'a>, steps: u64) -> RunOrder<'a>
+    ensures { said_run result ≡ run_of_steps steps (rows_of (found_of found.now)) }
+{
+    let folder = found.get_str("folder").unwrap_or(".");
+    let module_path = found.get_str("module");
+    let main_path = found.get_str("main");
+    RunOrder {
+        folder,
+        module_path,
+        main_path,
+        steps,
+    }
+}
+
+// The run that is asked for, by what stands behind the command.
+fn run_of<'a>(found: &ArgMatches<'a>) -> Request<'a>
+    ensures { said result ≡ run_in (rows_of (found_of found.now)) }
+{
+    match steps_told(found) {
+        Some(steps) => Request::Run(run_for(found, steps)),
+        None => Request::BadCount(CountOption::Steps),
+    }
+}
+
+// The script that is asked for, by what stands behind the command.
+fn script_of<'a>(found: &ArgMatches<'a>) -> Request<'a>
+    ensures { said result ≡ script_in (rows_of (found_of found.now)) }
+{
+    match workers_told(found) {
+        Some(workers) => Request::Script(workers),
+        None => Request::BadCount(CountOption::Workers),
+    }
+}
+
+// The address that is told behind a command.
+#[tactic(auto, using(crate::proofs::WordLemmas::value_in_rows))]
+fn address_told<'a>(found: &ArgMatches<'a>) -> &'a str
+    ensures { result.now ≡ unwrap_or (first_of (codes "listen") (rows_of (found_of found.now))) [] }
+{
+    found.get_str("listen").unwrap_or("")
+}
+
+// The daemon that is asked for, by what stands behind the command.
+fn serve_of<'a>(found: &ArgMatches<'a>) -> Request<'a>
+    ensures { said result ≡ serve_in (rows_of (found_of found.now)) }
+{
+    let address = address_told(found);
+    match workers_told(found) {
+        Some(workers) => match connections_told(found) {
+            Some(connections) => Request::Serve(Daemon {
+                address,
+                workers,
+                connections,
+            }),
+            None => Request::BadCount(CountOption::Connections),
+        },
+        None => Request::BadCount(CountOption::Workers),
+    }
+}
+
+// The check that is asked for, by what stands behind the command.
+#[tactic(auto, using(crate::proofs::WordLemmas::value_in_rows))]
+fn order_of<'a>(found: &ArgMatches<'a>) -> Order<'a>
+    ensures { said_order result ≡ order_in (rows_of (found_of found.now)) }
+{
+    Order {
+        folder: found.get_str("folder").unwrap_or("."),
+        module_path: found.get_str("module"),
+        json: found.get_count("json") > 0,
+    }
+}
+
+// What a command asks for, by its name and what stands behind it.
+#[tactic(auto, using(crate::proofs::WordLemmas::value_in_rows))]
+fn request_of<'a>(name: &str, found: &ArgMatches<'a>) -> Request<'a>
+    ensures { said result ≡ asked_in (name.now, rows_of (found_of found.now)) }
+{
+    if name == "explain" {
+        return Request::Explain(found.get_str("rule"));
+    }
+    if name == "check" {
+        return Request::Check(order_of(found));
+    }
+    if name == "help" {
+        return Request::Help(found.get_str("command"));
+    }
+    if name == "script" {
+        return script_of(found);
+    }
+    if name == "serve" {
+        return serve_of(found);
+    }
+    if name == "run" {
+        return run_of(found);
+    }
+    Request::Resolve
+}
+
+// Whether a command on sources, or the help, has a name.
+fn is_checker(name: &str) -> bool
+    ensures { result ≡ names_checker name.now }
+{
+    name == "resolve" || name == "check" || name == "explain" || name == "help"
+}
+
+// Whether a command has a name.
+fn is_command(name: &str) -> bool
+    ensures { result ≡ names_command name.now }
+{
+    is_checker(name) || name == "script" || name == "serve" || name == "run"
+}
+
+// A word, where it is the name of a command.
+fn command_named(word: &str) -> Option<&str>
+    ensures { option_map (λ name. name.now) result ≡ if_command word.now }
+{
+    if is_command(word) {
+        return Some(word);
+    }
+    None
+}
+
+// The command whose name stands behind the program's.
+fn second_command<'a, S: AsStr>(words: &'a [S]) -> Option<&'a str>
+    ensures { option_map (λ name. name.now) result ≡ command_behind (map S.text words.now) }
+{
+    match words.get(1) {
+        Some(word) => command_named(word.as_str()),
+        None => None,
+    }
+}
+
+/// What the words of a command line ask for, of which the first is the program's name.
+///
+/// # Errors
+///
+/// What is wrong with the words, or [`ErrorKind::OutOfMemory`].
+pub fn read_words<'a, S: AsStr>(alloc: Global, words: &'a [S]) -> Result<Request<'a>, Error>
+    ensures { Asks (map S.text words.now) result }
+{
+    match command(alloc)?.try_get_matches_from(words) {
+        Ok(matches) => match matches.subcommand() {
+            Some((name, found)) => Ok(request_of(name, found)),
+            None => Ok(Request::Help(None)),
+        },
+        Err(error) => match error.kind() {
+            ErrorKind::DisplayHelp => Ok(Request::Help(second_command(words))),
+            ErrorKind::DisplayVersion => Ok(Request::Version),
+            _ => Err(error),
+        },
+    }
+}
+
+/// A law, with nothing to run: what command lines of each form ask for.
+pub fn forms()
+    ensures { Forms }
+{}
