@@ -21,6 +21,10 @@ def git(root, *words):
     return ran.stdout.decode(errors="replace")
 
 
+def is_here(root, commit):
+    return not subprocess.run(["git", "-C", root, "cat-file", "-e", f"{commit}^{{commit}}"], stderr=subprocess.DEVNULL).returncode
+
+
 def lines_of(text):
     """The lines of a source, how often each stands there, without imports and comments."""
     kept = (re.sub(r"\s*(//|--).*$", "", line).strip() for line in text.splitlines() if not USE.match(line))
@@ -55,9 +59,9 @@ def main():
     root = os.path.abspath(sys.argv[1]) if len(sys.argv) > 1 else os.path.dirname(os.path.dirname(os.path.realpath(__file__)))
     found = 0
     for crate, told in ROW.findall(now(root, "docs/PROVING.md")):
-        commits = COMMIT.findall(told)
+        commits = [it for it in COMMIT.findall(told) if is_here(root, it)]
         if not commits:
-            print(f"{crate}: none tried")
+            print(f"{crate}: none tried on a commit that is here")
             found += 1
             continue
         oldest = min(commits, key=lambda it: int(git(root, "log", "-1", "--format=%ct", it)))
