@@ -30,6 +30,8 @@ SHARE = 0.005
 # Crates with types that reach themselves: a crate that handles such types lists where they are declared, also where it names them through another, since the
 # toolchain finds what such a type means only there ("no module that this path begins with is at hand for the term").
 BESIDE = {"go_tree_nodes", "go_term_core"}
+# Crates of laws that list what their line has, high up too: what they name is then passed on by no crate between for them alone, and all below stays as it is.
+AS_LISTED = {"go_respelled_core"}
 # Modules that are named as a word of the library, which a reader would take them for: what they are passed on as.
 PASSED_AS = {"All": "AllPackages"}
 PASSED = re.compile(r"(?m)\n?/// What the crates above name of `\w+`\.\npub mod \w+ \{\n.*?\n\}\n", re.S)
@@ -189,7 +191,7 @@ def lists_of(repository, names, named):
         return any(part == "proofs" and not os.path.exists(f"{repository.root}/crates/{b}/proofs/{module}.antt") for part, module in names.logic[a].get(b, ()))
 
     def is_kept(a, b):
-        return b in repository.kept(a) or b in BESIDE and (b in named[a] or b in repository.lists[a]) or is_made(a, b)
+        return b in repository.kept(a) or b in BESIDE and (b in named[a] or b in repository.lists[a]) or a in AS_LISTED and b in repository.lists[a] or is_made(a, b)
 
     def read(k):
         if k not in cost:

@@ -1,0 +1,10 @@
+pub mod Anew
+pub mod Blanks
+pub mod Blocks
+pub mod FilesAnew
+pub mod Fitting
+pub mod Outers
+pub mod Outside
+pub mod Putting
+pub mod Rules
+pub mod TreesAnew
