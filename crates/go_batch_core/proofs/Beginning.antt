@@ -1,11 +1,10 @@
 -- A batch that begins.
 use Rattle.std.proofs.Common.{◌≡◌, ◌<◌, ◌≤◌, ◌≢◌, ◌⊎◌, ⊎_elim, inl, inr, ℕ, zero, suc, ◌+◌, List, [], ◌∷◌, length, get_or, map, replicate, refl, sym, ap, ◌∙◌, subst, arith, Option, Some, None, cond}
 use Rattle.std.specs.Prelude.{slice_get, Contains, All, option_and_then}
-use Rattle.std.specs.Option.{option_map}
 use Rattle.std.proofs.lemmas.Bool.{cases_eq}
 use Rattle.std.proofs.lemmas.Option.{slice_get_within, slice_get-get_or}
-use Rattle.std.proofs.lemmas.List.{length-replicate, length-map}
-use Rattle.go_cycle_core.specs.declared.edge.Edge.{Edge}
+use Rattle.std.proofs.lemmas.List.{length-replicate}
+use Rattle.std.proofs.lemmas.List.Elements.{All-nil}
 use Rattle.go_reach_core.specs.Numbers.{Numbers}
 use Rattle.go_snap_core.specs.graph_core.declared.imports.ImportAt.{ImportAt}
 use Rattle.go_snap_core.specs.graph_core.declared.imports.ImportOutcome.{ImportOutcome}
@@ -22,7 +21,9 @@ use Rattle.go_turn_core.specs.mirrors.Counting.{AreFresh, AreNodes, IsUntaken}
 use Rattle.go_batch_core.specs.declared.slot.Slot.{Slot}
 use Rattle.go_batch_core.specs.declared.slot.Slot.TheVariants.{NoAction, Untaken, Taken, Finished}
 use Rattle.go_batch_core.specs.Batches.{IsBegun, IsBusy, IsReady, batch_with, is_left, unfinished}
-use Rattle.go_batch_core.specs.mirrors.Keeping.{AreFreshSlots, AreRight, IsFreshSlot, IsKept, IsPlanned, IsRight, mark_of}
+use Rattle.go_batch_core.specs.declared.tell.Tell.{Tell}
+use Rattle.go_batch_core.specs.mirrors.Tells.{AreWithin, with_tells}
+use Rattle.go_batch_core.specs.mirrors.Keeping.{AreFreshSlots, IsFreshSlot, IsKept, IsPlanned, IsRight, mark_of}
 use Rattle.go_batch_core.proofs.Ordered.{AreOrdered}
 use Rattle.go_batch_core.proofs.Passing.{passing_target}
 use Rattle.go_batch_core.proofs.Slots.{at_map_back, at_replicate, replicate_at}
@@ -119,8 +120,8 @@ told_none : (count : ℕ) → told_of (replicate count None) ≡ replicate count
 told_none zero = refl
 told_none (suc count) = ap (λ l. None ∷ l) (told_none count)
 
-pub kept_begun : (ps : List PackageModel) (plan : PlanModel) (sets : List Numbers) (turns : TurnsModel) (slots : List Slot) (parts : List (Option PartModel)) (told : List (Option SummaryModel)) (left : ℕ) → IsPlanned ps plan sets → AreOrdered (length ps) plan.order slots → AreImporters plan turns.needing → length turns.needing ≡ length plan.outcomes → turns.marks ≡ map mark_of slots → parts ≡ replicate (length ps) None → told ≡ replicate (length ps) None → left ≡ unfinished slots → IsKept ps plan sets turns slots parts told left
-kept_begun ps plan sets turns slots parts told left plans ordered importers rows marked none nothing counts = record {
+pub kept_begun : (ps : List PackageModel) (plan : PlanModel) (sets : List Numbers) (turns : TurnsModel) (slots : List Slot) (parts : List (Option PartModel)) (told : List (Option SummaryModel)) (untold : List Tell) (room left : ℕ) → IsPlanned ps plan sets → AreOrdered (length ps) plan.order slots → AreImporters plan turns.needing → length turns.needing ≡ length plan.outcomes → turns.marks ≡ map mark_of slots → parts ≡ replicate (length ps) None → told ≡ replicate (length ps) None → left ≡ unfinished slots → untold ≡ [] → left ≤ room → IsKept ps plan sets turns slots parts told untold room left
+kept_begun ps plan sets turns slots parts told untold room left plans ordered importers rows marked none nothing counts empty wide = record {
   plans = plans;
   importers = importers;
   rows = rows;
@@ -130,7 +131,9 @@ kept_begun ps plan sets turns slots parts told left plans ordered importers rows
     many_parts = ap length none ∙ length-replicate {A = Option PartModel} (length ps) None;
     each = λ n s e. begun_right ps plan slots parts n s plans.planned ordered none e (none_other (length ps) plan.order slots n s ordered e);
   };
-  tells = nothing ∙ sym (told_none (length ps)) ∙ ap told_of (sym none);
+  tells = ap (with_tells told) empty ∙ nothing ∙ sym (told_none (length ps)) ∙ ap told_of (sym none);
+  within = subst (AreWithin (length told)) (sym empty) (All-nil (λ (t : Tell). t.place < length told));
+  has_room = omega (arith, ap length empty, wide);
   counted = counts;
 }
 

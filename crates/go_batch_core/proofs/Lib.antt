@@ -1,5 +1,9 @@
 pub mod Beginning
 pub mod Ordered
 pub mod Passing
+pub mod Reaching
+pub mod Samely
 pub mod Slots
+pub mod Staying
+pub mod Steadied
 pub mod Steps

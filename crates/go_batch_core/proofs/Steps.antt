@@ -1,10 +1,11 @@
 -- A batch as its actions are taken and finished.
-use Rattle.std.proofs.Common.{◌≡◌, ◌<◌, ◌≤◌, ◌≢◌, ◌⊎◌, ⊎_elim, inl, inr, ℕ, zero, suc, ◌+◌, ◌-◌, Bool, true, false, cond, List, [], ◌∷◌, ◌++◌, length, get_or, set, map, take, refl, sym, ap, ◌∙◌, subst, arith, Option, Some, None, All}
+use Rattle.std.proofs.Common.{◌≡◌, ◌<◌, ◌≤◌, ◌≢◌, ⊎_elim, ℕ, zero, suc, ◌+◌, ◌-◌, Bool, true, false, cond, List, [], ◌∷◌, ◌++◌, length, get_or, set, take, refl, sym, ap, ◌∙◌, subst, arith, Option, Some, None}
 use Rattle.std.specs.Prelude.{slice_get}
 use Rattle.std.specs.Option.{option_map}
 use Rattle.std.proofs.lemmas.Bool.{cases_eq}
-use Rattle.std.proofs.lemmas.Option.{slice_get_within, slice_get-get_or, get_or_from_slice_get}
-use Rattle.std.proofs.lemmas.List.{take_more, take_all, length-take-le}
+use Rattle.std.proofs.lemmas.Option.{slice_get_within, get_or_from_slice_get}
+use Rattle.std.proofs.lemmas.List.{take_more, take_all, length-take-le, length-map, length_push}
+use Rattle.std.proofs.lemmas.List.Elements.{All-push}
 use Rattle.go_cycle_core.specs.declared.edge.Edge.{Edge}
 use Rattle.go_reach_core.specs.Numbers.{Numbers}
 use Rattle.go_snap_core.specs.graph_core.Imports.{IsNumbered}
@@ -19,14 +20,15 @@ use Rattle.go_snap_core.specs.part_core.Parts.{PartModel, IsPart}
 use Rattle.go_snap_core.specs.whole_core.Inputs.{AreParts, HasReached, IsInputAt, IsInputOf, IsPartOf, IsPassingImport}
 use Rattle.go_snap_core.specs.whole_core.Laws.{AreOwnParts, HasPart, InputsStay, PartsComeInOrder}
 use Rattle.go_snap_core.specs.make_core.Telling.{told_of}
-use Rattle.go_turn_core.specs.declared.mark.Mark.{Mark}
 use Rattle.go_turn_core.specs.declared.mark.Mark.TheVariants as mark
 use Rattle.go_turn_core.specs.Turns.{TurnsModel, turns_with, Needs}
 use Rattle.go_turn_core.specs.Turns as turn
 use Rattle.go_batch_core.specs.declared.slot.Slot.{Slot}
 use Rattle.go_batch_core.specs.declared.slot.Slot.TheVariants.{NoAction, Untaken, Taken, Finished}
-use Rattle.go_batch_core.specs.Batches.{AreImportsFinished, Awaits, BatchModel, IsReady, actions_left, batch_with, is_left, unfinished, with_part}
-use Rattle.go_batch_core.specs.mirrors.Keeping.{AreRight, IsKept, IsPlanned, IsReadSlot, IsRight, IsSlotRight, mark_of}
+use Rattle.go_batch_core.specs.declared.tell.Tell.{Tell}
+use Rattle.go_batch_core.specs.Batches.{AreImportsFinished, IsReady, batch_with, is_left, tell, unfinished}
+use Rattle.go_batch_core.specs.mirrors.Keeping.{AreRight, IsKept, IsReadSlot, IsRight, IsSlotRight, mark_of}
+use Rattle.go_batch_core.specs.mirrors.Tells.{AreWithin, tell_in, with_tells}
 use Rattle.go_batch_core.proofs.Passing.{passing_from, passing_to, target_within}
 use Rattle.go_batch_core.proofs.Slots.{at_set_same, at_set_other, at_map, at_map_back, map_set, length_set, some_at}
 
@@ -94,8 +96,8 @@ finished_is Untaken e = absurd (cc)
 finished_is (Taken k i) e = absurd (cc)
 finished_is Finished e = refl
 
-pub ready_from_turns : (ps : List PackageModel) (plan : PlanModel) (sets : List Numbers) (turns : TurnsModel) (slots : List Slot) (parts : List (Option PartModel)) (told : List (Option SummaryModel)) (left n : ℕ) → IsKept ps plan sets turns slots parts told left → turn.IsReady turns n → IsReady (batch_with ps slots parts) n
-ready_from_turns ps plan sets turns slots parts told left n kept ready =
+pub ready_from_turns : (ps : List PackageModel) (plan : PlanModel) (sets : List Numbers) (turns : TurnsModel) (slots : List Slot) (parts : List (Option PartModel)) (told : List (Option SummaryModel)) (untold : List Tell) (room left n : ℕ) → IsKept ps plan sets turns slots parts told untold room left → turn.IsReady turns n → IsReady (batch_with ps slots parts) n
+ready_from_turns ps plan sets turns slots parts told untold room left n kept ready =
     let here = at_map_back mark_of slots n mark.Waiting (ap (λ ms. slice_get ms n) (sym kept.marks) ∙ ready.waits) in
     record {
       untaken = here.1 ∙ ap Some (waiting_is here.0 here.2);
@@ -107,8 +109,8 @@ ready_from_turns ps plan sets turns slots parts told left n kept ready =
           there.1 ∙ ap Some (finished_is there.0 there.2);
     }
 
-pub turns_from_ready : (ps : List PackageModel) (plan : PlanModel) (sets : List Numbers) (turns : TurnsModel) (slots : List Slot) (parts : List (Option PartModel)) (told : List (Option SummaryModel)) (left n : ℕ) → IsKept ps plan sets turns slots parts told left → IsReady (batch_with ps slots parts) n → turn.IsReady turns n
-turns_from_ready ps plan sets turns slots parts told left n kept ready = record {
+pub turns_from_ready : (ps : List PackageModel) (plan : PlanModel) (sets : List Numbers) (turns : TurnsModel) (slots : List Slot) (parts : List (Option PartModel)) (told : List (Option SummaryModel)) (untold : List Tell) (room left n : ℕ) → IsKept ps plan sets turns slots parts told untold room left → IsReady (batch_with ps slots parts) n → turn.IsReady turns n
+turns_from_ready ps plan sets turns slots parts told untold room left n kept ready = record {
   waits = ap (λ ms. slice_get ms n) kept.marks ∙ at_map mark_of slots n Untaken ready.untaken;
   needs = λ m need.
       let e : Edge = record { from = n; to = m } in
@@ -218,14 +220,16 @@ right_taken ps slots parts n k i right untaken imports input =
           (cases_eq m n);
     }
 
-pub kept_taken : (ps : List PackageModel) (plan : PlanModel) (sets : List Numbers) (turns after : TurnsModel) (slots : List Slot) (parts : List (Option PartModel)) (told : List (Option SummaryModel)) (left n k : ℕ) (i : InputModel) → IsKept ps plan sets turns slots parts told left → IsReady (batch_with ps slots parts) n → IsInputAt ps parts n i → after ≡ turns_with (set turns.marks n mark.Taken) turns.needing → IsKept ps plan sets after (set slots n (Taken k i)) parts told left
-kept_taken ps plan sets turns after slots parts told left n k i kept ready input is = record {
+pub kept_taken : (ps : List PackageModel) (plan : PlanModel) (sets : List Numbers) (turns after : TurnsModel) (slots : List Slot) (parts : List (Option PartModel)) (told : List (Option SummaryModel)) (untold : List Tell) (room left n k : ℕ) (i : InputModel) → IsKept ps plan sets turns slots parts told untold room left → IsReady (batch_with ps slots parts) n → IsInputAt ps parts n i → after ≡ turns_with (set turns.marks n mark.Taken) turns.needing → IsKept ps plan sets after (set slots n (Taken k i)) parts told untold room left
+kept_taken ps plan sets turns after slots parts told untold room left n k i kept ready input is = record {
   plans = kept.plans;
   importers = subst (λ (t : TurnsModel). AreImporters plan t.needing) (sym is) kept.importers;
   rows = ap (λ (t : TurnsModel). length t.needing) is ∙ kept.rows;
   marks = ap (λ (t : TurnsModel). t.marks) is ∙ ap (λ ms. set ms n mark.Taken) kept.marks ∙ sym (map_set mark_of slots n (Taken k i));
   right = right_taken ps slots parts n k i kept.right ready.untaken ready.imports input;
   tells = kept.tells;
+  within = kept.within;
+  has_room = kept.has_room;
   counted = kept.counted ∙ sym (left_same slots n Untaken (Taken k i) ready.untaken refl);
 }
 
@@ -258,23 +262,41 @@ right_finished law ps slots parts n k p right taken made =
           (cases_eq m n);
     }
 
-pub kept_finished : InputsStay → (ps : List PackageModel) (plan : PlanModel) (sets : List Numbers) (turns after : TurnsModel) (slots : List Slot) (parts more : List (Option PartModel)) (told telling : List (Option SummaryModel)) (left less n k : ℕ) (p : PartModel) → IsKept ps plan sets turns slots parts told left → slice_get slots n ≡ Some (Taken k p.input) → IsPart p.input p.content → after ≡ turns_with (set turns.marks n mark.Finished) turns.needing → more ≡ set parts n (Some p) → telling ≡ told_of (set parts n (Some p)) → less ≡ left - 1 → IsKept ps plan sets after (set slots n Finished) more telling less
-kept_finished law ps plan sets turns after slots parts more told telling left less n k p kept taken made is same tells fewer = record {
-  plans = kept.plans;
-  importers = subst (λ (t : TurnsModel). AreImporters plan t.needing) (sym is) kept.importers;
-  rows = ap (λ (t : TurnsModel). length t.needing) is ∙ kept.rows;
-  marks = ap (λ (t : TurnsModel). t.marks) is ∙ ap (λ ms. set ms n mark.Finished) kept.marks ∙ sym (map_set mark_of slots n Finished);
-  right = subst (λ (l : List (Option PartModel)). AreRight ps (set slots n Finished) l) (sym same) (right_finished law ps slots parts n k p kept.right taken made);
-  tells = tells ∙ ap told_of (sym same);
-  counted = omega (arith, fewer, kept.counted, left_less slots n (Taken k p.input) Finished taken refl refl);
-}
-
-pub some_left : (ps : List PackageModel) (plan : PlanModel) (sets : List Numbers) (turns : TurnsModel) (slots : List Slot) (parts : List (Option PartModel)) (told : List (Option SummaryModel)) (left n k : ℕ) (i : InputModel) → IsKept ps plan sets turns slots parts told left → slice_get slots n ≡ Some (Taken k i) → 0 < left
-some_left ps plan sets turns slots parts told left n k i kept taken = omega (arith, kept.counted, left_less slots n (Taken k i) Finished taken refl refl)
-
 -- what packages tell with one more part
 pub told_more : (parts : List (Option PartModel)) (n : ℕ) (p : PartModel) → told_of (set parts n (Some p)) ≡ set (told_of parts) n (Some p.content.summary)
 told_more parts n p = map_set (option_map (λ (q : PartModel). q.content.summary)) parts n (Some p)
+
+-- with one more that is not added yet
+tells_push : (told : List (Option SummaryModel)) (ts : List Tell) (t : Tell) → with_tells told (ts ++ t ∷ []) ≡ tell_in (with_tells told ts) t
+tells_push told [] t = refl
+tells_push told (u ∷ us) t = tells_push (tell_in told u) us t
+
+pub tells_long : (told : List (Option SummaryModel)) (ts : List Tell) → length (with_tells told ts) ≡ length told
+tells_long told [] = refl
+tells_long told (t ∷ ts) = tells_long (tell_in told t) ts ∙ length_set told t.place (Some t.part.content.summary)
+
+within_push : (count : ℕ) (ts : List Tell) (t : Tell) → AreWithin count ts → t.place < count → AreWithin count (ts ++ t ∷ [])
+within_push count ts t all here = All-push (λ (u : Tell). u.place < count) ts t all here
+
+pub kept_finished : InputsStay → (ps : List PackageModel) (plan : PlanModel) (sets : List Numbers) (turns after : TurnsModel) (slots : List Slot) (parts more : List (Option PartModel)) (told : List (Option SummaryModel)) (untold longer : List Tell) (room wider left less n k : ℕ) (p : PartModel) → IsKept ps plan sets turns slots parts told untold room left → slice_get slots n ≡ Some (Taken k p.input) → IsPart p.input p.content → after ≡ turns_with (set turns.marks n mark.Finished) turns.needing → more ≡ set parts n (Some p) → longer ≡ untold ++ tell n p ∷ [] → room ≤ wider → less ≡ left - 1 → IsKept ps plan sets after (set slots n Finished) more told longer wider less
+kept_finished law ps plan sets turns after slots parts more told untold longer room wider left less n k p kept taken made is same longer_is wide fewer =
+    let some : 0 < left = omega (arith, kept.counted, left_less slots n (Taken k p.input) Finished taken refl refl) in
+    let inside : n < length told = omega (arith, kept.right.many, kept.right.many_parts, slice_get_within slots n (Taken k p.input) taken, tells_long told untold, ap length kept.tells, length-map parts (option_map (λ (q : PartModel). q.content.summary))) in
+    let long : length longer ≡ length untold + 1 = ap length longer_is ∙ length_push untold (tell n p) in
+    record {
+      plans = kept.plans;
+      importers = subst (λ (t : TurnsModel). AreImporters plan t.needing) (sym is) kept.importers;
+      rows = ap (λ (t : TurnsModel). length t.needing) is ∙ kept.rows;
+      marks = ap (λ (t : TurnsModel). t.marks) is ∙ ap (λ ms. set ms n mark.Finished) kept.marks ∙ sym (map_set mark_of slots n Finished);
+      right = subst (λ (l : List (Option PartModel)). AreRight ps (set slots n Finished) l) (sym same) (right_finished law ps slots parts n k p kept.right taken made);
+      tells = ap (with_tells told) longer_is ∙ tells_push told untold (tell n p) ∙ ap (λ l. set l n (Some p.content.summary)) kept.tells ∙ sym (told_more parts n p) ∙ ap told_of (sym same);
+      within = subst (AreWithin (length told)) (sym longer_is) (within_push (length told) untold (tell n p) kept.within inside);
+      has_room = omega (arith, kept.has_room, long, wide, fewer, some);
+      counted = omega (arith, fewer, kept.counted, left_less slots n (Taken k p.input) Finished taken refl refl);
+    }
+
+pub some_left : (ps : List PackageModel) (plan : PlanModel) (sets : List Numbers) (turns : TurnsModel) (slots : List Slot) (parts : List (Option PartModel)) (told : List (Option SummaryModel)) (untold : List Tell) (room left n k : ℕ) (i : InputModel) → IsKept ps plan sets turns slots parts told untold room left → slice_get slots n ≡ Some (Taken k i) → 0 < left
+some_left ps plan sets turns slots parts told untold room left n k i kept taken = omega (arith, kept.counted, left_less slots n (Taken k i) Finished taken refl refl)
 
 -- all parts
 

@@ -6,10 +6,10 @@ use Rattle.go_snap_core.specs.graph_core.Plans.{IsAssembledAt}
 use Rattle.go_snap_core.specs.part_core.Inputs.{InputModel}
 use Rattle.go_snap_core.specs.part_core.Parts.{PartModel}
 use Rattle.go_snap_core.specs.whole_core.Inputs.{IsInputAt, IsPassingImport}
-use Rattle.go_snap_core.specs.make_core.Telling.{told_of}
 use Rattle.go_batch_core.specs.declared.batch.Ending.{Ending}
 use Rattle.go_batch_core.specs.declared.batch.Next.{Next}
 use Rattle.go_batch_core.specs.declared.slot.Slot.{Slot}
+use Rattle.go_batch_core.specs.declared.tell.Tell.{Tell}
 use Rattle.go_batch_core.specs.declared.slot.Slot.TheVariants.{NoAction, Untaken, Taken, Finished}
 
 -- packages by their numbers in the workspace
@@ -87,11 +87,14 @@ pub record Gets (b : BatchModel) (number : ℕ) (part : PartModel) (after : Batc
 abbrev pub IsForeign : BatchModel → ℕ → PartModel → Type 0
 IsForeign b number part = (n : ℕ) → Awaits b n number part → ⊥
 
--- an action that was taken ends by a part, with which the packages tell this
+abbrev pub tell : ℕ → PartModel → Tell
+tell place part = record { place = place; part = part }
+
+-- an action that was taken ends by a part
 pub record IsEnding (b : BatchModel) (e : Ending) : Type 0 where
   pub number : ℕ
   pub awaits : Awaits b e.place number e.part
-  pub tells : e.told ≡ told_of (slice_set b.parts e.place (Some e.part))
+  pub tells : e.tell ≡ tell e.place e.part
 
 -- where actions are left, one is ready
 abbrev pub IsBusy : BatchModel → Type 0

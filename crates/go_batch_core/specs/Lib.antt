@@ -1,6 +1,9 @@
 pub mod Batches
 pub mod Coding
+pub mod Planning
+pub mod Steadiness
 pub mod mirrors
+pub mod graph_core
 pub mod part_core
 pub mod snap_core
 pub mod whole_core

@@ -1,18 +1,22 @@
 //! The running batch.
-ghost use Rattle.std.specs.Prelude.{◌≡◌, ◌+◌, ◌↔◌, ℕ, IfOk, IsTrue, MatchOption, length, map, slice_set};
+ghost use Rattle.std.specs.Prelude.{◌≡◌, ◌+◌, ◌↔◌, ℕ, Contains, IfOk, IsTrue, MatchOption, Some, false, length, map, slice_get, slice_set, true};
 ghost use Rattle.go_snap_core.specs.graph_core.Plans.{AreImporters, IsOrderly};
 ghost use Rattle.go_snap_core.specs.graph_core.Workspaces.{AreAllRead};
-ghost use Rattle.go_snap_core.specs.whole_core.Inputs.{AreParts, IsInputAt};
+ghost use Rattle.go_snap_core.specs.part_core.Inputs.{InputModel};
+ghost use Rattle.go_snap_core.specs.whole_core.Inputs.{AreParts, HasReached, IsInputAt, ReachesPackage};
 ghost use Rattle.go_snap_core.specs.Snapshots.{IsSnapshot};
 ghost use Rattle.go_batch_core.specs.declared.slot.Slot.TheVariants.{Taken};
 ghost use Rattle.go_batch_core.specs.Batches.{Awaits, IsBegun, IsBusy, IsEnding, IsForeign, IsNext, IsReady, NoneReady, actions_left, batch_with, with_part};
+ghost use Rattle.go_batch_core.specs.Planning.{IsPlanned};
 ghost use Rattle.go_batch_core.specs.mirrors.Keeping.{AreFreshSlots, IsReadSlot, mark_of};
 
 use crate::begin::{left_of, marks_of, slots_of};
+use crate::marks::is_marked;
+use crate::planned::{Planned, SharedReached};
 use crate::read::{ReadInput, ReadPart};
 use crate::slot::Slot;
-use go_reach_core::Reached;
-use go_snap_core::graph_core::{Plan, Workspace, plan_imports};
+use crate::tell::{Tell, push_tell, told_with};
+use go_snap_core::graph_core::{Plan, Workspace};
 use go_snap_core::make_core::{Told, input_of, package_of};
 use go_snap_core::part_core::{Part, PartInput, Parts};
 use go_snap_core::whole_core::{inputs_stay, parts_come_in_order};
@@ -21,22 +25,29 @@ use go_turn_core::Turns;
 use std::alloc::{AllocError, Global};
 use std::marker::Model;
 
+// How many packages may be finished before what they tell is added.
+const MANY: usize = 64;
+
 /// The batch that is compiled: its workspace, what is done with the action of each package, and the parts that are there. Contracts see these
-/// three. A call takes the time of the package's own imports, of what it reaches, and of the packages that import it; but for the list of what packages
-/// tell, which is copied by `ending`, no call goes over all packages but `plan` and those that make the snapshot.
+/// three. A call takes the time of the package's own imports, of what it reaches, and of the packages that import it; no call goes over all packages but
+/// `begin`, those that make the snapshot, and `next_at`, which copies a number for each. What a package tells that was finished is added to what is told
+/// by `tell`, or where an input is made.
 #[derive(Drop)]
 pub struct Batch {
     sources: Workspace,
     plan: Plan,
-    reached: Reached,
+    reached: SharedReached,
     turns: Turns,
     slots: Vec<Slot>,
     parts: Parts,
     told: Told,
+    // What is told by packages that are finished, and not added yet.
+    untold: Vec<Tell>,
     left: usize,
 }
 
 impl Model for Batch {
+    ghost use Rattle.std.specs.Prelude.{vec_capacity};
     ghost use Rattle.go_batch_core.specs.Batches.{BatchModel, batch_with};
     ghost use Rattle.go_batch_core.specs.Coding.{coded_batch};
     ghost use Rattle.go_batch_core.specs.mirrors.Keeping.{IsKept};
@@ -47,7 +58,7 @@ impl Model for Batch {
 
     ghost view = { λ b. batch_with b.sources b.slots.items b.parts };
 
-    ghost invariant = { λ b. IsKept b.sources b.plan b.reached b.turns b.slots.items b.parts b.told b.left };
+    ghost invariant = { λ b. IsKept b.sources b.plan b.reached b.turns b.slots.items b.parts b.told b.untold.items (vec_capacity b.untold) b.left };
 }
 
 /// An action that is ready: the number of its package, its input, and the input that is awaited, which is the same.
@@ -58,12 +69,12 @@ pub struct Next {
     pub awaited: PartInput,
 }
 
-/// The end of an action: the number of its package, its part, and what the packages of the batch tell with this part.
+/// The end of an action: the number of its package, its part, and the part once more, for what it tells.
 #[derive(Drop)]
 pub struct Ending {
     pub place: usize,
     pub part: Part,
-    pub told: Told,
+    pub tell: Tell,
 }
 
 // Whether a slot awaits a part of this input under this number.
@@ -78,6 +89,30 @@ fn is_awaited(slot: &Slot, number: u64, input: &PartInput) -> bool
         Slot::Untaken => false,
         Slot::Finished => false,
     }
+}
+
+// Whether a slot awaits a part under this number.
+fn is_taken_under(slot: &Slot, number: u64) -> bool
+    ensures { IsTrue result → (input : InputModel) × (slot.now ≡ Taken number input) }
+{
+    match slot {
+        Slot::Taken(taken, _) => *taken == number,
+        Slot::NoAction => false,
+        Slot::Untaken => false,
+        Slot::Finished => false,
+    }
+}
+
+// Whether one of these numbers is marked.
+fn any_marked(numbers: &[usize], marks: &[bool]) -> bool
+    ensures { result ≡ false → (m : ℕ) → Contains numbers.now m → slice_get marks.now m ≡ Some true → ⊥ }
+{
+    for number in numbers {
+        if is_marked(marks, *number) {
+            return true;
+        }
+    }
+    false
 }
 
 // Which packages may be taken, where these are the slots of a plan.
@@ -95,23 +130,24 @@ fn turns_of(alloc: Global, plan: &Plan, slots: &[Slot]) -> Result<Turns, AllocEr
 }
 
 impl Batch {
-    /// A batch with an action for each assembled package of a workspace.
+    /// A batch with an action for each assembled package of a workspace, which is planned.
     ///
     /// # Errors
     ///
     /// `AllocError` where memory is wanting.
-    pub fn plan(alloc: Global, sources: Workspace) -> Result<Batch, AllocError>
+    pub fn begin(alloc: Global, sources: Workspace, planned: Planned) -> Result<Batch, AllocError>
+        requires { IsPlanned sources planned.plan planned.reached }
         ensures begun { IfOk result (λ b. IsBegun sources b) }
         ensures busy { IfOk result (λ b. IsBusy b) }
     {
+        let Planned { plan, reached } = planned;
         let count = sources.packages().len();
-        let plan = plan_imports(alloc, &sources)?;
         let slots = slots_of(alloc, count, plan.order())?;
-        let reached = plan.reached(alloc)?;
         let turns = turns_of(alloc, &plan, &slots)?;
         let parts = Parts::none(alloc, count)?;
         let told = Told::new(alloc, count)?;
         let left = left_of(&slots);
+        let untold = Vec::with_capacity(alloc, left)?;
         Ok(Batch {
             sources,
             plan,
@@ -120,7 +156,22 @@ impl Batch {
             slots,
             parts,
             told,
+            untold,
             left,
+        })
+    }
+
+    /// The plan of the workspace and what its packages reach. They are shared.
+    ///
+    /// # Errors
+    ///
+    /// `AllocError` where they have too many owners.
+    pub fn planned(&self) -> Result<Planned, AllocError>
+        ensures { IfOk result (λ p. IsPlanned self.now.sources p.plan p.reached) }
+    {
+        Ok(Planned {
+            plan: self.plan.share()?,
+            reached: self.reached.share()?,
         })
     }
 
@@ -145,36 +196,116 @@ impl Batch {
     {
         parts_come_in_order();
         let parts = self.parts.as_slice();
+        let told = told_with(alloc, &self.told, &self.untold)?;
         let input = input_of(
             alloc,
             &self.sources,
             &self.plan,
-            &self.reached,
+            self.reached.get(),
             place,
             parts,
-            &self.told,
+            &told,
         )?;
         Ok(input)
     }
 
-    /// An action that is ready, if there is one, with its input.
+    // What the package of an action reaches that is ready has its parts.
+    pub(crate) fn has_reached(&self, place: usize)
+        requires { IsReady self.now place }
+        ensures { HasReached self.now.sources self.now.parts place }
+    {
+        let _ = place;
+        parts_come_in_order();
+        let _parts = self.parts.as_slice();
+    }
+
+    /// The package of an action that is ready, if there is one.
+    pub fn ready(&self) -> Option<usize>
+        ensures { MatchOption result (NoneReady self.now) (IsReady self.now) }
+    {
+        self.turns.next()
+    }
+
+    /// An action that is ready, with an input that is made of what the packages tell that are finished.
     ///
     /// # Errors
     ///
     /// `AllocError` where memory is wanting.
-    pub fn next(&self, alloc: Global) -> Result<Option<Next>, AllocError>
-        ensures { IfOk result (λ o. MatchOption o (NoneReady self.now) (IsNext self.now)) }
+    pub fn next_at(&self, alloc: Global, place: usize) -> Result<Next, AllocError>
+        requires { IsReady self.now place }
+        ensures place { IfOk result (λ x. x.place ≡ place) }
+        ensures next { IfOk result (IsNext self.now) }
     {
-        let Some(place) = self.turns.next() else {
-            return Ok(None);
-        };
         let input = self.input_at(alloc, place)?;
+        self.next_with(place, input)
+    }
+
+    /// An action that is ready, with the input that its package has.
+    ///
+    /// # Errors
+    ///
+    /// `AllocError` where the input has too many owners.
+    pub fn next_with(&self, place: usize, input: PartInput) -> Result<Next, AllocError>
+        requires ready { IsReady self.now place }
+        requires input { IsInputAt self.now.sources self.now.parts place input }
+        ensures place { IfOk result (λ x. x.place ≡ place) }
+        ensures input { IfOk result (λ x. x.input ≡ input) }
+        ensures next { IfOk result (IsNext self.now) }
+    {
+        // Its files are as they are read.
+        let _count = self.parts.as_slice();
         let awaited = input.share()?;
-        Ok(Some(Next {
+        Ok(Next {
             place,
             input: ReadInput::new(input),
             awaited,
-        }))
+        })
+    }
+
+    /// Adds what is told by packages that were finished since the last call, where these are many: so that inputs are made sooner. Contracts see no change.
+    ///
+    /// # Errors
+    ///
+    /// `AllocError` where memory is wanting.
+    pub fn tell(&mut self, alloc: Global) -> Result<(), AllocError>
+        ensures { self.new ≡ self.old }
+    {
+        if self.untold.len() < MANY {
+            return Ok(());
+        }
+        self.told = told_with(alloc, &self.told, &self.untold)?;
+        self.untold.truncate(0);
+        Ok(())
+    }
+
+    /// Whether the package of a number reaches one that is marked.
+    ///
+    /// # Errors
+    ///
+    /// `AllocError` where memory is wanting.
+    pub fn reaches_marked(
+        &self,
+        alloc: Global,
+        place: usize,
+        marks: &[bool],
+    ) -> Result<bool, AllocError>
+        ensures { IfOk result (λ is. is ≡ false → (m : ℕ) → ReachesPackage self.now.sources place m → slice_get marks.now m ≡ Some true → ⊥) }
+    {
+        let Some(set) = self.reached.get().of(place) else {
+            return Ok(true);
+        };
+        let numbers = set.list(alloc)?;
+        Ok(any_marked(&numbers, marks))
+    }
+
+    /// Whether the action of a package was taken under a number, and is not finished.
+    pub fn is_taken(&self, place: usize, number: u64) -> bool
+        ensures { IsTrue result → (input : InputModel) × (slice_get self.now.slots place ≡ Some (Taken number input)) }
+    {
+        match self.slots.get(place) {
+            Some(slot) => is_taken_under(slot, number),
+            None => false,
+        }
     }
 
     /// Hands out an action that is ready, under a number. It takes no memory.
@@ -200,20 +331,23 @@ impl Batch {
         }
     }
 
-    /// The end of an action that was taken, by its part. All growth is here.
+    /// The end of an action that was taken, by its part.
     ///
     /// # Errors
     ///
-    /// `AllocError` where memory is wanting.
-    pub fn ending(&self, alloc: Global, place: usize, part: &ReadPart) -> Result<Ending, AllocError>
+    /// `AllocError` where the part has too many owners.
+    pub fn ending(&self, place: usize, part: &ReadPart) -> Result<Ending, AllocError>
         requires { (number : ℕ) × Awaits self.now place number part.now }
         ensures place { IfOk result (λ e. e.place ≡ place) }
         ensures part { IfOk result (λ e. e.part ≡ part.now) }
         ensures ends { IfOk result (IsEnding self.now) }
     {
         let part = part.get().share()?;
-        let told = self.told.with(alloc, place, part.summary().share()?)?;
-        Ok(Ending { place, part, told })
+        let tell = Tell {
+            place,
+            part: part.share()?,
+        };
+        Ok(Ending { place, part, tell })
     }
 
     /// Ends an action that was taken. It takes no memory.
@@ -223,11 +357,11 @@ impl Batch {
         ensures left { actions_left self.new + 1 ≡ actions_left self.old }
     {
         inputs_stay();
-        let Ending { place, part, told } = ending;
+        let Ending { place, part, tell } = ending;
         let _made = part.content();
         self.turns.finish(place);
         self.parts.put(place, part);
-        self.told = told;
+        push_tell(&mut self.untold, tell);
         self.slots[place] = Slot::Finished;
         self.left -= 1;
     }

@@ -11,7 +11,7 @@ use std::sync::{CondvarTimeouts, Wait};
 use std::thread::Threads;
 use std::time::{Clock, Duration};
 
-/// Does an action's work, with no lock held.
+/// Does an action's work, with no lock held. It is not asked of an action that the core knows to have its earlier part.
 pub trait Gate {
     /// A part of the action's input, or `None` where the gate is closed.
     ///
@@ -55,7 +55,8 @@ pub enum WorkEnd {
     GateClosed,
 }
 
-// Waits for the next action. `None` where the hall is stopped. Where memory is wanting it tries again a millisecond later, or where something changed.
+// Waits for the next action that has work to do: one that the core knows to have its earlier part is finished at once. `None` where the hall is stopped.
+// Where memory is wanting it tries again a millisecond later, or where something changed.
 fn next<L: Named, R: Wait + Clock>(rt: &R, hall: &Hall<L>) -> Option<Action> {
     let mut state = hall.state.lock(rt);
     for _ in rt.forever() {
@@ -63,7 +64,25 @@ fn next<L: Named, R: Wait + Clock>(rt: &R, hall: &Hall<L>) -> Option<Action> {
             return None;
         }
         match state.take(rt) {
-            Reply::Act(action) => return Some(action),
+            Reply::Act(action) => {
+                let kept = match action.kept {
+                    Some(place) => state.finish_kept(rt, place, action.number),
+                    None => None,
+                };
+                match kept {
+                    None => {
+                        // Others may be ready beside it.
+                        hall.work.notify_all();
+                        return Some(action);
+                    }
+                    Some(Reply::Published(_)) => hall.built.notify_all(),
+                    Some(Reply::Refused(_)) => {
+                        state.give_back(action.generation);
+                        hall.built.notify_all();
+                    }
+                    Some(_) => {}
+                }
+            }
             Reply::Published(_) => hall.built.notify_all(),
             Reply::Refused(_) => {
                 state = hall
@@ -77,26 +96,29 @@ fn next<L: Named, R: Wait + Clock>(rt: &R, hall: &Hall<L>) -> Option<Action> {
     unreachable!()
 }
 
-// Wakes all for whom the end of an action may change something: workers for the actions behind it, and builds for the batch.
-fn wake<L: Named>(hall: &Hall<L>) {
-    hall.work.notify_all();
-    hall.built.notify_all();
-}
-
-// Hands a part in. Where memory is wanting, its batch is given back.
+// Hands a part in. Where memory is wanting, its batch is given back. Workers are waked for the actions behind it, and builds where a batch is over.
 fn finish<L: Named, R: Wait>(rt: &R, hall: &Hall<L>, action: &Action, part: ReadPart) {
     let mut state = hall.state.lock(rt);
-    if let Reply::Refused(Rule::M0) = state.finish(rt, action.number, part) {
-        state.give_back(action.generation);
-    }
+    let is_over = match state.finish(rt, action.number, part) {
+        Reply::Refused(Rule::M0) => {
+            state.give_back(action.generation);
+            true
+        }
+        Reply::Published(_) => true,
+        _ => false,
+    };
     drop(state);
-    wake(hall);
+    hall.work.notify_all();
+    if is_over {
+        hall.built.notify_all();
+    }
 }
 
 // Gives the batch of an action back.
 fn give_back<L: Named, R: Wait>(rt: &R, hall: &Hall<L>, action: &Action) {
     hall.state.lock(rt).give_back(action.generation);
-    wake(hall);
+    hall.work.notify_all();
+    hall.built.notify_all();
 }
 
 /// Works until the hall is stopped or the gate is closed. Where the gate is closed or memory is wanting, the batch is given back.

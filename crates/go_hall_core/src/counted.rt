@@ -1,5 +1,6 @@
 //! The lock's value, with the ledger of the submits.
-ghost use Rattle.std.specs.Prelude.{◌≡◌, ◌⊎◌, ℕ, ◌<◌, ◌+◌, [], false, true, IfErr, IfOk, OnErr, OnOk, length};
+ghost use Rattle.std.specs.Prelude.{◌≡◌, ◌⊎◌, ℕ, ◌<◌, ◌+◌, [], false, true, IfErr, IfOk, MatchOption, OnErr, OnOk, length};
+ghost use Rattle.go_board_core.specs.part_core.Parts.{PartModel};
 ghost use Rattle.std.specs.List.{sum_by};
 ghost use Rattle.go_sched_core.specs.Service.{Service, empty, open_rule, submit_rule};
 ghost use Rattle.go_sched_core.specs.Steps.{Replay};
@@ -153,6 +154,13 @@ impl<L: Named> Counted<L> {
         ensures { Recorded self.old (Event.Finish number part) result self.new }
     {
         self.state.finish(rt, number, part)
+    }
+
+    /// As `HallState::finish_kept`.
+    pub fn finish_kept<R: Wait>(&mut self, rt: &R, place: usize, number: u64) -> Option<Reply>
+        ensures { MatchOption result (self.new ≡ self.old) (λ reply. (part : PartModel) × Recorded self.old (Event.Finish number part) reply self.new) }
+    {
+        self.state.finish_kept(rt, place, number)
     }
 
     /// As `HallState::give_back`.

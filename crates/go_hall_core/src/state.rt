@@ -1,5 +1,6 @@
 //! The lock's value.
-ghost use Rattle.std.specs.Prelude.{if◌then◌else◌, ◌+◌, ◌≡◌, ◌⊎◌, ◌<◌, ◌≤◌, ◌++◌, ◌∷◌, [], false, true, IfErr, IfOk, OnOk, length, vec_capacity, vec_len};
+ghost use Rattle.std.specs.Prelude.{if◌then◌else◌, ◌+◌, ◌≡◌, ◌⊎◌, ◌<◌, ◌≤◌, ◌++◌, ◌∷◌, [], false, true, IfErr, IfOk, MatchOption, OnOk, length, vec_capacity, vec_len};
+ghost use Rattle.go_board_core.specs.part_core.Parts.{PartModel};
 ghost use Rattle.go_sched_core.specs.Service.{Service, empty, open_rule, submit_rule, ticket_of};
 ghost use Rattle.go_sched_core.specs.Steps.{Replay, Step, accepts};
 ghost use Rattle.go_hall_core.specs.Kept.{IsRefusal, Recorded, late, owed};
@@ -9,7 +10,7 @@ use go_board_core::BoardReader;
 use go_board_core::submit_core::{ModuleTree, Ticket};
 use go_path_core::Module;
 use go_sched_core::batch_core::ReadPart;
-use go_sched_core::{Core, Event, Ready, Reply, SessionId, TicketState};
+use go_sched_core::{Committed, Core, Event, Ready, Reply, SessionId, TicketState};
 use go_text_core::Rule;
 use std::alloc::Global;
 use std::marker::Model;
@@ -58,6 +59,28 @@ fn committed(core: &mut Core, history: &mut Vec<Event>, ready: Ready, event: Eve
     ensures room { vec_capacity history.new ≡ vec_capacity history.old }
 {
     let reply = core.commit(ready);
+    history.push_reserved(event);
+    reply
+}
+
+// The same of the end of an action of this number, whose part the core has.
+#[tactic(auto, using(crate::proofs::Replays::replay_more))]
+fn finished(core: &mut Core, history: &mut Vec<Event>, ready: Ready, number: u64) -> Reply
+    requires from { ready.from ≡ core.old }
+    requires event { (part : PartModel) × (ready.event ≡ Event.Finish number part) }
+    requires room { vec_len history.old < vec_capacity history.old }
+    requires replays { Replay empty history.old.items core.old }
+    ensures step { (part : PartModel) × (history.new.items ≡ history.old.items ++ Event.Finish number part ∷ []) × Step core.old (Event.Finish number part) result core.new }
+    ensures accepted { accepts result ≡ true }
+    ensures held { core.new.held ≡ core.old.held }
+    ensures published { core.new.published ≡ ready.batches }
+    ensures replays { Replay empty history.new.items core.new }
+    ensures len { vec_len history.new ≡ vec_len history.old + 1 }
+    ensures room { vec_capacity history.new ≡ vec_capacity history.old }
+{
+    // The number is what the event is known by.
+    let _ = number;
+    let Committed { event, reply } = core.commit_with_event(ready);
     history.push_reserved(event);
     reply
 }
@@ -173,6 +196,25 @@ impl HallState {
             ready,
             Event::Finish(number, part),
         )
+    }
+
+    /// Finishes an action that was handed out with the input of the last published part of its package, the one of this number, by this part: which is not
+    /// handed in, so that nothing is compared. None where there is no such action, and where memory is wanting: nothing changed then. A publication waits
+    /// for readers.
+    pub fn finish_kept<R: Wait>(&mut self, rt: &R, place: usize, number: u64) -> Option<Reply>
+        ensures { MatchOption result (self.new ≡ self.old) (λ reply. (part : PartModel) × Recorded self.old (Event.Finish number part) reply self.new) }
+    {
+        let Ok(()) = self.history.reserve(self.core.sessions() + 3) else {
+            return None;
+        };
+        let ready = match self.core.prepare_kept(place, number)? {
+            Ok(ready) => ready,
+            Err(reply) => return Some(reply),
+        };
+        let Ok(()) = show(rt, &mut self.desk, &ready) else {
+            return Some(Reply::Refused(Rule::M0));
+        };
+        Some(finished(&mut self.core, &mut self.history, ready, number))
     }
 
     /// Opens a session, which takes a reader of the board with it.

@@ -19,8 +19,8 @@ fits_grow s e (Open m) f = begins_self s.published
 fits_grow s e (Close id) f = begins_self s.published
 fits_grow s e (Submit grown) f = begins_self s.published
 fits_grow s e (HandOut h) f = begins_self s.published
-fits_grow s e (Begin r h) f = begins_self s.published
-fits_grow s e (Finish ending) f = begins_self s.published
+fits_grow s e (Begin r st h) f = begins_self s.published
+fits_grow s e (Finish ending moved) f = begins_self s.published
 fits_grow s e GiveBack f = begins_self s.published
 
 -- of an event that is prepared, no rule refuses it
@@ -29,8 +29,8 @@ fits_allowed s e (Open m) f = subst (IsAllowed s) (sym f.event) f.rule
 fits_allowed s e (Close id) f = subst (IsAllowed s) (sym f.event) f.held
 fits_allowed s e (Submit grown) f = subst (IsAllowed s) (sym f.event) f.rule
 fits_allowed s e (HandOut h) f = subst (IsAllowed s) (sym f.event) tt
-fits_allowed s e (Begin r h) f = subst (IsAllowed s) (sym f.begins.event) tt
+fits_allowed s e (Begin r st h) f = subst (IsAllowed s) (sym f.begins.event) tt
 fits_allowed s e (PublishNew bs) f = subst (IsAllowed s) (sym f.begins.event) tt
-fits_allowed s e (Finish ending) f = subst (IsAllowed s) (sym f.finishing.event) tt
+fits_allowed s e (Finish ending moved) f = subst (IsAllowed s) (sym f.finishing.event) tt
 fits_allowed s e (PublishLast bs) f = subst (IsAllowed s) (sym f.finishing.event) tt
 fits_allowed s e GiveBack f = subst (IsAllowed s) (sym f.event) f.running

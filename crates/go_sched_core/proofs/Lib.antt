@@ -1,4 +1,5 @@
 pub mod Commits
 pub mod Growing
 pub mod Lists
+pub mod Marking
 pub mod Runs

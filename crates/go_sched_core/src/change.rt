@@ -1,16 +1,17 @@
 //! What a step changes.
 use crate::event::SessionId;
 use crate::running::Running;
-use go_batch_core::{Ending, Next, ReadPart};
+use go_batch_core::{Ending, Next, ReadPart, Steady};
 use go_path_core::Module;
 use go_submit_core::{Batches, Submission};
 use std::collections::LinkedList;
 
-/// An action that is to be handed out, with the last published part of its package.
+/// An action that is to be handed out, with the last published part of its package, and whether its input is the one of that part.
 #[derive(Drop)]
 pub struct Hand {
     pub next: Next,
     pub earlier: Option<ReadPart>,
+    pub kept: bool,
 }
 
 /// What a step changes, with all that it grows.
@@ -21,11 +22,12 @@ pub enum Change {
     Submit(LinkedList<Submission>),
     /// An action of the batch that runs.
     HandOut(Hand),
-    /// A batch of all that waits, and its first action.
-    Begin(Running, Hand),
+    /// A batch of all that waits, what of the last snapshot is as it was in it, and its first action.
+    Begin(Running, Option<Steady>, Hand),
     /// A batch of all that waits, which has no action.
     PublishNew(Batches),
-    Finish(Ending),
+    /// The end of an action, and whether its package tells something else than in the last snapshot.
+    Finish(Ending, bool),
     /// The batch that runs, with its last part.
     PublishLast(Batches),
     GiveBack,

@@ -1,11 +1,13 @@
 //! The change that a step makes: nothing here takes memory.
-ghost use Rattle.std.specs.Prelude.{◌≡◌, ℕ, ◌+◌, ◌<◌, ◌≤◌, ◌^◌, ◌++◌, ◌∷◌, [], IfSome, None, Some, length, nat_eq, position, slice_set, true, vec_capacity};
+ghost use Rattle.std.specs.Prelude.{if◌then◌else◌, ◌≡◌, ℕ, ◌+◌, ◌<◌, ◌≤◌, ◌^◌, ◌++◌, ◌∷◌, [], IfSome, None, Some, length, nat_eq, position, slice_set, true, vec_capacity};
 ghost use Rattle.go_batch_core.specs.declared.slot.Slot.TheVariants.{Taken};
-ghost use Rattle.go_batch_core.specs.Batches.{IsEnding, IsReady, actions_left, batch_with, with_part};
+ghost use Rattle.go_batch_core.specs.Batches.{BatchModel, IsEnding, IsReady, actions_left, batch_with, with_part};
 ghost use Rattle.go_sched_core.specs.declared.running.Running.{Running};
 ghost use Rattle.go_sched_core.specs.Service.{counted, counts};
 ghost use Rattle.go_sched_core.specs.Steps.{Step, accepts, held_with, session_with, ticket_with, with_batch, without_session};
-ghost use Rattle.go_sched_core.specs.mirrors.Fitting.{Fits, FitsBegin, FitsHandOut, batches_after};
+ghost use Rattle.go_sched_core.specs.mirrors.Fitting.{ArePublished, Fits, FitsBegin, FitsHandOut, batches_after};
+ghost use Rattle.go_sched_core.specs.mirrors.Beside.{IsMove, finished, handed};
+ghost use Rattle.go_batch_core.specs.Planning.{IsPlanned};
 ghost use Rattle.go_batch_core.specs.whole_core.Inputs.{IsInputAt};
 
 use crate::change::{Change, Hand};
@@ -14,7 +16,7 @@ use crate::machine::Core;
 use crate::rules::MAX_EVENTS;
 use crate::running::Running;
 use go_batch_core::part_core::PartInput;
-use go_batch_core::{Ending, Next};
+use go_batch_core::{Ending, Next, Planned, Steady};
 use go_path_core::Module;
 use go_submit_core::{Batches, Submission, Ticket};
 use std::collections::LinkedList;
@@ -104,6 +106,41 @@ fn finish(running: &mut Option<Running>, ending: Ending)
     }
 }
 
+// The plan of the batch that runs. It is shared; none where it has too many owners.
+fn planned_of(running: &Option<Running>) -> Option<Planned>
+    ensures { IfSome result (λ p. (r : Running) × (running.now ≡ Some r) × IsPlanned r.batch.sources p.plan p.reached) }
+{
+    match running {
+        Some(running) => running.batch.planned().ok(),
+        None => None,
+    }
+}
+
+// A place, where it is asked for.
+fn place_if(is: bool, place: usize) -> Option<usize>
+    ensures { result ≡ if is then Some place else None }
+{
+    if is { Some(place) } else { None }
+}
+
+// Marks a package whose action is handed out.
+fn mark_handed(steady: &mut Option<Steady>, place: usize, kept: bool)
+    ensures { steady.new ≡ handed steady.old place kept }
+{
+    if let Some(steady) = steady {
+        steady.hand_out(place, kept);
+    }
+}
+
+// Marks a package whose action is finished.
+fn mark_finished(steady: &mut Option<Steady>, place: usize, moved: bool)
+    ensures { steady.new ≡ finished steady.old place moved }
+{
+    if let Some(steady) = steady {
+        steady.finish(place, moved);
+    }
+}
+
 impl Core {
     fn commit_open(&mut self, own: Module) -> Reply
         requires few { length self.old.held < 32 }
@@ -145,14 +182,18 @@ impl Core {
         ensures { self.new ≡ counts (record self.old { running = None }) }
     {
         self.accepted = counted(self.accepted);
+        self.steady = None;
         self.running = None;
     }
 
     fn commit_publish_last(&mut self, batches: Batches) -> Reply
+        requires { (r : Running) × (b : BatchModel) × (self.old.running ≡ Some r) × ArePublished self.old.published (with_batch r b) batches }
         ensures reply { result ≡ Reply.Published (length batches) }
         ensures state { self.new ≡ counts (record self.old { running = None; published = batches }) }
     {
         self.accepted = counted(self.accepted);
+        self.planned = planned_of(&self.running);
+        self.steady = None;
         self.running = None;
         let count = batches.len() as u64;
         self.published = batches;
@@ -166,6 +207,8 @@ impl Core {
     {
         self.accepted = counted(self.accepted);
         self.generations += 1;
+        self.planned = None;
+        self.steady = None;
         self.running = None;
         self.waiting = LinkedList::new(self.alloc);
         let count = batches.len() as u64;
@@ -181,7 +224,11 @@ impl Core {
         ensures accepted { accepts result ≡ true }
         ensures published { self.new.published ≡ self.old.published }
     {
-        let Hand { next, earlier } = hand;
+        let Hand {
+            next,
+            earlier,
+            kept,
+        } = hand;
         let Next {
             place,
             input,
@@ -189,6 +236,7 @@ impl Core {
         } = next;
         let number = self.actions + 1;
         let generation = hand_out(&mut self.running, place, number, awaited);
+        mark_handed(&mut self.steady, place, kept);
         self.actions = number;
         self.accepted = counted(self.accepted);
         Reply::Act(Action {
@@ -196,16 +244,21 @@ impl Core {
             number,
             input,
             earlier,
+            kept: place_if(kept, place),
         })
     }
 
-    fn commit_begin(&mut self, running: Running, hand: Hand) -> Reply
-        requires { FitsBegin self.old Event.Take running hand }
+    fn commit_begin(&mut self, running: Running, steady: Option<Steady>, hand: Hand) -> Reply
+        requires { FitsBegin self.old Event.Take running steady hand }
         ensures step { Step self.old Event.Take result self.new }
         ensures accepted { accepts result ≡ true }
         ensures published { self.new.published ≡ self.old.published }
     {
-        let Hand { next, earlier } = hand;
+        let Hand {
+            next,
+            earlier,
+            kept,
+        } = hand;
         let Next {
             place,
             input,
@@ -214,10 +267,13 @@ impl Core {
         let number = self.actions + 1;
         let mut running = running;
         hand_out_of(&mut running, place, number, awaited);
+        let mut steady = steady;
+        mark_handed(&mut steady, place, kept);
         let generation = running.generation;
         self.waiting = LinkedList::new(self.alloc);
         self.generations += 1;
         self.running = Some(running);
+        self.steady = steady;
         self.actions = number;
         self.accepted = counted(self.accepted);
         Reply::Act(Action {
@@ -225,13 +281,15 @@ impl Core {
             number,
             input,
             earlier,
+            kept: place_if(kept, place),
         })
     }
 
-    fn commit_finish(&mut self, ending: Ending)
-        requires { (r : Running) × (self.old.running ≡ Some r) × IsEnding r.batch ending }
+    fn commit_finish(&mut self, ending: Ending, moved: bool)
+        requires { (r : Running) × (self.old.running ≡ Some r) × IsEnding r.batch ending × IsMove self.old.published ending.place ending.part moved }
         ensures { (r : Running) × (self.old.running ≡ Some r) × (actions_left (with_part r.batch ending.place ending.part) + 1 ≡ actions_left r.batch) × (self.new ≡ counts (record self.old { running = Some (with_batch r (with_part r.batch ending.place ending.part)) })) }
     {
+        mark_finished(&mut self.steady, ending.place, moved);
         finish(&mut self.running, ending);
         self.accepted = counted(self.accepted);
     }
@@ -255,10 +313,10 @@ impl Core {
             }
             Change::Submit(grown) => self.commit_submit(grown),
             Change::HandOut(hand) => self.commit_hand_out(hand),
-            Change::Begin(running, hand) => self.commit_begin(running, hand),
+            Change::Begin(running, steady, hand) => self.commit_begin(running, steady, hand),
             Change::PublishNew(batches) => self.commit_publish_new(batches),
-            Change::Finish(ending) => {
-                self.commit_finish(ending);
+            Change::Finish(ending, moved) => {
+                self.commit_finish(ending, moved);
                 Reply::Finished
             }
             Change::PublishLast(batches) => self.commit_publish_last(batches),

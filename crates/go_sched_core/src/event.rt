@@ -52,6 +52,8 @@ pub struct Action {
     pub number: u64,
     pub input: ReadInput,
     pub earlier: Option<ReadPart>,
+    /// The number of the package, where the core knows that the earlier part is made of this input: then it can be finished by `Core::prepare_kept`.
+    pub kept: Option<usize>,
 }
 
 /// What the core replies.

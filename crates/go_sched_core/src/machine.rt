@@ -6,6 +6,7 @@ ghost use Rattle.go_sched_core.specs.Service.{empty};
 use crate::event::Held;
 use crate::rules::MAX_SESSIONS;
 use crate::running::Running;
+use go_batch_core::{Planned, Steady};
 use go_submit_core::{Batches, Submission};
 use go_text_core::Rule;
 use std::alloc::Global;
@@ -25,6 +26,10 @@ pub struct Core {
     pub(crate) actions: u64,
     pub(crate) running: Option<Running>,
     pub(crate) published: Batches,
+    // The plan of what is published, where it is known.
+    pub(crate) planned: Option<Planned>,
+    // What of the last snapshot is as it was in the batch that runs.
+    pub(crate) steady: Option<Steady>,
 }
 
 impl Model for Core {
@@ -39,7 +44,7 @@ impl Model for Core {
 
     ghost view = { λ c. record { accepted = c.accepted; opened = c.opened; held = c.held.items; tickets = c.tickets; waiting = c.waiting; generations = c.generations; actions = c.actions; running = c.running; published = c.published } };
 
-    ghost invariant = { λ c. IsKept c.held.items (vec_capacity c.held) c.published c.running };
+    ghost invariant = { λ c. IsKept c.held.items (vec_capacity c.held) c.published c.running c.planned c.steady };
 }
 
 impl Core {
@@ -69,6 +74,8 @@ impl Core {
             actions: 0,
             running: None,
             published,
+            planned: None,
+            steady: None,
         })
     }
 

@@ -1,18 +1,24 @@
 //! What a step needs: all growth is here, and nothing changes.
-ghost use Rattle.std.specs.Prelude.{◌≡◌, ℕ, ◌+◌, ◌<◌, ◌^◌, ◌++◌, ◌∷◌, [], IfErr, IfOk, MatchOption, Some, false};
-ghost use Rattle.go_submit_core.specs.Published.{IsEarlierPart, IsOneWorker, batch_of, sources_of};
+ghost use Rattle.std.specs.Prelude.{◌≡◌, ℕ, ◌+◌, ◌<◌, ◌^◌, ◌++◌, ◌∷◌, [], IfErr, IfOk, IfSome, MatchOption, Some, false};
+ghost use Rattle.go_batch_core.specs.graph_core.Workspaces.{AreAllRead};
+ghost use Rattle.go_submit_core.specs.Published.{IsEarlierPart, IsOneWorker, batch_of, last_of, sources_of};
 ghost use Rattle.go_submit_core.specs.Submitted.{submission_with, submitted};
-ghost use Rattle.go_batch_core.specs.Batches.{Awaits, NoneReady, actions_left, with_part};
+ghost use Rattle.go_batch_core.specs.Batches.{Awaits, IsReady, NoneReady, actions_left, with_part};
+ghost use Rattle.go_batch_core.specs.Planning.{IsPlanned};
+ghost use Rattle.go_batch_core.specs.Steadiness.{IsSteady};
 ghost use Rattle.go_sched_core.specs.Steps.{IsFormed, Step, accepts, with_batch};
 ghost use Rattle.go_sched_core.specs.mirrors.Fitting.{ArePublished, Fits, IsBeginning, IsHand};
+ghost use Rattle.go_sched_core.specs.mirrors.Beside.{BeginsBeside, IsKeptEnd, IsMove, IsSteadyBeside};
 
 use crate::change::{Change, Hand};
 use crate::event::{Event, Reply, SessionId};
 use crate::machine::Core;
 use crate::rules::is_running;
-use crate::running::Running;
+use crate::running::{Formed, Running};
+use go_batch_core::graph_core::Workspace;
+use go_batch_core::part_core::Part;
 use go_batch_core::snap_core::{SharedSnapshot, Snapshot};
-use go_batch_core::{Batch, ReadPart};
+use go_batch_core::{Batch, Planned, ReadPart, Steady, plan_over};
 use go_path_core::{ImportPath, Module};
 use go_submit_core::{Batches, ModuleTree, PublishedBatch, Submission, Submissions, Ticket};
 use go_text_core::Rule;
@@ -21,6 +27,14 @@ use std::collections::LinkedList;
 
 // The most submissions that wait.
 const MAX_WAITING: usize = 1 << 62;
+
+// A part once more, the files of whose package are as they are read.
+fn read_again(part: &Part) -> Result<ReadPart, AllocError>
+    requires { AreAllRead part.now.input.source }
+    ensures { IfOk result (λ p. p ≡ part.now) }
+{
+    Ok(ReadPart::new(part.share()?))
+}
 
 impl Core {
     fn prepare_open(&self, own: &Module) -> Result<Change, Reply>
@@ -105,15 +119,76 @@ impl Core {
         }
     }
 
-    // An action of a batch that is ready, if there is one.
-    fn hand_of(&self, batch: &Batch) -> Result<Option<Hand>, AllocError>
-        ensures { IfOk result (λ o. MatchOption o (NoneReady batch.now) (λ h. IsHand self.now.published batch.now h)) }
+    // A ready action of a batch, with the input of the last published part of its package, where that is known to be its input.
+    fn kept_hand(
+        &self,
+        batch: &Batch,
+        steady: &Steady,
+        last: &PublishedBatch,
+        place: usize,
+    ) -> Result<Option<Hand>, AllocError>
+        requires ready { IsReady batch.now place }
+        requires last { last_of self.now.published ≡ Some last.now }
+        requires steady { IsSteady last.now.snapshot batch.now steady.now }
+        ensures { IfOk result (λ o. IfSome o (IsHand self.now.published batch.now)) }
     {
-        let Some(next) = batch.next(self.alloc)? else {
+        let snapshot = last.snapshot.get();
+        let Some(part) = steady.part_at(self.alloc, batch, snapshot, place)? else {
             return Ok(None);
         };
+        let input = part.input().share()?;
+        let next = batch.next_with(place, input)?;
+        let earlier = read_again(part)?;
+        Ok(Some(Hand {
+            next,
+            earlier: Some(earlier),
+            kept: true,
+        }))
+    }
+
+    // A ready action of a batch, with an input that is made.
+    fn new_hand(&self, batch: &Batch, place: usize) -> Result<Hand, AllocError>
+        requires { IsReady batch.now place }
+        ensures { IfOk result (IsHand self.now.published batch.now) }
+    {
+        let next = batch.next_at(self.alloc, place)?;
         let earlier = self.earlier(next.input.get().path())?;
-        Ok(Some(Hand { next, earlier }))
+        Ok(Hand {
+            next,
+            earlier,
+            kept: false,
+        })
+    }
+
+    // A ready action of a batch.
+    fn hand_at(
+        &self,
+        batch: &Batch,
+        steady: &Option<Steady>,
+        place: usize,
+    ) -> Result<Hand, AllocError>
+        requires ready { IsReady batch.now place }
+        requires steady { IsSteadyBeside self.now.published batch.now steady.now }
+        ensures { IfOk result (IsHand self.now.published batch.now) }
+    {
+        let (Some(steady), Some(last)) = (steady, self.published.last()) else {
+            return self.new_hand(batch, place);
+        };
+        match self.kept_hand(batch, steady, last, place)? {
+            Some(hand) => Ok(hand),
+            None => self.new_hand(batch, place),
+        }
+    }
+
+    // An action of a batch that is ready, if there is one.
+    fn hand_of(&self, batch: &Batch, steady: &Option<Steady>) -> Result<Option<Hand>, AllocError>
+        requires { IsSteadyBeside self.now.published batch.now steady.now }
+        ensures { IfOk result (λ o. MatchOption o (NoneReady batch.now) (IsHand self.now.published batch.now)) }
+    {
+        match batch.ready() {
+            Some(place) => Ok(Some(self.hand_at(batch, steady, place)?)),
+            None => Ok(None),
+        }
     }
 
     // What waits, once more.
@@ -130,19 +205,36 @@ impl Core {
         Ok(again)
     }
 
+    // The plan of what is to be compiled, and what of the last snapshot is as it was in it, where that is known.
+    fn planned_with(&self, sources: &Workspace) -> Result<(Planned, Option<Steady>), AllocError>
+        ensures planned { IfOk result (λ p. IsPlanned sources.now p.0.plan p.0.reached) }
+        ensures steady { IfOk result (λ p. BeginsBeside self.now.published sources.now p.1) }
+    {
+        match (&self.planned, self.published.last()) {
+            (Some(planned), Some(last)) => {
+                let over = plan_over(self.alloc, last.snapshot.get(), planned, sources)?;
+                Ok((over.planned, Some(over.steady)))
+            }
+            _ => Ok((Planned::of(self.alloc, sources)?, None)),
+        }
+    }
+
     // The batch of all that waits.
-    fn formed(&self) -> Result<Running, AllocError>
+    fn formed(&self) -> Result<Formed, AllocError>
         requires { self.now.generations + 1 < 2 ^ 64 }
-        ensures { IfOk result (λ r. IsFormed self.now r) }
+        ensures formed { IfOk result (λ f. IsFormed self.now f.running) }
+        ensures steady { IfOk result (λ f. IsSteadyBeside self.now.published f.running.batch f.steady) }
     {
         let submissions = Submissions::new(self.alloc, self.waiting_again()?)?;
         let sources = submissions.put_into(self.published.sources(self.alloc)?)?;
-        let batch = Batch::plan(self.alloc, sources)?;
-        Ok(Running {
+        let (planned, steady) = self.planned_with(&sources)?;
+        let batch = Batch::begin(self.alloc, sources, planned)?;
+        let running = Running {
             generation: self.generations + 1,
             submissions,
             batch,
-        })
+        };
+        Ok(Formed { running, steady })
     }
 
     // The published batches with one more.
@@ -200,7 +292,7 @@ impl Core {
         ensures ok { IfOk result (λ change. Fits self.now Event.Take change) }
         ensures err { IfErr result (λ reply. Step self.now Event.Take reply self.now × (accepts reply ≡ false)) }
     {
-        match self.hand_of(&running.batch) {
+        match self.hand_of(&running.batch, &self.steady) {
             Ok(Some(hand)) => Ok(Change::HandOut(hand)),
             Ok(None) => Err(Reply::Idle),
             Err(AllocError) => Err(Reply::Refused(Rule::M0)),
@@ -208,20 +300,22 @@ impl Core {
     }
 
     // A take where this batch is formed.
-    fn prepare_formed(&self, running: Running) -> Result<Change, Reply>
-        requires begins { IsBeginning self.now Event.Take running }
+    fn prepare_formed(&self, formed: Formed) -> Result<Change, Reply>
+        requires begins { IsBeginning self.now Event.Take formed.running }
+        requires steady { IsSteadyBeside self.now.published formed.running.batch formed.steady }
         requires numbered { self.now.actions + 1 < 2 ^ 64 }
         ensures ok { IfOk result (λ change. Fits self.now Event.Take change) }
         ensures err { IfErr result (λ reply. Step self.now Event.Take reply self.now × (accepts reply ≡ false)) }
     {
+        let Formed { running, steady } = formed;
         if running.batch.left() == 0 {
             return match self.published_new(&running) {
                 Ok(batches) => Ok(Change::PublishNew(batches)),
                 Err(AllocError) => Err(Reply::Refused(Rule::M0)),
             };
         }
-        match self.hand_of(&running.batch) {
-            Ok(Some(hand)) => Ok(Change::Begin(running, hand)),
+        match self.hand_of(&running.batch, &steady) {
+            Ok(Some(hand)) => Ok(Change::Begin(running, steady, hand)),
             // Where actions are left, one is ready.
             Ok(None) => unreachable!(),
             Err(AllocError) => Err(Reply::Refused(Rule::M0)),
@@ -242,7 +336,46 @@ impl Core {
             return Err(Reply::Idle);
         }
         match self.formed() {
-            Ok(running) => self.prepare_formed(running),
+            Ok(formed) => self.prepare_formed(formed),
+            Err(AllocError) => Err(Reply::Refused(Rule::M0)),
+        }
+    }
+
+    // Whether a part tells something else than the last published part of the package of a number.
+    fn moves(&self, place: usize, part: &ReadPart) -> bool
+        ensures { IsMove self.now.published place part.now result }
+    {
+        match self.published.last() {
+            Some(last) => !Steady::tells_again(last.snapshot.get(), place, part),
+            None => true,
+        }
+    }
+
+    // The end of an action of the batch that runs, which was taken under a number.
+    fn prepare_end(
+        &self,
+        running: &Running,
+        place: usize,
+        number: u64,
+        part: &ReadPart,
+        moved: bool,
+    ) -> Result<Change, Reply>
+        requires running { self.now.running ≡ Some running.now }
+        requires awaits { Awaits running.now.batch place number part.now }
+        requires moved { IsMove self.now.published place part.now moved }
+        ensures ok { IfOk result (λ change. Fits self.now (Event.Finish number part.now) change) }
+        ensures err { IfErr result (λ reply. Step self.now (Event.Finish number part.now) reply self.now × (accepts reply ≡ false)) }
+    {
+        // The number is what the action is known by.
+        let _ = number;
+        if running.batch.left() != 1 {
+            return match running.batch.ending(place, part) {
+                Ok(ending) => Ok(Change::Finish(ending, moved)),
+                Err(AllocError) => Err(Reply::Refused(Rule::M0)),
+            };
+        }
+        match self.published_last(running, place, part) {
+            Ok(batches) => Ok(Change::PublishLast(batches)),
             Err(AllocError) => Err(Reply::Refused(Rule::M0)),
         }
     }
@@ -257,16 +390,42 @@ impl Core {
         let Some(place) = running.batch.awaiting(number, part) else {
             return Err(Reply::Refused(Rule::Z1));
         };
-        if running.batch.left() != 1 {
-            return match running.batch.ending(self.alloc, place, part) {
-                Ok(ending) => Ok(Change::Finish(ending)),
-                Err(AllocError) => Err(Reply::Refused(Rule::M0)),
-            };
-        }
-        match self.published_last(running, place, part) {
-            Ok(batches) => Ok(Change::PublishLast(batches)),
-            Err(AllocError) => Err(Reply::Refused(Rule::M0)),
-        }
+        let moved = self.moves(place, part);
+        self.prepare_end(running, place, number, part, moved)
+    }
+
+    // The last published part of the package of a number, whose action was taken under a number with the input of this part, and is not finished.
+    fn kept_part(&self, place: usize, number: u64) -> Option<(&Running, &Part)>
+        ensures kept { IfSome result (λ f. (self.now.running ≡ Some f.0.now) × IsKeptEnd self.now.published f.0.now.batch place number f.1.now) }
+        ensures read { IfSome result (λ f. AreAllRead f.1.now.input.source) }
+    {
+        let (Some(running), Some(steady), Some(last)) = (
+            &self.running,
+            &self.steady,
+            self.published.last(),
+        ) else {
+            return None;
+        };
+        let part = steady.kept_at(&running.batch, last.snapshot.get(), place, number)?;
+        Some((running, part))
+    }
+
+    /// The end of an action of the batch that runs that was handed out with the input of its earlier part, by this part: which is not looked at. None where
+    /// there is no such action, and where the part has too many owners.
+    pub(crate) fn kept_end(
+        &self,
+        place: usize,
+        number: u64,
+    ) -> Option<(ReadPart, Result<Change, Reply>)>
+        ensures ok { IfSome result (λ f. IfOk f.1 (λ change. Fits self.now (Event.Finish number f.0) change)) }
+        ensures err { IfSome result (λ f. IfErr f.1 (λ reply. Step self.now (Event.Finish number f.0) reply self.now × (accepts reply ≡ false))) }
+    {
+        let (running, part) = self.kept_part(place, number)?;
+        let Ok(part) = read_again(part) else {
+            return None;
+        };
+        let change = self.prepare_end(running, place, number, &part, false);
+        Some((part, change))
     }
 
     /// The change that an event asks for.

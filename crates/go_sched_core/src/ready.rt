@@ -1,5 +1,6 @@
 //! A step in two: what it needs is made first, and the state changes without memory.
-ghost use Rattle.std.specs.Prelude.{◌≡◌, IfErr, IfOk, MatchOption, false, true};
+ghost use Rattle.std.specs.Prelude.{◌≡◌, IfErr, IfOk, IfSome, MatchOption, false, true};
+ghost use Rattle.go_batch_core.specs.part_core.Parts.{PartModel};
 ghost use Rattle.go_submit_core.specs.Published.{BeginsWith};
 ghost use Rattle.go_sched_core.specs.Prepared.{IsAllowed};
 ghost use Rattle.go_sched_core.specs.Steps.{Step, accepts};
@@ -7,7 +8,10 @@ ghost use Rattle.go_sched_core.specs.Steps.{Step, accepts};
 use crate::change::Change;
 use crate::event::{Event, Reply};
 use crate::machine::Core;
+use crate::running::Running;
 use go_submit_core::Batches;
+use go_text_core::Rule;
+use std::alloc::{AllocError, Global};
 use std::marker::Model;
 
 /// A step that was prepared: all that it grows is made. Contracts see the state that it was prepared in, the event, and the published batches after it.
@@ -54,8 +58,8 @@ impl Ready {
             Change::Close(_) => None,
             Change::Submit(_) => None,
             Change::HandOut(_) => None,
-            Change::Begin(_, _) => None,
-            Change::Finish(_) => None,
+            Change::Begin(_, _, _) => None,
+            Change::Finish(_, _) => None,
             Change::GiveBack => None,
         }
     }
@@ -68,7 +72,24 @@ impl Ready {
     }
 }
 
+// Adds what is told in a batch.
+fn tell_in(alloc: Global, running: &mut Option<Running>) -> Result<(), AllocError>
+    ensures { running.new ≡ running.old }
+{
+    match running {
+        Some(running) => running.batch.tell(alloc),
+        None => Ok(()),
+    }
+}
+
 impl Core {
+    // Adds what is told in the batch that runs, so that inputs are made sooner. Contracts see no change.
+    fn tell(&mut self) -> Result<(), AllocError>
+        ensures { self.new ≡ self.old }
+    {
+        tell_in(self.alloc, &mut self.running)
+    }
+
     /// Makes all that a step grows, and changes nothing.
     ///
     /// # Errors
@@ -80,6 +101,9 @@ impl Core {
         ensures err { IfErr result (λ reply. Step self.old event reply self.old × (accepts reply ≡ false)) }
     {
         let from = std::snapshot::Snapshot::of(&*self);
+        if matches!(event, Event::Take) && self.tell().is_err() {
+            return Err(Reply::Refused(Rule::M0));
+        }
         match self.change_of(&event) {
             Ok(change) => Ok(Ready {
                 from,
@@ -87,6 +111,26 @@ impl Core {
                 change,
             }),
             Err(reply) => Err(reply),
+        }
+    }
+
+    /// Makes all that the end of an action grows which was taken under a number with the input of the last published part of its package, the one of this
+    /// number: by this part, which the core has itself, so that nothing is compared. It changes nothing. None where there is no such action, and where
+    /// the part has too many owners.
+    pub fn prepare_kept(&mut self, place: usize, number: u64) -> Option<Result<Ready, Reply>>
+        ensures same { self.new ≡ self.old }
+        ensures ok { IfSome result (λ r. IfOk r (λ ready. (ready.from ≡ self.old) × ((part : PartModel) × (ready.event ≡ Event.Finish number part)))) }
+        ensures err { IfSome result (λ r. IfErr r (λ reply. (part : PartModel) × Step self.old (Event.Finish number part) reply self.old × (accepts reply ≡ false))) }
+    {
+        let from = std::snapshot::Snapshot::of(&*self);
+        let (part, end) = self.kept_end(place, number)?;
+        match end {
+            Ok(change) => Some(Ok(Ready {
+                from,
+                event: Event::Finish(number, part),
+                change,
+            })),
+            Err(reply) => Some(Err(reply)),
         }
     }
 

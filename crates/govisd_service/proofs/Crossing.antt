@@ -12,6 +12,10 @@ use Rattle.go_thread_core.proofs.Crossing.{crossing, leaves, summary_list_row_se
 use Rattle.go_graph_core.specs.contracts.planning.Plan as plan
 use Rattle.go_reach_core.specs.contracts.graph.Reached as reached
 use Rattle.go_turn_core.specs.contracts.turns.Turns as turns
+use Rattle.govisd_desk.specs.batch_core.contracts.planned.SharedReached as shared_reached
+use Rattle.govisd_desk.specs.batch_core.contracts.planned.Planned as planned
+use Rattle.govisd_desk.specs.batch_core.contracts.steady.Steady as steady
+use Rattle.govisd_desk.specs.batch_core.contracts.tell.Tell as tell
 use Rattle.govisd_desk.specs.batch_core.contracts.slot.Slot as slot
 use Rattle.govisd_desk.specs.batch_core.contracts.batch.Batch as batch
 use Rattle.govisd_desk.specs.submit_core.contracts.batches.Batches as batches
@@ -40,6 +44,21 @@ plan_row_send = search (crossing, leaves, std.crosses, sendable) depth 60 fits 2
 reached_row_send : IsSend reached.the_row
 reached_row_send = search (crossing, std.crosses, sendable) depth 60 fits 20000
 
+reached_row_sync : IsSync reached.the_row
+reached_row_sync = search (crossing, std.crosses, sendable) depth 60 fits 20000
+
+shared_reached_row_send : IsSend shared_reached.the_row
+shared_reached_row_send = search (reached_row_send, reached_row_sync, std.crosses, sendable) depth 60 fits 20000
+
+planned_row_send : IsSend planned.the_row
+planned_row_send = search (plan_row_send, shared_reached_row_send, std.crosses, sendable) depth 60 fits 20000
+
+steady_row_send : IsSend steady.the_row
+steady_row_send = search (std.crosses, sendable) depth 60 fits 20000
+
+tell_row_send : IsSend tell.the_row
+tell_row_send = search (crossing, std.crosses, sendable) depth 60 fits 20000
+
 turns_row_send : IsSend turns.the_row
 turns_row_send = search (crossing, std.crosses, sendable) depth 60 fits 20000
 
@@ -47,7 +66,7 @@ slot_row_send : IsSend slot.the_row
 slot_row_send = search (crossing, std.crosses, sendable) depth 60 fits 20000
 
 batch_row_send : IsSend batch.the_row
-batch_row_send = search (plan_row_send, reached_row_send, turns_row_send, slot_row_send, below, sendable) depth 60 fits 20000
+batch_row_send = search (plan_row_send, shared_reached_row_send, turns_row_send, slot_row_send, tell_row_send, below, sendable) depth 60 fits 20000
 
 running_row_send : IsSend running.the_row
 running_row_send = search (batch_row_send, below, sendable) depth 60 fits 20000
@@ -59,7 +78,7 @@ batches_row_sync : IsSync batches.the_row
 batches_row_sync = search (below, sendable) depth 60 fits 20000
 
 core_row_send : IsSend core.the_row
-core_row_send = search (list.the_send, held_row_send, running_row_send, batches_row_send, below, sendable) depth 60 fits 20000
+core_row_send = search (list.the_send, held_row_send, running_row_send, batches_row_send, planned_row_send, steady_row_send, below, sendable) depth 60 fits 20000
 
 board_row_send : IsSend board.the_row
 board_row_send = search (batches_row_send, sendable) depth 20

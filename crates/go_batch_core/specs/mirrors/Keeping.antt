@@ -1,7 +1,7 @@
 -- What a batch keeps.
-use Rattle.std.specs.Prelude.{◌≡◌, ℕ, List, Option, Some, None, All, ⊤, map, length, slice_get}
-use Rattle.go_snap_core.specs.graph_core.Workspaces.{PackageModel, AreAllRead, IsWorkspace}
-use Rattle.go_snap_core.specs.graph_core.Plans.{AreImporters, AreReached, IsAssembledAt, IsPlan, PlanModel}
+use Rattle.std.specs.Prelude.{◌≡◌, ◌≤◌, ◌+◌, ℕ, List, Option, Some, None, ⊤, map, length, slice_get}
+use Rattle.go_snap_core.specs.graph_core.Workspaces.{PackageModel, AreAllRead}
+use Rattle.go_snap_core.specs.graph_core.Plans.{AreImporters, IsAssembledAt, PlanModel}
 use Rattle.go_reach_core.specs.Numbers.{Numbers}
 use Rattle.go_snap_core.specs.summary_core.Summaries.{SummaryModel}
 use Rattle.go_snap_core.specs.part_core.Parts.{PartModel, IsPart}
@@ -13,6 +13,9 @@ use Rattle.go_turn_core.specs.Turns.{TurnsModel}
 use Rattle.go_batch_core.specs.declared.slot.Slot.{Slot}
 use Rattle.go_batch_core.specs.declared.slot.Slot.TheVariants.{NoAction, Untaken, Taken, Finished}
 use Rattle.go_batch_core.specs.Batches.{AreImportsFinished, actions_left, batch_with}
+pub use Rattle.go_batch_core.specs.Planning.{IsPlanned}
+use Rattle.go_batch_core.specs.declared.tell.Tell.{Tell}
+use Rattle.go_batch_core.specs.mirrors.Tells.{AreWithin, with_tells}
 
 abbrev pub mark_of : Slot → Mark
 mark_of NoAction = mark.Absent
@@ -58,18 +61,13 @@ pub record AreRight (ps : List PackageModel) (slots : List Slot) (parts : List (
   pub many_parts : length parts ≡ length ps
   pub each : (n : ℕ) (s : Slot) → slice_get slots n ≡ Some s → IsRight ps slots parts n s
 
--- the plan of a workspace, and what its packages reach
-pub record IsPlanned (ps : List PackageModel) (plan : PlanModel) (sets : List Numbers) : Type 0 where
-  pub well : IsWorkspace ps
-  pub planned : IsPlan ps plan
-  pub reached : AreReached plan sets
-  pub many : length sets ≡ length plan.outcomes
-
-pub record IsKept (ps : List PackageModel) (plan : PlanModel) (sets : List Numbers) (turns : TurnsModel) (slots : List Slot) (parts : List (Option PartModel)) (told : List (Option SummaryModel)) (left : ℕ) : Type 0 where
+pub record IsKept (ps : List PackageModel) (plan : PlanModel) (sets : List Numbers) (turns : TurnsModel) (slots : List Slot) (parts : List (Option PartModel)) (told : List (Option SummaryModel)) (untold : List Tell) (room left : ℕ) : Type 0 where
   pub plans : IsPlanned ps plan sets
   pub importers : AreImporters plan turns.needing
   pub rows : length turns.needing ≡ length plan.outcomes
   pub marks : turns.marks ≡ map mark_of slots
   pub right : AreRight ps slots parts
-  pub tells : told ≡ told_of parts
+  pub tells : with_tells told untold ≡ told_of parts
+  pub within : AreWithin (length told) untold
+  pub has_room : length untold + left ≤ room
   pub counted : left ≡ actions_left (batch_with ps slots parts)

@@ -1,5 +1,5 @@
 -- What is known of a change that was prepared.
-use Rattle.std.specs.Prelude.{◌≡◌, ◌≢◌, ℕ, ◌+◌, ◌<◌, ◌^◌, true, List, [], ◌∷◌, ◌++◌, length, Option, Some, None}
+use Rattle.std.specs.Prelude.{◌≡◌, ◌≢◌, ℕ, ◌+◌, ◌<◌, ◌^◌, Bool, true, List, [], ◌∷◌, ◌++◌, length, Option, Some, None}
 use Rattle.go_batch_core.specs.part_core.Inputs.{path_in}
 use Rattle.go_batch_core.specs.part_core.Parts.{PartModel}
 use Rattle.go_batch_core.specs.snap_core.Snapshots.{IsSnapshot, SnapshotModel}
@@ -18,12 +18,19 @@ use Rattle.go_sched_core.specs.declared.change.Hand.{Hand}
 use Rattle.go_sched_core.specs.declared.event.Event.{Event}
 use Rattle.go_sched_core.specs.declared.event.Event.TheVariants.{Open, Close, Submit, Take, Finish, GiveBack}
 use Rattle.go_sched_core.specs.declared.event.SessionId.{SessionId}
+use Rattle.go_batch_core.specs.Steadiness.{SteadyModel}
 use Rattle.go_sched_core.specs.declared.running.Running.{Running}
+use Rattle.go_sched_core.specs.mirrors.Beside.{IsLastAt, IsMove, IsSteadyBeside}
 
--- a ready action of a batch, and the last published part of its package
+-- the last published part of an action's package is made of its input
+abbrev pub IsKeptHand : List PublishedBatch → Hand → Type 0
+IsKeptHand bs h = (p : PartModel) × (h.earlier ≡ Some p) × (p.input ≡ h.next.input) × IsLastAt bs h.next.place p
+
+-- a ready action of a batch, and the last published part of its package; that this is made of the action's input is marked
 pub record IsHand (bs : List PublishedBatch) (b : BatchModel) (h : Hand) : Type 0 where
   pub next : IsNext b h.next
   pub earlier : IsEarlierPart bs (path_in h.next.input) h.earlier
+  pub kept : h.kept ≡ true → IsKeptHand bs h
 
 -- the batches with this one, of which no action is left
 pub record ArePublished (before : List PublishedBatch) (r : Running) (bs : List PublishedBatch) : Type 0 where
@@ -70,8 +77,9 @@ pub record IsBeginning (s : Service) (e : Event) (r : Running) : Type 0 where
   pub formed : IsFormed s r
   pub numbered : s.generations + 1 < 2 ^ 64
 
-pub record FitsBegin (s : Service) (e : Event) (r : Running) (h : Hand) : Type 0 where
+pub record FitsBegin (s : Service) (e : Event) (r : Running) (steady : Option SteadyModel) (h : Hand) : Type 0 where
   pub begins : IsBeginning s e r
+  pub steady_is : IsSteadyBeside s.published r.batch steady
   pub hand : IsHand s.published r.batch h
   pub numbered : s.actions + 1 < 2 ^ 64
 
@@ -86,11 +94,12 @@ pub record IsFinishing (s : Service) (e : Event) (place : ℕ) (part : PartModel
   pub running : s.running ≡ Some r
   pub awaits : Awaits r.batch place number part
 
-pub record FitsFinish (s : Service) (e : Event) (ending : Ending) : Type 0 where
+pub record FitsFinish (s : Service) (e : Event) (ending : Ending) (moved : Bool) : Type 0 where
   pub r : Running
   pub finishing : IsFinishing s e ending.place ending.part r
   pub others : actions_left r.batch ≢ 1
   pub ends : IsEnding r.batch ending
+  pub moves : IsMove s.published ending.place ending.part moved
 
 pub record FitsPublishLast (s : Service) (e : Event) (bs : List PublishedBatch) : Type 0 where
   pub r : Running
@@ -110,9 +119,9 @@ Fits s e (change.Open m) = FitsOpen s e m
 Fits s e (change.Close id) = FitsClose s e id
 Fits s e (change.Submit grown) = FitsSubmit s e grown
 Fits s e (change.HandOut h) = FitsHandOut s e h
-Fits s e (change.Begin r h) = FitsBegin s e r h
+Fits s e (change.Begin r steady h) = FitsBegin s e r steady h
 Fits s e (change.PublishNew bs) = FitsPublishNew s e bs
-Fits s e (change.Finish ending) = FitsFinish s e ending
+Fits s e (change.Finish ending moved) = FitsFinish s e ending moved
 Fits s e (change.PublishLast bs) = FitsPublishLast s e bs
 Fits s e change.GiveBack = FitsGiveBack s e
 
@@ -122,8 +131,8 @@ batches_after before (change.Open m) = before
 batches_after before (change.Close id) = before
 batches_after before (change.Submit grown) = before
 batches_after before (change.HandOut h) = before
-batches_after before (change.Begin r h) = before
+batches_after before (change.Begin r steady h) = before
 batches_after before (change.PublishNew bs) = bs
-batches_after before (change.Finish ending) = before
+batches_after before (change.Finish ending moved) = before
 batches_after before (change.PublishLast bs) = bs
 batches_after before change.GiveBack = before

@@ -1,4 +1,4 @@
-use Rattle.std.proofs.Common.{◌≡◌, ℕ, Vec, Global, List, length, map, sym, ap, subst, ◌∙◌}
+use Rattle.std.proofs.Common.{ℕ, Vec, Global, length, map, sym, ap, subst, ◌∙◌}
 use Rattle.std.proofs.lemmas.List.{length-map}
 use Rattle.go_snap_core.specs.graph_core.Plans.{AreImporters}
 use Rattle.go_turn_core.specs.Turns.{TurnsModel}

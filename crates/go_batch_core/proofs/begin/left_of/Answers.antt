@@ -1,6 +1,6 @@
-use Rattle.std.proofs.Common.{rules, ◌≡◌, ◌+◌, ◌<◌, ◌≤◌, ℕ, Bool, true, false, List, length, take, get_or, sym, ap, ◌∙◌, arith}
-use Rattle.go_batch_core.specs.Batches.{is_left, unfinished}
-use Rattle.go_batch_core.proofs.Steps.{left_all, left_below, left_more}
+use Rattle.std.proofs.Common.{◌≡◌, ◌+◌, ◌≤◌, true, false, take, sym, ap, ◌∙◌, arith}
+use Rattle.go_batch_core.specs.Batches.{unfinished}
+use Rattle.go_batch_core.proofs.Steps.{left_below, left_more}
 use Rattle.go_batch_core.proofs.begin.left_of.Goals.{then-is_left, else-is_left}
 use Rattle.go_batch_core.proofs.begin.left_of.Goals as goal
 

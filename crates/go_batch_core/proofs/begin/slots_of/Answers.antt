@@ -1,4 +1,4 @@
-use Rattle.std.proofs.Common.{◌≡◌, arith, sym}
+use Rattle.std.proofs.Common.{arith}
 use Rattle.go_batch_core.proofs.Ordered.{none_ordered, ordered_more, ordered_all}
 use Rattle.go_batch_core.proofs.begin.slots_of.Goals as goal
 

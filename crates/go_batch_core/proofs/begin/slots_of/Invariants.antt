@@ -1,4 +1,4 @@
-use Rattle.std.proofs.Common.{◌≡◌, length, take}
+use Rattle.std.proofs.Common.{take}
 use Rattle.go_batch_core.proofs.Ordered.{AreOrdered}
 use Rattle.go_batch_core.proofs.begin.slots_of.Given as goal
 

@@ -1,14 +1,8 @@
-use Rattle.std.proofs.Common.{rules, ◌≡◌, ◌<◌, ◌≤◌, ◌+◌, ◌-◌, ℕ, List, Option, Some, None, true, false, length, map, set, refl, sym, ap, ◌∙◌, subst, arith}
-use Rattle.std.specs.Prelude.{slice_get, MatchOption}
-use Rattle.std.proofs.lemmas.Option.{slice_get_within, slice_get-get_or}
-use Rattle.go_snap_core.specs.graph_core.Workspaces.{PackageModel, AreAllRead}
-use Rattle.go_snap_core.specs.part_core.Parts.{PartModel}
-use Rattle.go_snap_core.specs.whole_core.Inputs.{AreParts, HasReached, IsInputAt}
-use Rattle.go_snap_core.specs.make_core.Telling.{told_of}
-use Rattle.go_batch_core.specs.declared.slot.Slot.{Slot}
-use Rattle.go_batch_core.specs.declared.slot.Slot.TheVariants.{NoAction, Untaken, Taken, Finished}
-use Rattle.go_batch_core.specs.declared.batch.Ending.{Ending}
-use Rattle.go_batch_core.specs.Batches.{Awaits, BatchModel, IsEnding, IsForeign, IsNext, IsReady, NoneReady, actions_left, batch_with, with_part, unfinished}
+use Rattle.std.proofs.Common.{◌≡◌, ◌-◌, [], ◌∷◌, ◌++◌, Some, refl, sym, ap, ◌∙◌, subst, arith}
+use Rattle.std.specs.Prelude.{slice_get, vec_capacity}
+use Rattle.go_batch_core.specs.declared.slot.Slot.TheVariants.{Taken, Finished}
+use Rattle.go_batch_core.specs.Batches.{Awaits, BatchModel, actions_left}
+use Rattle.go_batch_core.specs.declared.tell.Tell.{Tell}
 use Rattle.go_batch_core.proofs.Steps.{kept_finished, some_left, left_less}
 use Rattle.go_batch_core.proofs.batch.Batch.finish.Goals as goal
 
@@ -17,15 +11,23 @@ overflow_sub-self c =
     let i = c.self.inside in
     let e = c.args.ending in
     let taken : slice_get i.slots.items e.place ≡ Some (Taken c.requires.number e.part.input) = subst (λ (b : BatchModel). Awaits b e.place c.requires.number e.part) (sym c.self.view_is) c.requires.awaits in
-    omega (arith, some_left i.sources i.plan i.reached i.turns i.slots.items i.parts i.told i.left e.place c.requires.number e.part.input c.self.invariant taken)
+    omega (arith, some_left i.sources i.plan i.reached i.turns i.slots.items i.parts i.told i.untold.items (vec_capacity i.untold) i.left e.place c.requires.number e.part.input c.self.invariant taken)
 
 pub invariant_of-self : goal.invariant_of-self
 invariant_of-self c =
     let i = c.self.inside in
     let e = c.args.ending in
     let taken : slice_get i.slots.items e.place ≡ Some (Taken c.requires.number e.part.input) = subst (λ (b : BatchModel). Awaits b e.place c.requires.number e.part) (sym c.self.view_is) c.requires.awaits in
-    let tells : e.told ≡ told_of (set i.parts e.place (Some e.part)) = subst (λ (b : BatchModel). e.told ≡ told_of (set b.parts e.place (Some e.part))) (sym c.self.view_is) c.requires.tells in
-    kept_finished c.inputs_stay.ensures i.sources i.plan i.reached i.turns c.finish.new.self i.slots.items i.parts c.put.new.self i.told e.told i.left (i.left - 1) e.place c.requires.number e.part c.self.invariant taken c.content-made.ensures.made c.finish.ensures c.put.ensures tells refl
+    let longer = c.push_tell.ensures.items ∙ ap (λ (t : Tell). i.untold.items ++ t ∷ []) c.requires.tells in
+    kept_finished c.inputs_stay.ensures i.sources i.plan i.reached i.turns c.finish.new.self i.slots.items i.parts c.put.new.self i.told i.untold.items c.push_tell.new.untold.items (vec_capacity i.untold) (vec_capacity c.push_tell.new.untold) i.left (i.left - 1) e.place c.requires.number e.part c.self.invariant taken c.content-made.ensures.made c.finish.ensures c.put.ensures longer c.push_tell.ensures.room refl
+
+pub push_tell-requires : goal.push_tell-requires
+push_tell-requires c =
+    let i = c.self.inside in
+    let e = c.args.ending in
+    let taken : slice_get i.slots.items e.place ≡ Some (Taken c.requires.number e.part.input) = subst (λ (b : BatchModel). Awaits b e.place c.requires.number e.part) (sym c.self.view_is) c.requires.awaits in
+    let some = some_left i.sources i.plan i.reached i.turns i.slots.items i.parts i.told i.untold.items (vec_capacity i.untold) i.left e.place c.requires.number e.part.input c.self.invariant taken in
+    omega (arith, some, c.self.invariant.has_room)
 
 pub returns-clause-left : goal.returns-clause-left
 returns-clause-left c =

@@ -1,14 +1,8 @@
-use Rattle.std.proofs.Common.{rules, ◌≡◌, ◌<◌, ◌≤◌, ◌+◌, ◌-◌, ℕ, List, Option, Some, None, true, false, length, map, set, refl, sym, ap, ◌∙◌, subst, arith}
-use Rattle.std.specs.Prelude.{slice_get, MatchOption}
-use Rattle.std.proofs.lemmas.Option.{slice_get_within, slice_get-get_or}
-use Rattle.go_snap_core.specs.graph_core.Workspaces.{PackageModel, AreAllRead}
+use Rattle.std.proofs.Common.{List, Option, sym, subst}
 use Rattle.go_snap_core.specs.part_core.Parts.{PartModel}
-use Rattle.go_snap_core.specs.whole_core.Inputs.{AreParts, HasReached, IsInputAt}
-use Rattle.go_snap_core.specs.make_core.Telling.{told_of}
-use Rattle.go_batch_core.specs.declared.slot.Slot.{Slot}
-use Rattle.go_batch_core.specs.declared.slot.Slot.TheVariants.{NoAction, Untaken, Taken, Finished}
-use Rattle.go_batch_core.specs.declared.batch.Ending.{Ending}
-use Rattle.go_batch_core.specs.Batches.{Awaits, BatchModel, IsEnding, IsForeign, IsNext, IsReady, NoneReady, actions_left, batch_with, with_part, unfinished}
+use Rattle.go_snap_core.specs.whole_core.Inputs.{HasReached, IsInputAt}
+use Rattle.go_batch_core.specs.Batches.{BatchModel, IsReady}
+use Rattle.go_snap_core.specs.graph_core.Plans.{AreReached}
 use Rattle.go_batch_core.proofs.Steps.{assembled_at, has_reached}
 use Rattle.go_batch_core.proofs.batch.Batch.input_at.Goals as goal
 
@@ -29,3 +23,8 @@ returns c =
     let i = c.self.inside in
     let input = subst (λ (l : List (Option PartModel)). IsInputAt i.sources l c.args.place c.in_ok-input.input) c.as_slice-parts.ensures c.in_ok-input.ensures.input in
     subst (λ (b : BatchModel). IsInputAt b.sources b.parts c.args.place c.in_ok-input.input) c.self.view_is input
+
+pub input_of-requires-clause-reached : goal.input_of-requires-clause-reached
+input_of-requires-clause-reached c =
+    let i = c.self.inside in
+    subst (AreReached i.plan) (sym c.get.ensures) c.self.invariant.plans.reached

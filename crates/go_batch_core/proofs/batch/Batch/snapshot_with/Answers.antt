@@ -1,14 +1,10 @@
-use Rattle.std.proofs.Common.{rules, ◌≡◌, ◌<◌, ◌≤◌, ◌+◌, ◌-◌, ℕ, List, Option, Some, None, true, false, length, map, set, refl, sym, ap, ◌∙◌, subst, arith}
-use Rattle.std.specs.Prelude.{slice_get, MatchOption}
-use Rattle.std.proofs.lemmas.Option.{slice_get_within, slice_get-get_or}
-use Rattle.go_snap_core.specs.graph_core.Workspaces.{PackageModel, AreAllRead}
+use Rattle.std.proofs.Common.{◌≡◌, List, Option, Some, set, refl, sym, ap, ◌∙◌, subst, arith}
+use Rattle.std.specs.Prelude.{slice_get}
+use Rattle.go_snap_core.specs.graph_core.Workspaces.{PackageModel}
 use Rattle.go_snap_core.specs.part_core.Parts.{PartModel}
-use Rattle.go_snap_core.specs.whole_core.Inputs.{AreParts, HasReached, IsInputAt}
-use Rattle.go_snap_core.specs.make_core.Telling.{told_of}
-use Rattle.go_batch_core.specs.declared.slot.Slot.{Slot}
-use Rattle.go_batch_core.specs.declared.slot.Slot.TheVariants.{NoAction, Untaken, Taken, Finished}
-use Rattle.go_batch_core.specs.declared.batch.Ending.{Ending}
-use Rattle.go_batch_core.specs.Batches.{Awaits, BatchModel, IsEnding, IsForeign, IsNext, IsReady, NoneReady, actions_left, batch_with, with_part, unfinished}
+use Rattle.go_snap_core.specs.whole_core.Inputs.{AreParts}
+use Rattle.go_batch_core.specs.declared.slot.Slot.TheVariants.{Taken, Finished}
+use Rattle.go_batch_core.specs.Batches.{Awaits, BatchModel, actions_left, unfinished}
 use Rattle.go_snap_core.specs.part_core.Parts.{IsPart}
 use Rattle.go_batch_core.proofs.Steps.{all_parts, right_finished, left_less}
 use Rattle.go_batch_core.proofs.batch.Batch.snapshot_with.Goals as goal

@@ -16,6 +16,6 @@ prepare_formed-requires-clause-begins c =
       event = refl;
       none = ap (λ (s : Service). s.running) (sym c.self.view_is) ∙ none_from c.self.inside.running c.in_default.not-Some;
       waiting = ap (λ (s : Service). s.waiting) (sym c.self.view_is) ∙ first.2;
-      formed = c.in-Ok.ensures;
+      formed = c.in-Ok.ensures.formed;
       numbered = search rules;
     }

@@ -1,0 +1,17 @@
+use Rattle.std.proofs.Common.{List, Option, subst}
+use Rattle.go_snap_core.specs.graph_core.Workspaces.{IsWorkspace}
+use Rattle.go_snap_core.specs.part_core.Parts.{PartModel}
+use Rattle.go_batch_core.specs.Steadiness.{WasAt}
+use Rattle.go_batch_core.proofs.Slots.{if_some_of}
+use Rattle.go_batch_core.proofs.Steadied.{read_in}
+use Rattle.go_batch_core.proofs.steady.earlier_at.Goals as goal
+
+pub returns-clause-was : goal.returns-clause-was
+returns-clause-was c = if_some_of _ c.part_at.result c.part_at.ensures (λ p was. subst (λ (l : List (Option PartModel)). WasAt l c.args.number p.now) c.parts.ensures was)
+
+pub returns-clause-read : goal.returns-clause-read
+returns-clause-read c =
+    let s = c.args.snapshot.now in
+    let well = subst IsWorkspace c.sources.ensures.value c.packages-packages.ensures.well in
+    if_some_of _ c.part_at.result c.part_at.ensures
+    (λ p was. read_in s.sources s.parts c.args.number p.now well c.sources.ensures.whole.made (subst (λ (l : List (Option PartModel)). WasAt l c.args.number p.now) c.parts.ensures was))

@@ -1,0 +1,12 @@
+use Rattle.std.proofs.Common.{◌<◌, length, take, sym, ap, subst, arith}
+use Rattle.go_batch_core.specs.declared.tell.Tell.{Tell}
+use Rattle.go_batch_core.proofs.Steps.{tells_long}
+use Rattle.go_batch_core.proofs.tell.told_with.Goals as goal
+
+pub add_tell-requires : goal.add_tell-requires
+add_tell-requires c =
+    let ts = c.args.untold.now in
+    let i = c.loop-tell.tell-index in
+    let t : Tell = c.tell-item.result in
+    let inside : t.place < length c.args.told.now = subst (λ (x : Tell). x.place < length c.args.told.now) (sym c.tell-item.is) (c.requires i t (omega arith)) in
+    omega (arith, inside, ap length c.loop-tell.invariant, tells_long c.args.told.now (take i ts))

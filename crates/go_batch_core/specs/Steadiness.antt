@@ -1,0 +1,65 @@
+-- What of a snapshot is as it was in the batch that runs behind it.
+use Rattle.std.specs.Prelude.{◌≡◌, ◌↔◌, ℕ, Bool, true, false, List, Option, Some, IsTrue, length, replicate, slice_get}
+use Rattle.go_snap_core.specs.graph_core.Workspaces.{PackageModel}
+use Rattle.go_snap_core.specs.graph_core.declared.imports.ImportAt.{ImportAt}
+use Rattle.go_snap_core.specs.graph_core.declared.imports.ImportOutcome.{ImportOutcome}
+use Rattle.go_snap_core.specs.graph_core.Imports.{IsOutcome}
+use Rattle.go_snap_core.specs.part_core.Inputs.{InputModel, path_in}
+use Rattle.go_snap_core.specs.part_core.Parts.{PartModel}
+use Rattle.go_snap_core.specs.Snapshots.{IsPartAt, SnapshotModel}
+use Rattle.go_snap_core.specs.whole_core.Inputs.{IsInputAt, ReachesPackage, Tells}
+use Rattle.go_batch_core.specs.Batches.{BatchModel}
+use Rattle.go_batch_core.specs.declared.slot.Slot.TheVariants.{Taken}
+
+-- marks by the numbers of packages: those that are the ones of the snapshot, those that are finished and tell something else, and those that were handed
+-- out with the input of their earlier part
+pub record SteadyModel : Type 0 where
+  pub same : List Bool
+  pub moved : List Bool
+  pub kept : List Bool
+
+abbrev pub steady_with : List Bool → List Bool → List Bool → SteadyModel
+steady_with same moved kept = record { same = same; moved = moved; kept = kept }
+
+-- the package of a number had this part
+abbrev pub WasAt : List (Option PartModel) → ℕ → PartModel → Type 0
+WasAt parts n p = slice_get parts n ≡ Some (Some p)
+
+-- the package of a number is the same in two workspaces, what its imports come to there they come to here, and it reaches the same numbers
+pub record IsSameAt (qs ps : List PackageModel) (n : ℕ) : Type 0 where
+  pub source : slice_get qs n ≡ slice_get ps n
+  pub outcomes : (at : ImportAt) (o : ImportOutcome) → at.«package» ≡ n → IsOutcome qs at o → IsOutcome ps at o
+  pub reaches : (m : ℕ) → ReachesPackage qs n m ↔ ReachesPackage ps n m
+
+-- each marked one is
+abbrev pub AreSameAt : List PackageModel → List PackageModel → List Bool → Type 0
+AreSameAt qs ps marks = (n : ℕ) → slice_get marks n ≡ Some true → IsSameAt qs ps n
+
+-- the marks say which packages are the same as in the snapshot; a finished package without a mark tells what it told; and a marked one that is taken was
+-- handed out with the input of its earlier part
+pub record IsSteady (s : SnapshotModel) (b : BatchModel) (m : SteadyModel) : Type 0 where
+  pub same : AreSameAt s.sources b.sources m.same
+  pub many : length m.moved ≡ length b.slots
+  pub moved : (n : ℕ) (p : PartModel) → slice_get b.parts n ≡ Some (Some p) → (slice_get m.moved n ≡ Some true → ⊥) → Tells s.parts n p.content.summary
+  pub kept : (n number : ℕ) (i : InputModel) → slice_get b.slots n ≡ Some (Taken number i) → slice_get m.kept n ≡ Some true → (p : PartModel) × WasAt s.parts n p × (p.input ≡ i)
+
+-- no package is finished or handed out yet
+pub record BeginsSteady (qs ps : List PackageModel) (m : SteadyModel) : Type 0 where
+  pub same : AreSameAt qs ps m.same
+  pub many : length m.same ≡ length ps
+  pub moved : m.moved ≡ replicate (length m.same) false
+  pub kept : m.kept ≡ replicate (length m.same) false
+
+-- the earlier part of the package of a number, whose input is the one that the batch gives the package
+pub record StaysAt (s : SnapshotModel) (b : BatchModel) (n : ℕ) (p : PartModel) : Type 0 where
+  pub was : WasAt s.parts n p
+  pub of_path : IsPartAt s.sources s.parts (path_in p.input) p
+  pub input : IsInputAt b.sources b.parts n p.input
+
+-- whether a part tells what the one of a number told
+abbrev pub TellsAgain : Bool → List (Option PartModel) → ℕ → PartModel → Type 0
+TellsAgain is parts n p = IsTrue is ↔ Tells parts n p.content.summary
+
+-- the package of a number reaches none that is marked, where this is so
+abbrev pub ReachesNoneIf : Bool → List PackageModel → ℕ → List Bool → Type 0
+ReachesNoneIf is ps n marks = is ≡ true → (m : ℕ) → ReachesPackage ps n m → slice_get marks m ≡ Some true → ⊥

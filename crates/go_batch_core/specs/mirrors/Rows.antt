@@ -1,0 +1,21 @@
+-- What a package has by two plans.
+use Rattle.std.specs.Prelude.{◌≡◌, ℕ, Bool, true, List, Some, IsTrue, length, slice_get}
+use Rattle.go_reach_core.specs.Numbers.{Numbers}
+use Rattle.go_snap_core.specs.graph_core.Plans.{PlanModel}
+use Rattle.go_snap_core.specs.graph_core.Workspaces.{PackageModel}
+use Rattle.go_head_core.specs.Rows.{HaveSameRows}
+
+-- the package of a number has a set in both lists, with the same members
+abbrev pub HaveSameReached : List Numbers → List Numbers → ℕ → Type 0
+HaveSameReached sets others n = (one : Numbers) × (other : Numbers) × (slice_get sets n ≡ Some one) × (slice_get others n ≡ Some other) × (one.members ≡ other.members)
+
+-- what is known of the package of a number that is marked to stay
+pub record Stays (p q : PlanModel) (sets others : List Numbers) (ps : List PackageModel) (same : List Bool) (n : ℕ) : Type 0 where
+  pub marked : slice_get same n ≡ Some true
+  pub package_is : PackageModel
+  pub there : slice_get ps n ≡ Some package_is
+  pub rows : HaveSameRows p q n (length package_is.1)
+  pub reached : HaveSameReached sets others n
+
+abbrev pub StaysIf : Bool → PlanModel → PlanModel → List Numbers → List Numbers → List PackageModel → List Bool → ℕ → Type 0
+StaysIf is p q sets others ps same n = IsTrue is → Stays p q sets others ps same n

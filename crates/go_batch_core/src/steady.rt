@@ -1,0 +1,177 @@
+//! What of the last snapshot is as it was in the batch that runs.
+ghost use Rattle.std.specs.Prelude.{◌≡◌, IfOk, IfSome, MatchOption, false, length, replicate, slice_set};
+ghost use Rattle.go_snap_core.specs.graph_core.Workspaces.{AreAllRead};
+ghost use Rattle.go_snap_core.specs.part_core.Parts.{PartModel};
+ghost use Rattle.go_batch_core.specs.Batches.{Awaits, IsReady};
+ghost use Rattle.go_batch_core.specs.Steadiness.{IsSteady, ReachesNoneIf, StaysAt, TellsAgain, WasAt};
+
+use crate::batch::Batch;
+use crate::marks::{is_marked, set_mark};
+use crate::read::ReadPart;
+use go_snap_core::Snapshot;
+use go_snap_core::part_core::Part;
+use std::alloc::{AllocError, Global};
+use std::marker::Model;
+
+// The marks of packages that tell something else, and whether there is any.
+#[derive(Drop)]
+struct Moves {
+    marks: Vec<bool>,
+    any: bool,
+}
+
+/// Of each package of the batch that runs, by its number, what is known of it beside the last snapshot: whether it is the package of that number there,
+/// its imports come to the same, and it reaches the same numbers; whether it is finished and tells something else than there; and whether its action was
+/// handed out with the input of its earlier part. Contracts see the three lists of marks.
+#[derive(Drop)]
+pub struct Steady {
+    same: Vec<bool>,
+    moved: Moves,
+    kept: Vec<bool>,
+}
+
+impl Model for Steady {
+    ghost use Rattle.go_batch_core.specs.Steadiness.{SteadyModel, steady_with};
+    ghost use Rattle.go_batch_core.specs.mirrors.Moves.{AreCounted};
+
+    ghost Value = { SteadyModel };
+
+    ghost view = { λ s. steady_with s.same.items s.moved.marks.items s.kept.items };
+
+    ghost invariant = { λ s. AreCounted s.moved.marks.items s.moved.any };
+}
+
+// The part of a number, if there is one.
+fn part_at(parts: &[Option<Part>], number: usize) -> Option<&Part>
+    ensures { MatchOption result ((p : PartModel) → WasAt parts.now number p → ⊥) (λ p. WasAt parts.now number p.now) }
+{
+    match parts.get(number) {
+        Some(Some(part)) => Some(part),
+        Some(None) => None,
+        None => None,
+    }
+}
+
+// The part of a number in a snapshot, if there is one. The files of its package are as they are read.
+fn earlier_at(snapshot: &Snapshot, number: usize) -> Option<&Part>
+    ensures was { IfSome result (λ p. WasAt snapshot.now.parts number p.now) }
+    ensures read { IfSome result (λ p. AreAllRead p.now.input.source) }
+{
+    // Its parts are those of its packages.
+    let _packages = snapshot.sources().packages();
+    part_at(snapshot.parts(), number)
+}
+
+impl Steady {
+    /// The marks of a batch of which nothing is taken: these say which packages are as they were in the last snapshot.
+    ///
+    /// # Errors
+    ///
+    /// `AllocError` where memory is wanting.
+    pub(crate) fn new(alloc: Global, same: Vec<bool>) -> Result<Steady, AllocError>
+        ensures same { IfOk result (λ s. s.same ≡ same.items) }
+        ensures moved { IfOk result (λ s. s.moved ≡ replicate (length same.items) false) }
+        ensures kept { IfOk result (λ s. s.kept ≡ replicate (length same.items) false) }
+    {
+        let marks = vec![in alloc; false; same.len()]?;
+        let kept = vec![in alloc; false; same.len()]?;
+        let moved = Moves { marks, any: false };
+        Ok(Steady { same, moved, kept })
+    }
+
+    // Whether the package of a number reaches none that tells something else.
+    fn reaches_none(&self, alloc: Global, batch: &Batch, place: usize) -> Result<bool, AllocError>
+        ensures { IfOk result (λ is. ReachesNoneIf is batch.now.sources place self.now.moved) }
+    {
+        if !self.moved.any {
+            return Ok(true);
+        }
+        let reaches = batch.reaches_marked(alloc, place, &self.moved.marks)?;
+        Ok(!reaches)
+    }
+
+    /// The earlier part of a package whose action is ready, where its input is the one that the batch gives the package: where the package is the one of
+    /// then, and each that it reaches tells what it told then. Nothing is compared. The time is none but where a package tells something else: then
+    /// it is linear in what this one reaches.
+    ///
+    /// # Errors
+    ///
+    /// `AllocError` where memory is wanting.
+    pub fn part_at<'a>(
+        &self,
+        alloc: Global,
+        batch: &Batch,
+        snapshot: &'a Snapshot,
+        place: usize,
+    ) -> Result<Option<&'a Part>, AllocError>
+        requires steady { IsSteady snapshot.now batch.now self.now }
+        requires ready { IsReady batch.now place }
+        ensures stays { IfOk result (λ o. IfSome o (λ p. StaysAt snapshot.now batch.now place p.now)) }
+        // The files of its package are as they are read.
+        ensures read { IfOk result (λ o. IfSome o (λ p. AreAllRead p.now.input.source)) }
+    {
+        if !is_marked(&self.same, place) {
+            return Ok(None);
+        }
+        let stays = self.reaches_none(alloc, batch, place)?;
+        if !stays {
+            return Ok(None);
+        }
+        // Its parts are those of its packages, and what is reached is finished.
+        let _sources = snapshot.sources();
+        batch.has_reached(place);
+        Ok(earlier_at(snapshot, place))
+    }
+
+    /// The earlier part of a package whose action was taken under a number, where that was handed out with the part's input.
+    pub fn kept_at<'a>(
+        &self,
+        batch: &Batch,
+        snapshot: &'a Snapshot,
+        place: usize,
+        number: u64,
+    ) -> Option<&'a Part>
+        requires { IsSteady snapshot.now batch.now self.now }
+        ensures was { IfSome result (λ p. WasAt snapshot.now.parts place p.now) }
+        ensures awaits { IfSome result (λ p. Awaits batch.now place number p.now) }
+        // The files of its package are as they are read.
+        ensures read { IfSome result (λ p. AreAllRead p.now.input.source) }
+    {
+        if is_marked(&self.kept, place) && batch.is_taken(place, number) {
+            earlier_at(snapshot, place)
+        } else {
+            None
+        }
+    }
+
+    /// Whether a part tells what the part of a number in the last snapshot tells. The time is linear in what the two tell.
+    pub fn tells_again(snapshot: &Snapshot, place: usize, part: &ReadPart) -> bool
+        ensures { TellsAgain result snapshot.now.parts place part.now }
+    {
+        match part_at(snapshot.parts(), place) {
+            Some(earlier) => part.get().summary().is_same(earlier.summary()),
+            None => false,
+        }
+    }
+
+    /// Marks a package whose action is handed out: whether with the input of its earlier part.
+    pub fn hand_out(&mut self, place: usize, kept: bool)
+        ensures same { self.new.same ≡ self.old.same }
+        ensures moved { self.new.moved ≡ self.old.moved }
+        ensures kept { self.new.kept ≡ slice_set self.old.kept place kept }
+    {
+        set_mark(&mut self.kept, place, kept);
+    }
+
+    /// Marks a package whose action is finished: whether it tells something else than in the last snapshot.
+    pub fn finish(&mut self, place: usize, moved: bool)
+        ensures same { self.new.same ≡ self.old.same }
+        ensures moved { self.new.moved ≡ slice_set self.old.moved place moved }
+        ensures kept { self.new.kept ≡ self.old.kept }
+    {
+        if moved {
+            self.moved.any = true;
+        }
+        set_mark(&mut self.moved.marks, place, moved);
+    }
+}

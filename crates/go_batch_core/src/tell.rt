@@ -1,0 +1,47 @@
+//! What finished packages tell, added many at a time.
+ghost use Rattle.std.specs.Prelude.{◌≡◌, ◌<◌, ◌≤◌, ◌++◌, ◌∷◌, [], IfOk, OnOk, length, vec_capacity};
+ghost use Rattle.go_batch_core.specs.mirrors.Tells.{AreWithin, tell_in, with_tells};
+
+use go_snap_core::make_core::Told;
+use go_snap_core::part_core::Part;
+use std::alloc::{AllocError, Global};
+
+/// A package that tells something, by its number, with its part.
+#[derive(Drop)]
+pub struct Tell {
+    pub place: usize,
+    pub part: Part,
+}
+
+// Adds what a package tells.
+fn add_tell(told: &mut Told, tell: &Tell) -> Result<(), AllocError>
+    requires { tell.now.place < length told.old }
+    ensures { OnOk result (told.new ≡ tell_in told.old tell.now) }
+{
+    told.add(tell.place, tell.part.summary().share()?)
+}
+
+/// What is told with what is not added yet, beside it. What is told is shared.
+pub(crate) fn told_with(alloc: Global, told: &Told, untold: &[Tell]) -> Result<Told, AllocError>
+    requires { AreWithin (length told.now) untold.now }
+    ensures { IfOk result (λ t. t ≡ with_tells told.now untold.now) }
+{
+    let mut whole = told.copy(alloc)?;
+    for tell in untold {
+        add_tell(&mut whole, tell)?;
+    }
+    Ok(whole)
+}
+
+/// Pushes what is told into a list that has room for it.
+pub(crate) fn push_tell(untold: &mut Vec<Tell>, tell: Tell)
+    requires { length untold.old.items < vec_capacity untold.old }
+    ensures items { untold.new.items ≡ untold.old.items ++ tell ∷ [] }
+    ensures room { vec_capacity untold.old ≤ vec_capacity untold.new }
+{
+    match untold.push(tell) {
+        Ok(()) => {}
+        // There is room for it.
+        Err(_) => unreachable!(),
+    }
+}

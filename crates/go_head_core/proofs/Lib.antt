@@ -1,0 +1,5 @@
+pub mod Alike
+pub mod Staying
+pub mod Texts
+pub mod Marking
+pub mod RowByRow

@@ -1,0 +1,2 @@
+-- Definitions that follow the code step by step, for its proof.
+pub mod Marking

@@ -1,0 +1,82 @@
+//! Which packages of a workspace are those of an earlier one.
+ghost use Rattle.std.specs.Prelude.{◌≡◌, ◌↔◌, IfOk, IsTrue, None, Some, slice_get};
+ghost use Rattle.go_graph_core.specs.Workspaces.{AreAllRead, IsWorkspace};
+ghost use Rattle.go_head_core.specs.Heads.{AreSameMarks, HaveSameHeads, head_of};
+ghost use Rattle.go_head_core.specs.mirrors.Marking.{IsHeadOf, IsMarkOf};
+
+use crate::heads::is_same_package_head;
+use go_graph_core::{PackageSource, Workspace};
+use std::alloc::{AllocError, Global};
+
+/// What a workspace has of an earlier one.
+#[derive(Drop)]
+pub struct Compared {
+    /// Of each package, by its number, whether it is the package of that number in the earlier one.
+    pub same: Vec<bool>,
+    /// Where it is set, all paths and all heads of files are those of the earlier one, number by number.
+    pub heads: bool,
+}
+
+// Whether two packages are the same, and whether their paths and heads are known to be.
+fn compare_one(one: &PackageSource, other: &PackageSource) -> (bool, bool)
+    requires own { AreAllRead one.now }
+    requires other { AreAllRead other.now }
+    ensures same { IsTrue result.0 ↔ (one.now ≡ other.now) }
+    ensures head { IsTrue result.1 → head_of one.now ≡ head_of other.now }
+{
+    if one.is_same(other) {
+        return (true, true);
+    }
+    (false, is_same_package_head(one, other))
+}
+
+// The same of the package of a number and another one, where there may be none of that number.
+fn compare_at(packages: &[PackageSource], number: usize, other: &PackageSource) -> (bool, bool)
+    requires own { IsWorkspace packages.now }
+    requires other { AreAllRead other.now }
+    ensures same { IsMarkOf packages.now number other.now result.0 }
+    ensures head { IsHeadOf packages.now number other.now result.1 }
+{
+    match packages.get(number) {
+        Some(package) => compare_one(package, other),
+        None => (false, false),
+    }
+}
+
+// What the packages of a list have of an earlier one.
+fn compare_all(
+    alloc: Global,
+    packages: &[PackageSource],
+    others: &[PackageSource],
+) -> Result<Compared, AllocError>
+    requires own { IsWorkspace packages.now }
+    requires other { IsWorkspace others.now }
+    ensures same { IfOk result (λ c. AreSameMarks packages.now others.now c.same.items) }
+    ensures heads { IfOk result (λ c. IsTrue c.heads → HaveSameHeads packages.now others.now) }
+{
+    let mut same = Vec::with_capacity(alloc, others.len())?;
+    let mut heads = packages.len() == others.len();
+    for number in 0..others.len() {
+        let (mark, head) = compare_at(packages, number, &others[number]);
+        same.push(mark)?;
+        heads = heads && head;
+    }
+    Ok(Compared { same, heads })
+}
+
+/// What a workspace has of an earlier one: which packages are the same, by their numbers; and whether all paths are, the names in the clauses of all files,
+/// and the texts of their imports, in order. Imports that are spelled in another way count as others. The time is linear in the two.
+///
+/// # Errors
+///
+/// `AllocError` where memory is wanting.
+pub fn compare(
+    alloc: Global,
+    earlier: &Workspace,
+    current: &Workspace,
+) -> Result<Compared, AllocError>
+    ensures same { IfOk result (λ c. AreSameMarks earlier.now current.now c.same.items) }
+    ensures heads { IfOk result (λ c. IsTrue c.heads → HaveSameHeads earlier.now current.now) }
+{
+    compare_all(alloc, earlier.packages(), current.packages())
+}

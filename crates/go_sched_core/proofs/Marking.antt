@@ -1,0 +1,123 @@
+-- What the core keeps beside its state, as actions are handed out and finished, and batches are published.
+use Rattle.std.proofs.Common.{◌≡◌, ℕ, Bool, true, false, true≢false, List, [], set, Option, Some, None, refl, sym, ap, ◌∙◌, subst}
+use Rattle.std.specs.Prelude.{IfSome, slice_get}
+use Rattle.go_batch_core.specs.graph_core.Workspaces.{PackageModel}
+use Rattle.go_batch_core.specs.part_core.Inputs.{InputModel, path_in}
+use Rattle.go_batch_core.specs.part_core.Parts.{PartModel}
+use Rattle.go_submit_core.proofs.Lists.{fold_push}
+use Rattle.go_submit_core.specs.Published.{IsEarlierPart, IsPartIn, batch_of, last_of, sources_of}
+use Rattle.go_submit_core.specs.Submitted.{submitted}
+use Rattle.go_submit_core.specs.declared.published.PublishedBatch.{PublishedBatch}
+use Rattle.go_batch_core.specs.Batches.{Awaits, BatchModel, IsBegun, IsNext, batch_with, with_part}
+use Rattle.go_batch_core.specs.Planning.{IsPlanned}
+use Rattle.go_batch_core.specs.Steadiness.{IsSteady, StaysAt, SteadyModel, WasAt}
+use Rattle.go_batch_core.specs.declared.planned.Planned.{Planned}
+use Rattle.go_batch_core.specs.declared.slot.Slot.{Slot}
+use Rattle.go_batch_core.specs.declared.slot.Slot.TheVariants.{Taken}
+use Rattle.go_batch_core.proofs.Steadied.{steady_begun, steady_finished, steady_handed}
+use Rattle.go_sched_core.specs.Service.{Service}
+use Rattle.go_sched_core.specs.Steps.{IsFormed, with_batch}
+use Rattle.go_sched_core.specs.declared.change.Hand.{Hand}
+use Rattle.go_sched_core.specs.declared.running.Running.{Running}
+use Rattle.go_sched_core.specs.mirrors.Beside.{BeginsBeside, BeginsOf, IsKeptEnd, IsMove, IsMoveOf, IsPlannedFor, IsSteadyBeside, IsSteadyOf, SteadyRuns, finished, handed}
+use Rattle.go_sched_core.specs.mirrors.Fitting.{ArePublished, IsHand}
+use Rattle.go_sched_core.specs.mirrors.Kept.{RunsOn}
+use Rattle.go_sched_core.proofs.Lists.{some_same}
+
+handed_of : (o : Option PublishedBatch) (b : BatchModel) (st : Option SteadyModel) (place number : ℕ) (i : InputModel) (kept : Bool) → IsSteadyOf o b st → (kept ≡ true → (p : PartModel) × (pb : PublishedBatch) × (o ≡ Some pb) × WasAt pb.snapshot.parts place p × (p.input ≡ i))
+    → IsSteadyOf o (batch_with b.sources (set b.slots place (Taken number i)) b.parts) (handed st place kept)
+handed_of o b None place number i kept is known = tt
+handed_of None b (Some m) place number i kept is known = absurd is
+handed_of (Some pb) b (Some m) place number i kept is known =
+    steady_handed pb.snapshot b m place number i kept is
+    (λ said.
+    let k = known said in
+    let same : k.1 ≡ pb = (let both : Some pb ≡ Some k.1 = k.2 in cc) in
+    (k.0, subst (λ (x : PublishedBatch). WasAt x.snapshot.parts place k.0) same k.3, k.4))
+
+-- an action is handed out
+pub runs_handed : (bs : List PublishedBatch) (b : BatchModel) (st : Option SteadyModel) (place number : ℕ) (i : InputModel) (kept : Bool) → IsSteadyOf (last_of bs) b st → (kept ≡ true → (p : PartModel) × (pb : PublishedBatch) × (last_of bs ≡ Some pb) × WasAt pb.snapshot.parts place p × (p.input ≡ i))
+    → IsSteadyOf (last_of bs) (batch_with b.sources (set b.slots place (Taken number i)) b.parts) (handed st place kept)
+runs_handed bs b st place number i kept is known = handed_of (last_of bs) b st place number i kept is known
+
+finished_of : (o : Option PublishedBatch) (b : BatchModel) (st : Option SteadyModel) (place : ℕ) (part : PartModel) (moved : Bool) (slot : Slot) → IsSteadyOf o b st → slice_get b.slots place ≡ Some slot → IsMoveOf o place part moved → IsSteadyOf o (with_part b place part) (finished st place moved)
+finished_of o b None place part moved slot is there moves = tt
+finished_of None b (Some m) place part moved slot is there moves = absurd is
+finished_of (Some pb) b (Some m) place part moved slot is there moves = steady_finished pb.snapshot b m place part moved slot is there moves
+
+-- an action is finished
+pub runs_finished : (bs : List PublishedBatch) (b : BatchModel) (st : Option SteadyModel) (place : ℕ) (part : PartModel) (moved : Bool) (slot : Slot) → IsSteadyOf (last_of bs) b st → slice_get b.slots place ≡ Some slot → IsMoveOf (last_of bs) place part moved → IsSteadyOf (last_of bs) (with_part b place part) (finished st place moved)
+runs_finished bs b st place part moved slot is there moves = finished_of (last_of bs) b st place part moved slot is there moves
+
+begun_of : (o : Option PublishedBatch) (ps : List PackageModel) (b : BatchModel) (st : Option SteadyModel) → BeginsOf o ps st → IsBegun ps b → IsSteadyOf o b st
+begun_of o ps b None begins begun = tt
+begun_of None ps b (Some m) begins begun = absurd begins
+begun_of (Some p) ps b (Some m) begins begun = steady_begun p.snapshot ps b m begins begun
+
+-- the marks of a batch that is formed
+pub steady_formed : (bs : List PublishedBatch) (ps : List PackageModel) (b : BatchModel) (st : Option SteadyModel) → BeginsBeside bs ps st → IsBegun ps b → IsSteadyBeside bs b st
+steady_formed bs ps b st begins begun = begun_of (last_of bs) ps b st begins begun
+
+-- marks and a snapshot that are there
+pub steady_there : (bs : List PublishedBatch) (b : BatchModel) (st : Option SteadyModel) (m : SteadyModel) (last : PublishedBatch) → IsSteadyBeside bs b st → st ≡ Some m → last_of bs ≡ Some last → IsSteady last.snapshot b m
+steady_there bs b st m last is same there = subst (λ (o : Option PublishedBatch). IsSteadyOf o b (Some m)) there (subst (λ (x : Option SteadyModel). IsSteadyBeside bs b x) same is)
+
+-- the same of the batch that runs
+pub steady_running : (bs : List PublishedBatch) (o : Option Running) (r : Running) (st : Option SteadyModel) (m : SteadyModel) (last : PublishedBatch) → SteadyRuns bs o st → o ≡ Some r → st ≡ Some m → last_of bs ≡ Some last → IsSteady last.snapshot r.batch m
+steady_running bs o r st m last is running same there = steady_there bs r.batch st m last (subst (λ (x : Option Running). SteadyRuns bs x st) running is) same there
+
+-- the plan of a snapshot's packages
+pub planned_there : (bs : List PublishedBatch) (o : Option Planned) (p : Planned) (ps : List PackageModel) → IsPlannedFor bs o → o ≡ Some p → ps ≡ sources_of bs → IsPlanned ps p.plan p.reached
+planned_there bs o p ps is there same = subst (λ (qs : List PackageModel). IsPlanned qs p.plan p.reached) (sym same) (subst (λ (x : Option Planned). IsPlannedFor bs x) there is)
+
+-- an action with the input of its earlier part
+pub kept_hand : (bs : List PublishedBatch) (last : PublishedBatch) (b : BatchModel) (h : Hand) (place : ℕ) (p : PartModel) → last_of bs ≡ Some last → StaysAt last.snapshot b place p → IsNext b h.next → h.next.place ≡ place → h.next.input ≡ p.input → h.earlier ≡ Some p → IsHand bs b h
+kept_hand bs last b h place p there stays next here input earlier = record {
+  next = next;
+  earlier = subst (λ (o : Option PartModel). IsEarlierPart bs (path_in h.next.input) o) (sym earlier) (subst (λ (i : InputModel). IsEarlierPart bs (path_in i) (Some p)) (sym input) (subst (λ (o : Option PublishedBatch). IsPartIn o (path_in p.input) (Some p)) (sym there) stays.of_path));
+  kept = λ said. (p, earlier, sym input, (last, there, subst (λ (n : ℕ). WasAt last.snapshot.parts n p) (sym here) stays.was));
+}
+
+-- the end of an action by its earlier part
+pub kept_end : (bs : List PublishedBatch) (last : PublishedBatch) (b : BatchModel) (place number : ℕ) (p : PartModel) → last_of bs ≡ Some last → WasAt last.snapshot.parts place p → Awaits b place number p → IsKeptEnd bs b place number p
+kept_end bs last b place number p there was awaits = (awaits, subst (λ (o : Option PublishedBatch). IsMoveOf o place p false) (sym there) (λ unmoved. record { of_part = p; there = was; is = refl }))
+
+-- an action with an input that is made
+pub new_hand : (bs : List PublishedBatch) (b : BatchModel) (h : Hand) → IsNext b h.next → IsEarlierPart bs (path_in h.next.input) h.earlier → h.kept ≡ false → IsHand bs b h
+new_hand bs b h next earlier made = record { next = next; earlier = earlier; kept = λ said. absurd (true≢false (sym said ∙ made)) }
+
+-- what is published is what the batch compiled
+pub published_sources : (before bs : List PublishedBatch) (r : Running) (b : BatchModel) → RunsOn before (Some r) → ArePublished before (with_batch r b) bs → sources_of bs ≡ r.batch.sources
+published_sources before bs r b runs is = ap sources_of is.pushed ∙ fold_push (λ w (x : PublishedBatch). submitted w x.submissions) [] before (batch_of r.submissions is.snapshot) ∙ sym runs
+
+planned_here : (bs : List PublishedBatch) (running : Option Running) (r : Running) (o : Option Planned) → IfSome o (λ p. (q : Running) × (running ≡ Some q) × IsPlanned q.batch.sources p.plan p.reached) → running ≡ Some r → sources_of bs ≡ r.batch.sources → IsPlannedFor bs o
+planned_here bs running r None h is same = tt
+planned_here bs running r (Some p) h is same =
+    let one : h.0 ≡ r = some_same running h.0 r h.1 is in
+    subst (λ (ps : List PackageModel). IsPlanned ps p.plan p.reached) (ap (λ (x : Running). x.batch.sources) one ∙ sym same) h.2
+
+-- the batch that runs is published, and its plan is kept
+pub planned_after : (bs : List PublishedBatch) (running : Option Running) (o : Option Planned) → IfSome o (λ p. (q : Running) × (running ≡ Some q) × IsPlanned q.batch.sources p.plan p.reached) → ((r : Running) × (running ≡ Some r) × (sources_of bs ≡ r.batch.sources)) → IsPlannedFor bs o
+planned_after bs running o h is = planned_here bs running is.0 o h is.1 is.2
+
+-- the same batch with other slots and parts
+pub runs_with : (bs : List PublishedBatch) (o : Option Running) (r : Running) (slots : List Slot) (parts : List (Option PartModel)) → RunsOn bs o → o ≡ Some r → RunsOn bs (Some (with_batch r (batch_with r.batch.sources slots parts)))
+runs_with bs o r slots parts runs is = subst (RunsOn bs) is runs
+
+-- a batch that is formed
+pub runs_formed : (s : Service) (r : Running) → IsFormed s r → RunsOn s.published (Some r)
+runs_formed s r formed = formed.begun.sources ∙ ap (submitted (sources_of s.published)) (sym formed.submissions)
+
+hand_known : (bs : List PublishedBatch) (b : BatchModel) (h : Hand) → IsHand bs b h → h.kept ≡ true → (p : PartModel) × (pb : PublishedBatch) × (last_of bs ≡ Some pb) × WasAt pb.snapshot.parts h.next.place p × (p.input ≡ h.next.awaited)
+hand_known bs b h hand said =
+    let k = hand.kept said in
+    (k.0, k.3.0, k.3.1, k.3.2, k.2 ∙ sym hand.next.awaited)
+
+-- what is marked where an action is handed out
+pub steady_hand : (bs : List PublishedBatch) (b : BatchModel) (st : Option SteadyModel) (h : Hand) (number : ℕ) → IsSteadyBeside bs b st → IsHand bs b h
+    → IsSteadyBeside bs (batch_with b.sources (set b.slots h.next.place (Taken number h.next.awaited)) b.parts) (handed st h.next.place h.kept)
+steady_hand bs b st h number is hand = runs_handed bs b st h.next.place number h.next.awaited h.kept is (hand_known bs b h hand)
+
+-- what is marked where one is finished
+pub steady_end : (bs : List PublishedBatch) (o : Option Running) (r : Running) (st : Option SteadyModel) (place : ℕ) (part : PartModel) (moved : Bool) (number : ℕ) → SteadyRuns bs o st → o ≡ Some r → Awaits r.batch place number part → IsMove bs place part moved → SteadyRuns bs (Some (with_batch r (with_part r.batch place part))) (finished st place moved)
+steady_end bs o r st place part moved number is running awaits moves = runs_finished bs r.batch st place part moved (Taken number part.input) (subst (λ (x : Option Running). SteadyRuns bs x st) running is) awaits moves
