@@ -1,5 +1,6 @@
 #!/usr/bin/env python3
-"""Compares what `govisd run` prints of generated programs, and how they end, with the binaries that `go build` makes of them. The same programs each time."""
+"""Compares what `govisd run` prints of generated programs, how they end, and what they panic with, with the binaries that `go build` makes of them. The same
+programs each time."""
 import argparse
 import os
 import re
@@ -12,9 +13,11 @@ from runs_programs import program
 MOST_SHOWN = 10
 # What the end of a program is, by the status of `govisd run`.
 ENDED, PANICKED, SPENT = 0, 2, 3
-# The end of a program by Go that divides by zero.
-DIVIDED = "divided by zero"
-PANIC = re.compile(rb"(?m)^panic: |^goroutine \d|^\[signal ")
+# What a program panics with that divides by zero.
+DIVIDED = b"runtime error: integer divide by zero"
+PANIC = re.compile(rb"(?m)^panic: (.*)$")
+# A value of a declared type: Go names the type, govisd the value alone.
+TYPED = re.compile(rb"[\w.]+\((-?\w+)\)")
 
 
 def write(folder, files):
@@ -28,37 +31,37 @@ def write(folder, files):
 
 def run_by_govisd(govisd, folder, steps):
     ran = subprocess.run([govisd, "run", folder, "--module", "run", "--steps", str(steps)], stdin=subprocess.DEVNULL, stdout=subprocess.PIPE, stderr=subprocess.PIPE)
-    return ran.returncode, ran.stdout, ran.stderr
+    found = re.fullmatch(rb"panic: (.*)\n", ran.stderr)
+    return ran.returncode, ran.stdout, found[1] if found else ran.stderr
 
 
 def run_by_go(go, folder, seconds):
-    """The output and the end; None where it does not end in time."""
+    """The end, the output, and what it panicked with, if it did."""
     binary = os.path.abspath(os.path.join(folder, "..", "binary"))
     built = subprocess.run([go, "build", "-o", binary, "."], cwd=folder, stdin=subprocess.DEVNULL, stdout=subprocess.PIPE, stderr=subprocess.STDOUT)
     if built.returncode != 0:
-        return "not built", built.stdout
+        return "not built", built.stdout, b""
     try:
         ran = subprocess.run([binary], stdin=subprocess.DEVNULL, stdout=subprocess.PIPE, stderr=subprocess.PIPE, timeout=seconds)
     except subprocess.TimeoutExpired as late:
-        return "late", late.stderr or b""
+        return "late", late.stderr or b"", b""
     found = PANIC.search(ran.stderr)
-    if ran.returncode == 2 and found:
-        end = DIVIDED if b"integer divide by zero" in ran.stderr[found.start() :] else PANICKED
-        return end, ran.stderr[: found.start()]
-    return ran.returncode, ran.stderr
+    if ran.returncode == PANICKED and found:
+        typed = TYPED.fullmatch(found[1])
+        return PANICKED, ran.stderr[: found.start()], typed[1] if typed else found[1]
+    return ran.returncode, ran.stderr, b""
 
 
 def verdict(own, other):
     """What of two runs of a program agrees: its end, or None where they differ."""
-    (status, output, _), (end, wanted) = own, other
+    (status, output, value), (end, wanted, wanted_value) = own, other
     if status == SPENT:
-        return "steps done" if end in (ENDED, PANICKED, DIVIDED, "late") and wanted.startswith(output) else None
-    if end == DIVIDED and status == PANICKED and output != wanted:
+        return "steps done" if end in (ENDED, PANICKED, "late") and wanted.startswith(output) else None
+    if status in (ENDED, PANICKED) and own == other:
+        return {ENDED: "ended", PANICKED: "panicked"}[status]
+    if status == end == PANICKED and DIVIDED in (value, wanted_value):
         # Whether a division comes before a call beside it is left open by the specification.
         return "divided before or behind a call" if wanted.startswith(output) or output.startswith(wanted) else None
-    end = PANICKED if end == DIVIDED else end
-    if status in (ENDED, PANICKED) and (status, output) == (end, wanted):
-        return {ENDED: "ended", PANICKED: "panicked"}[status]
     return None
 
 
@@ -93,7 +96,7 @@ def main():
             shutil.copytree(folder, os.path.join(words.folder, f"differs{number}"))
             shown += 1
             if shown <= MOST_SHOWN:
-                print(f"program {number}: govisd {own[0]}, Go {other[0]}: {own[2][:200]!r} {own[1][-80:]!r} {other[1][-200:]!r}")
+                print(f"program {number}: govisd {own[0]}, Go {other[0]}: {own[2][:200]!r} {other[2][:200]!r} {own[1][-80:]!r} {other[1][-200:]!r}")
     print(", ".join(f"{said} {count}" for said, count in sorted(counts.items())))
     sys.exit(1 if counts.get("differ") else 0)
 

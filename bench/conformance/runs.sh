@@ -1,5 +1,5 @@
 #!/bin/sh
-# Compares what `govisd run` prints of generated programs, and how they end, with the binaries that `go build` makes of them.
+# Compares what `govisd run` prints of generated programs, how they end, and what they panic with, with the binaries that `go build` makes of them.
 #
 #     bench/conformance/runs.sh                 the program crates/govisd/out/govisd
 #     GOVISD=FILE bench/conformance/runs.sh     another program

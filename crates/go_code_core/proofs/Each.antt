@@ -11,6 +11,7 @@ use Rattle.go_tree_nodes.specs.declared.names.Ident.{Ident}
 use Rattle.go_tree_nodes.specs.declared.decls.ValueKind.{ValueKind}
 use Rattle.go_tree_nodes.specs.declared.decls.ValueKind.TheVariants as value_kinds
 use Rattle.go_tree_nodes.specs.Trees.{Separated, One, Then, ExprTree, ItemTrees, Integer, Text, Named, Paren, Unary, Binary, Select, Call, Literal, StructLiteral, NoItems, Item, ValueSpecTree, Specs, Single, Group, SimpleTree, Alone, Step, Assign, Update, Define, StmtTree, Empty, Declare, Simple, Return, Break, Continue, Block, If, For, BranchTree, Branch, NoElse, ElseBlock, ElseIf, Lines, NoLines, Line, FuncTree}
+use Rattle.go_fragment_core.specs.instruction_core.declared.letters.Word.{Word}
 use Rattle.go_fragment_core.specs.instruction_core.declared.instruction.Distance.TheVariants as distances
 use Rattle.go_fragment_core.specs.instruction_core.declared.instruction.Instruction.{Instruction}
 use Rattle.go_fragment_core.specs.instruction_core.declared.instruction.Instruction.TheVariants as instructions
@@ -21,7 +22,7 @@ use Rattle.go_fragment_core.specs.declared.names.Meaning.{Meaning}
 use Rattle.go_fragment_core.specs.declared.names.Meaning.TheVariants as meanings
 use Rattle.go_fragment_core.specs.declared.targets.Target.{Target}
 use Rattle.go_fragment_core.specs.declared.targets.Target.TheVariants as targets
-use Rattle.go_code_core.specs.Code.{Exits, before, binary_code, body_code, branch_code, call_end, code_of, constant_or, declared_code, dropped, expr_code, frame_in, head_init, head_post, head_test, in_loop, init_code, initial_code, items_code, jump, lines_code, load, loop_code, name_code, no_exits, one_code, receiver_code, returned_code, simple_code, some_simple_code, stmt_code, store, stored, test_code, updated, value_lines_code, value_spec_code, value_specs_code}
+use Rattle.go_code_core.specs.Code.{Exits, before, binary_code, body_code, branch_code, call_end, code_of, constant_or, declared_code, dropped, expr_code, frame_in, head_init, head_post, head_test, in_loop, init_code, initial_code, items_code, jump, letters, lines_code, load, loop_code, name_code, no_exits, one_code, panic_end, receiver_code, returned_code, simple_code, some_simple_code, stmt_code, store, stored, test_code, updated, value_lines_code, value_spec_code, value_specs_code}
 use Rattle.go_fragment_core.specs.Constants.{folded}
 use Rattle.go_fragment_core.specs.Fragment.{expr_gives, means_method}
 use Rattle.go_fragment_core.specs.Inside.{in_fragment}
@@ -340,12 +341,16 @@ name_fine f meanings.Println = tt
 name_fine f meanings.Panic = tt
 name_fine f meanings.Other = tt
 
+panic_fine : (f : Frame) (ws : List Word) → Fine f (panic_end ws)
+panic_fine f [] = tt
+panic_fine f (w ∷ ws) = (tt, tt)
+
 end_fine : (f : Frame) (m : Meaning) (offset : ℕ) (items : ItemTrees) → Fine f (call_end f m (f.looks.reference offset) items)
 end_fine f (meanings.Function g) offset items = ((offset, refl), tt)
 end_fine f (meanings.Method g) offset items = ((offset, refl), tt)
 end_fine f (meanings.«Type» w) offset items = tt
 end_fine f meanings.Println offset items = (tt, tt)
-end_fine f meanings.Panic offset items = (tt, tt)
+end_fine f meanings.Panic offset items = panic_fine f (letters f items)
 end_fine f (meanings.Variable at w) offset items = tt
 end_fine f (meanings.Constant v) offset items = tt
 end_fine f meanings.Other offset items = tt

@@ -8,6 +8,7 @@ use Rattle.go_tree_nodes.specs.declared.names.Ident.{Ident}
 use Rattle.go_tree_nodes.specs.declared.decls.ValueKind.{ValueKind}
 use Rattle.go_tree_nodes.specs.declared.decls.ValueKind.TheVariants as value_kinds
 use Rattle.go_tree_nodes.specs.Trees.{Separated, One, Then, ExprTree, ItemTrees, Integer, Text, Named, Paren, Unary, Binary, Select, Call, Literal, StructLiteral, NoItems, Item, ValueSpecTree, Specs, Single, Group, SimpleTree, Alone, Step, Assign, Update, Define, StmtTree, Empty, Declare, Simple, Return, Break, Continue, Block, If, For, BranchTree, Branch, NoElse, ElseBlock, ElseIf, Lines, NoLines, Line, FuncTree}
+use Rattle.go_fragment_core.specs.instruction_core.declared.letters.Word.{Word}
 use Rattle.go_fragment_core.specs.instruction_core.declared.instruction.Distance.TheVariants as distances
 use Rattle.go_fragment_core.specs.instruction_core.declared.instruction.Instruction.{Instruction}
 use Rattle.go_fragment_core.specs.instruction_core.declared.instruction.Instruction.TheVariants as instructions
@@ -18,7 +19,7 @@ use Rattle.go_fragment_core.specs.declared.names.Meaning.{Meaning}
 use Rattle.go_fragment_core.specs.declared.names.Meaning.TheVariants as meanings
 use Rattle.go_fragment_core.specs.declared.targets.Target.{Target}
 use Rattle.go_fragment_core.specs.declared.targets.Target.TheVariants as targets
-use Rattle.go_code_core.specs.Code.{Exits, before, binary_code, body_code, branch_code, call_end, constant_or, declared_code, dropped, expr_code, frame_in, head_init, head_post, head_test, in_loop, init_code, initial_code, items_code, jump, lines_code, load, loop_code, name_code, no_exits, one_code, receiver_code, returned_code, simple_code, some_simple_code, stmt_code, store, stored, test_code, updated, value_lines_code, value_spec_code, value_specs_code}
+use Rattle.go_code_core.specs.Code.{Exits, before, binary_code, body_code, branch_code, call_end, constant_or, declared_code, dropped, expr_code, frame_in, head_init, head_post, head_test, in_loop, init_code, initial_code, items_code, jump, letters, lines_code, load, loop_code, name_code, no_exits, one_code, panic_end, receiver_code, returned_code, simple_code, some_simple_code, stmt_code, store, stored, test_code, updated, value_lines_code, value_spec_code, value_specs_code}
 use Rattle.go_fragment_core.specs.Constants.{folded}
 use Rattle.go_fragment_core.specs.Fragment.{expr_gives, means_method}
 use Rattle.go_fragment_core.specs.Inside.{in_fragment}
@@ -55,7 +56,7 @@ leads a b c d instructions.Ge p q h = tt
 leads a b c d (instructions.Call r n) p q h = tt
 leads a b c d (instructions.Return gives) p q h = tt
 leads a b c d (instructions.Println ws) p q h = tt
-leads a b c d instructions.Panic p q h = tt
+leads a b c d (instructions.Panic w) p q h = tt
 leads a b c d instructions.Outside p q h = tt
 
 wider : (a b c d : ℕ) (code : List Instruction) → a ≤ c → b ≤ d → Inside a b code → Inside c d code
@@ -259,12 +260,16 @@ name_closed slots meanings.Println = tt
 name_closed slots meanings.Panic = tt
 name_closed slots meanings.Other = tt
 
+panic_closed : (ws : List Word) → Inside 0 0 (panic_end ws)
+panic_closed [] = tt
+panic_closed (w ∷ ws) = (tt, tt)
+
 end_closed : (f : Frame) (m : Meaning) (r : ℕ) (items : ItemTrees) → Inside 0 0 (call_end f m r items)
 end_closed f (meanings.Function g) r items = (tt, tt)
 end_closed f (meanings.Method g) r items = (tt, tt)
 end_closed f (meanings.«Type» w) r items = tt
 end_closed f meanings.Println r items = (tt, tt)
-end_closed f meanings.Panic r items = (tt, tt)
+end_closed f meanings.Panic r items = panic_closed (letters f items)
 end_closed f (meanings.Variable at w) r items = tt
 end_closed f (meanings.Constant v) r items = tt
 end_closed f meanings.Other r items = tt

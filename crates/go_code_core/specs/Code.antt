@@ -68,13 +68,18 @@ abbrev pub letters : Frame → ItemTrees → List Word
 letters f NoItems = []
 letters f (Item key e comma rest) = letter (expr_gives f e) ++ letters f rest
 
+-- what stands behind the arguments of `panic`, which there is one of, by what it is over
+abbrev pub panic_end : List Word → List Instruction
+panic_end [] = []
+panic_end (w ∷ ws) = instructions.Panic w ∷ []
+
 -- what stands behind the receiver and the arguments of a call
 abbrev pub call_end : Frame → Meaning → ℕ → ItemTrees → List Instruction
 call_end f (meanings.Function g) reference items = instructions.Call reference (item_count items) ∷ []
 call_end f (meanings.Method g) reference items = instructions.Call reference (suc (item_count items)) ∷ []
 call_end f (meanings.«Type» w) reference items = []
 call_end f meanings.Println reference items = instructions.Println (letters f items) ∷ []
-call_end f meanings.Panic reference items = instructions.Panic ∷ []
+call_end f meanings.Panic reference items = panic_end (letters f items)
 call_end f (meanings.Variable at w) reference items = []
 call_end f (meanings.Constant v) reference items = []
 call_end f meanings.Other reference items = []

@@ -1,13 +1,13 @@
 //! The code of expressions.
 ghost use Rattle.std.specs.Prelude.{◌≡◌, ◌++◌, IfOk, OnOk};
 ghost use Rattle.go_tree_nodes.specs.Shapes.{shape, shape_call, items_of};
-ghost use Rattle.go_code_core.specs.Code.{binary_code, call_end, expr_code, items_code, letters, name_code, push, receiver_code, word_value};
+ghost use Rattle.go_code_core.specs.Code.{binary_code, call_end, expr_code, items_code, letters, name_code, panic_end, push, receiver_code, word_value};
 ghost use Rattle.go_fragment_core.specs.Names.{frame_of};
 ghost use Rattle.go_code_core.specs.mirrors.Written.{applied};
 
 use crate::code::Code;
 use go_fragment_core::constant_core::{Constant, natural};
-use go_fragment_core::instruction_core::{Distance, Instruction, Letters};
+use go_fragment_core::instruction_core::{Distance, Instruction, Letters, Word};
 use go_fragment_core::{
     CodeNames, ConstantWord, Frame, Gives, Meaning, binary_instruction, called, expr_gives, folded,
     is_method, slot_of, unary_instruction,
@@ -61,6 +61,16 @@ fn letters<N: CodeNames>(frame: &Frame<'_, N>, items: &Vec<Item>) -> Result<Lett
     Ok(letters)
 }
 
+// What stands behind the arguments of `panic`, which there is one of, by what it is over.
+fn end_panic(code: &mut Code, letters: &[Word]) -> Result<(), AllocError>
+    ensures { OnOk result (code.new ≡ panic_end letters.now ++ code.old) }
+{
+    match letters {
+        [] => Ok(()),
+        [letter, ..] => code.put(Instruction::Panic(*letter)),
+    }
+}
+
 // What stands behind the receiver and the arguments of a call.
 fn end_call<N: CodeNames>(
     code: &mut Code,
@@ -84,7 +94,10 @@ fn end_call<N: CodeNames>(
             let letters = letters(frame, items)?;
             code.put(Instruction::Println(letters))
         }
-        Meaning::Panic => code.put(Instruction::Panic),
+        Meaning::Panic => {
+            let letters = letters(frame, items)?;
+            end_panic(code, letters.words())
+        }
         Meaning::Type(_) | Meaning::Variable(_, _) | Meaning::Constant(_) | Meaning::Other => Ok(
             (),
         ),

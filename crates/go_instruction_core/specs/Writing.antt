@@ -31,7 +31,7 @@ abbrev pub result_text : Bool → List ℕ
 result_text true = codes "1"
 result_text false = codes "0"
 
--- the name of the operation, and behind it what it is about
+-- the name of the operation, and behind it what it is about; of `Panic` the name alone
 abbrev pub instruction_text : Instruction → List ℕ
 instruction_text (instructions.Push k) = codes "Push " ++ signed_decimal k
 instruction_text (instructions.Load s) = codes "Load " ++ decimal s
@@ -55,5 +55,5 @@ instruction_text (instructions.JumpFalse n) = codes "JumpFalse " ++ decimal n
 instruction_text (instructions.Call reference arguments) = codes "Call " ++ decimal reference ++ codes " " ++ decimal arguments
 instruction_text (instructions.Return result) = codes "Return " ++ result_text result
 instruction_text (instructions.Println ws) = codes "Println " ++ letters_text ws
-instruction_text instructions.Panic = codes "Panic"
+instruction_text (instructions.Panic w) = codes "Panic"
 instruction_text instructions.Outside = codes "Outside"

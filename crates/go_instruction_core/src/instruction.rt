@@ -56,8 +56,8 @@ pub enum Instruction {
     Return(bool),
     /// Pops a word for each letter and prints them in order, with spaces between them and a newline behind.
     Println(Letters),
-    /// Pops a word and panics.
-    Panic,
+    /// Pops a word, which holds this, and panics with it.
+    Panic(Word),
     /// All the code of a function that no code is made of.
     Outside,
 }

@@ -3,5 +3,5 @@
 
 mod launch;
 
-pub use go_run_core::Run;
+pub use go_run_core::{PanicValue, Run};
 pub use launch::{SitePlaces, run};

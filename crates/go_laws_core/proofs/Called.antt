@@ -18,6 +18,7 @@ use Rattle.go_tree_core.specs.declared.occurrence.Occ.{Occ}
 use Rattle.go_tree_core.specs.declared.occurrence.Role.TheVariants as roles
 use Rattle.go_tree_core.specs.Names.{take_branch, take_each, take_for, take_group, take_init, take_lines, take_simple, take_some, take_specs, take_stmt, take_value_spec, take_values}
 use Rattle.go_tree_core.specs.Occurrences.{call_at, inside_context, occurrence, under, whole_usage, key_occs, expr_occs, items_occs, exprs_occs, some_expr_occs, some_exprs_occs, some_type_occs, values_occs, value_spec_occs, group_occs, specs_occs, simple_occs, some_simple_occs, init_occs, for_occs, stmt_occs, branch_occs, lines_occs}
+use Rattle.go_instruction_core.specs.declared.letters.Word.{Word}
 use Rattle.go_instruction_core.specs.declared.instruction.Distance.TheVariants as distances
 use Rattle.go_instruction_core.specs.declared.instruction.Instruction.{Instruction}
 use Rattle.go_instruction_core.specs.declared.instruction.Instruction.TheVariants as instructions
@@ -33,7 +34,7 @@ use Rattle.go_fragment_core.specs.Fragment.{expr_gives, means_method}
 use Rattle.go_fragment_core.specs.Inside.{in_fragment}
 use Rattle.go_fragment_core.specs.Names.{Frame, CodeLooks, slot_of, callee_meaning, slot_assigned, declared_slot}
 use Rattle.go_fragment_core.specs.Operators.{some_instruction, binary_instruction, step_operator, unary_instruction, update_operator}
-use Rattle.go_code_core.specs.Code.{Exits, before, binary_code, body_code, branch_code, call_end, constant_or, push, declared_code, dropped, expr_code, frame_in, head_init, head_post, head_test, in_loop, init_code, initial_code, items_code, jump, lines_code, load, loop_code, name_code, no_exits, one_code, receiver_code, returned_code, simple_code, some_simple_code, stmt_code, store, stored, test_code, updated, value_lines_code, value_spec_code, value_specs_code}
+use Rattle.go_code_core.specs.Code.{Exits, before, binary_code, body_code, branch_code, call_end, constant_or, push, declared_code, dropped, expr_code, frame_in, head_init, head_post, head_test, in_loop, init_code, initial_code, items_code, jump, letters, lines_code, load, loop_code, name_code, no_exits, one_code, panic_end, receiver_code, returned_code, simple_code, some_simple_code, stmt_code, store, stored, test_code, updated, value_lines_code, value_spec_code, value_specs_code}
 use Rattle.go_code_core.proofs.Each.{Each, each_append, each_there}
 use Rattle.go_laws_core.specs.Calls.{CallSite, HasWords, expr_sites, items_sites, site, sites}
 use Rattle.go_laws_core.specs.CodeLaws.{CallsAreOfTheBody, IsOfCall}
@@ -208,6 +209,10 @@ name_quiet : (slots : List (Option ℕ)) (m : Meaning) → call_nothing (name_co
 name_quiet slots (meanings.Variable at w) = load_quiet (slot_of slots at)
 name_quiet slots _ = refl
 
+panic_quiet : (ws : List Word) → call_nothing (panic_end ws) ≡ true
+panic_quiet [] = refl
+panic_quiet (w ∷ ws) = refl
+
 end_called : (f : Frame) (m : Meaning) (e : ExprTree) → callee_meaning f.looks e ≡ m → (first : Span) (os : Held) (items : ItemTrees) → Contains os.occs (call_at first) → Contains os.sites (site e first items)
     → AllCalled f.looks os (call_end f m (f.looks.reference first.start) items)
 end_called f (meanings.Function g) e is first os items at there = (one, tt)
@@ -224,6 +229,7 @@ end_called f (meanings.Method g) e is first os items at there = (one, tt)
         let place : f.looks.reference first.start ≡ r = cc in
         let words : suc (item_count items) ≡ n = cc in
         (site e first items, at, there, record { place = sym place; handed = subst (λ x. HasWords x (item_count items) n) (sym is) (sym words) })
+end_called f meanings.Panic e is first os items at there = quiet f.looks os (call_end f meanings.Panic (f.looks.reference first.start) items) (panic_quiet (letters f items))
 end_called f m e is first os items at there = quiet f.looks os (call_end f m (f.looks.reference first.start) items) refl
 
 chosen : (looks : CodeLooks) (os : Held) (b : Bool) (x : List Instruction) → AllCalled looks os x → AllCalled looks os (if b then x else [])

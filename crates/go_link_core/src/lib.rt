@@ -17,7 +17,7 @@ pub use places::{Place, Places};
 
 /// What the crates above name of `go_machine_core`.
 pub mod machine_core {
-    pub use go_machine_core::{End, Ran, execute, spent_means_all_steps};
+    pub use go_machine_core::{End, PanicValue, Ran, execute, spent_means_all_steps};
 }
 
 /// What the crates above name of `go_object_core`.

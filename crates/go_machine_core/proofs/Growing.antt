@@ -19,7 +19,7 @@ Begins a b = (more : List ℕ) × (b ≡ a ++ more)
 abbrev pub IsNotSpent : Machine → Type 0
 IsNotSpent (At f callers out) = Unit {0}
 IsNotSpent (Over (Ended out)) = Unit {0}
-IsNotSpent (Over (Panicked out)) = Unit {0}
+IsNotSpent (Over (Panicked value out)) = Unit {0}
 IsNotSpent (Over (Spent out)) = ⊥
 IsNotSpent (Over (Stuck out)) = Unit {0}
 
@@ -85,7 +85,7 @@ act_grows program (Some (instructions.Call r n)) f callers out = some_grows out 
 act_grows program (Some (instructions.Return false)) f callers out = left_grows callers [] out
 act_grows program (Some (instructions.Return true)) f callers out = one_grows out f.stack _ (λ v rest. left_grows callers (v ∷ []) out)
 act_grows program (Some (instructions.Println ws)) f callers out = some_grows out (popped (length ws) [] f.stack) _ (λ taken. some_grows out (line_text ws taken.0) _ (λ line. ((line, refl), tt)))
-act_grows program (Some instructions.Panic) f callers out = one_grows out f.stack _ (λ v rest. here out)
+act_grows program (Some (instructions.Panic w)) f callers out = one_grows out f.stack _ (λ v rest. here out)
 act_grows program (Some instructions.Outside) f callers out = here out
 
 step_follows : (program : List LinkedOf) (f : Frame) (callers : List Frame) (out : List ℕ) → Follows out (step program f callers out)
@@ -106,7 +106,7 @@ module _ (program : List LinkedOf) where
 
   abbrev pub IsOver : Run → Type 0
   IsOver (Ended out) = Unit {0}
-  IsOver (Panicked out) = Unit {0}
+  IsOver (Panicked value out) = Unit {0}
   IsOver (Spent out) = ⊥
   IsOver (Stuck out) = Unit {0}
 
@@ -119,7 +119,7 @@ module _ (program : List LinkedOf) where
 
   goes : (run later : Run) → (IsOver run → later ≡ run) → Begins (printed run) (printed later) → Goes run later
   goes (Ended out) later same more = same tt
-  goes (Panicked out) later same more = same tt
+  goes (Panicked value out) later same more = same tt
   goes (Spent out) later same more = more
   goes (Stuck out) later same more = same tt
 
@@ -137,7 +137,7 @@ module _ (program : List LinkedOf) where
 
   pub spent : (n : ℕ) (c : Machine) (out : List ℕ) → IsNotSpent c → run_from program n c ≡ Spent out → IsAt (steps_on program n c) out
   spent n (Over (Ended o)) out fine e = cc
-  spent n (Over (Panicked o)) out fine e = cc
+  spent n (Over (Panicked value o)) out fine e = cc
   spent n (Over (Spent o)) out fine e = absurd fine
   spent n (Over (Stuck o)) out fine e = cc
   spent zero (At f callers o) out fine e =

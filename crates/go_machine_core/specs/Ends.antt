@@ -7,7 +7,7 @@ use Rattle.go_machine_core.specs.Machine.{Run, Ended, Panicked, Spent, Stuck}
 
 abbrev pub run_of : End → List ℕ → Run
 run_of ends.Ended out = Ended out
-run_of ends.Panicked out = Panicked out
+run_of (ends.Panicked value) out = Panicked value out
 run_of ends.Spent out = Spent out
 run_of ends.Stuck out = Stuck out
 

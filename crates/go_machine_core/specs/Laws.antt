@@ -23,7 +23,7 @@ SpentMeansAllSteps =
 -- what a run printed
 abbrev pub printed : Run → List ℕ
 printed (Ended out) = out
-printed (Panicked out) = out
+printed (Panicked value out) = out
 printed (Spent out) = out
 printed (Stuck out) = out
 

@@ -4,6 +4,10 @@ use Rattle.go_instruction_core.specs.declared.instruction.Distance.{Distance}
 use Rattle.go_instruction_core.specs.declared.instruction.Distance.TheVariants as distances
 use Rattle.go_instruction_core.specs.declared.instruction.Instruction.{Instruction}
 use Rattle.go_instruction_core.specs.declared.instruction.Instruction.TheVariants as instructions
+use Rattle.go_instruction_core.specs.declared.letters.Word.{Word}
+use Rattle.go_instruction_core.specs.declared.letters.Word.TheVariants as words
+use Rattle.go_machine_core.specs.declared.state.PanicValue.{PanicValue}
+use Rattle.go_machine_core.specs.declared.state.PanicValue.TheVariants as panics
 use Rattle.go_machine_core.specs.Programs.{LinkedOf, callee}
 use Rattle.go_machine_core.specs.Words.{is_true, negated, inverted, sum, difference, product, quotient, remainder, equal, differs, less, at_most, greater, at_least, line_text}
 
@@ -14,10 +18,10 @@ pub record Frame : Type 0 where
   pub stack : List ℤ
   pub slots : List ℤ
 
--- how a run ended, or that it spent its steps, and what was printed; `Stuck` where an instruction lacks what it asks for
+-- how a run ended, or that it spent its steps, and what was printed; what it panicked with; `Stuck` where an instruction lacks what it asks for
 pub data Run : Type 0 where
   Ended : (output : List ℕ) → Run
-  Panicked : (output : List ℕ) → Run
+  Panicked : (value : PanicValue) (output : List ℕ) → Run
   Spent : (output : List ℕ) → Run
   Stuck : (output : List ℕ) → Run
 
@@ -39,9 +43,9 @@ abbrev pub on_one : List ℤ → List ℕ → (ℤ → List ℤ → Machine) →
 on_one [] out go = Over (Stuck out)
 on_one (x ∷ stack) out go = go x stack
 
--- the result of an operator, unless it panics
+-- the result of an operator: the one that has none is a division by 0, which panics
 abbrev pub resulting : Option ℤ → List ℕ → (ℤ → Machine) → Machine
-resulting None out go = Over (Panicked out)
+resulting None out go = Over (Panicked panics.DivideByZero out)
 resulting (Some v) out go = go v
 
 abbrev pub on_two : (ℤ → ℤ → Option ℤ) → List ℤ → Frame → List Frame → List ℕ → Machine
@@ -84,6 +88,11 @@ begun g arguments = record { function = g; place = 0; stack = []; slots = first_
 abbrev pub entered : List LinkedOf → ℕ → List ℤ → List Frame → List ℕ → Machine
 entered program number arguments callers out = stuck_unless (slice_get program number) out (λ g. At (begun g arguments) callers out)
 
+-- what a panic is with whose word holds this
+abbrev pub panic_value : Word → ℤ → PanicValue
+panic_value words.Int x = panics.Int x
+panic_value words.Bool x = panics.Bool (is_true x)
+
 -- one instruction: none where the place is outside the code
 abbrev pub act : List LinkedOf → Option Instruction → Frame → List Frame → List ℕ → Machine
 act program None f callers out = Over (Stuck out)
@@ -116,7 +125,7 @@ act program (Some (instructions.Return true)) f callers out = on_one f.stack out
 act program (Some (instructions.Println ws)) f callers out =
     stuck_unless (popped (length ws) [] f.stack) out (λ taken.
     stuck_unless (line_text ws taken.0) out (λ line. onward f taken.1 callers (out ++ line)))
-act program (Some instructions.Panic) f callers out = on_one f.stack out (λ v stack. Over (Panicked out))
+act program (Some (instructions.Panic w)) f callers out = on_one f.stack out (λ v stack. Over (Panicked (panic_value w v) out))
 act program (Some instructions.Outside) f callers out = Over (Stuck out)
 
 abbrev pub step : List LinkedOf → Frame → List Frame → List ℕ → Machine

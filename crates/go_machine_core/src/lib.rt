@@ -19,7 +19,7 @@ pub use execution::{Ran, execute};
 pub use frame::Frame;
 pub use laws::{budgets_agree, spent_means_all_steps, truths_are_bits};
 pub use linked::Linked;
-pub use state::End;
+pub use state::{End, PanicValue};
 
 /// What the crates above name of `go_instruction_core`.
 pub mod instruction_core {

@@ -3,12 +3,12 @@ ghost use Rattle.std.specs.Prelude.{◌≡◌, ◌<◌, ℕ, List, [], ◌∷◌
 ghost use Rattle.go_instruction_core.specs.declared.instruction.Instruction.TheVariants as instructions;
 ghost use Rattle.go_machine_core.specs.declared.linked.Linked.{Linked};
 ghost use Rattle.go_machine_core.specs.Programs.{linked_shown};
-ghost use Rattle.go_machine_core.specs.Machine.{on_one, on_two, onward, left, entered, step, run_from};
+ghost use Rattle.go_machine_core.specs.Machine.{on_one, on_two, onward, left, entered, step, run_from, panic_value};
 ghost use Rattle.go_machine_core.specs.mirrors.Shown.{operation, numbered, after, from_state, acted};
 
 use crate::frame::begin;
 use crate::linked::{Linked, callee_of};
-use crate::state::{End, State};
+use crate::state::{End, PanicValue, State};
 use crate::text::write_line;
 use crate::words::{Operation, holds, invert, negate, operate};
 use go_instruction_core::{Distance, Instruction, Word};
@@ -63,13 +63,23 @@ fn drop_word(state: &mut State) -> Result<Option<End>, AllocError>
     Ok(None)
 }
 
-fn panic(state: &mut State) -> Result<Option<End>, AllocError>
-    ensures { (p : List Linked) → IfOk result (λ end. after p end state.new ≡ acted p instructions.Panic state.old) }
+// What a word is that holds this.
+fn panic_value(letter: Word, word: i64) -> PanicValue
+    ensures { result ≡ panic_value letter word }
 {
-    let Some(_word) = state.frame.stack.pop() else {
+    match letter {
+        Word::Int => PanicValue::Int(word),
+        Word::Bool => PanicValue::Bool(holds(word)),
+    }
+}
+
+fn panic(state: &mut State, letter: Word) -> Result<Option<End>, AllocError>
+    ensures { (p : List Linked) → IfOk result (λ end. after p end state.new ≡ acted p (instructions.Panic letter) state.old) }
+{
+    let Some(word) = state.frame.stack.pop() else {
         return Ok(Some(End::Stuck));
     };
-    Ok(Some(End::Panicked))
+    Ok(Some(End::Panicked(panic_value(letter, word))))
 }
 
 fn negate_word(state: &mut State) -> Result<Option<End>, AllocError>
@@ -107,7 +117,7 @@ fn binary(state: &mut State, operator: Operation) -> Result<Option<End>, AllocEr
         return Ok(Some(End::Stuck));
     };
     let Some(word) = operate(operator, lower, upper) else {
-        return Ok(Some(End::Panicked));
+        return Ok(Some(End::Panicked(PanicValue::DivideByZero)));
     };
     state.frame.stack.push(word)?;
     state.frame.place += 1;
@@ -267,7 +277,7 @@ fn apply(
         } => call(alloc, program, state, *reference, *arguments),
         Instruction::Return(result) => leave_by(state, *result),
         Instruction::Println(letters) => println(state, letters.words()),
-        Instruction::Panic => panic(state),
+        Instruction::Panic(letter) => panic(state, *letter),
         Instruction::Outside => Ok(Some(End::Stuck)),
     }
 }

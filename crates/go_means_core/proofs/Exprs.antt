@@ -4,9 +4,11 @@ use Rattle.std.specs.Prelude.{slice_get}
 use Rattle.go_machine_core.specs.instruction_core.declared.instruction.Distance.TheVariants as distances
 use Rattle.go_machine_core.specs.instruction_core.declared.instruction.Instruction.{Instruction}
 use Rattle.go_machine_core.specs.instruction_core.declared.instruction.Instruction.TheVariants as instructions
+use Rattle.go_machine_core.specs.instruction_core.declared.letters.Word.{Word}
+use Rattle.go_machine_core.specs.instruction_core.declared.letters.Word.TheVariants as words
 use Rattle.go_machine_core.specs.Programs.{LinkedOf}
 use Rattle.go_machine_core.specs.Words.{bit, line_text}
-use Rattle.go_means_core.specs.Values.{Value, Truth, Applied, Yields, Panics, Undefined, unary_applied, binary_applied, line_printed}
+use Rattle.go_means_core.specs.Values.{Value, Number, Truth, Applied, Yields, Panics, Undefined, unary_applied, binary_applied, panicked_with, line_printed}
 use Rattle.go_machine_core.specs.Machine.{Frame, Machine, act, stuck_unless, chosen, left, entered}
 use Rattle.go_means_core.specs.Meaning.{Outcome, Done, Nonsense, and_then, with_one, with_truth, if_some, if_yields, Variables, value_of, Calls, gives_one, second_truth, constant_value, constant_else, name_value, and_value, or_value, binary_meaning, fitting, called, call_meaning, Scene, scene_of, expr_meaning, receiver_meaning, items_meaning}
 use Rattle.go_means_core.specs.Meaning.{Panicked, Unfinished}
@@ -27,7 +29,7 @@ use Rattle.go_code_core.specs.fragment_core.Constants.{folded}
 use Rattle.go_code_core.specs.fragment_core.Fragment.{means_method}
 use Rattle.go_code_core.specs.fragment_core.Names.{slot_of, callee_meaning}
 use Rattle.go_code_core.specs.fragment_core.Operators.{unary_instruction, binary_instruction, some_instruction}
-use Rattle.go_code_core.specs.Code.{word_value, push, constant_or, load, name_code, binary_code, letters, call_end, expr_code, receiver_code, items_code, frame_in}
+use Rattle.go_code_core.specs.Code.{word_value, push, constant_or, load, name_code, binary_code, letters, panic_end, call_end, expr_code, receiver_code, items_code, frame_in}
 use Rattle.go_means_core.specs.Meaning.{SourceOf}
 use Rattle.go_means_core.specs.Whole.{linked_source}
 use Rattle.go_machine_core.specs.Programs.{callee_in}
@@ -88,7 +90,7 @@ items_count c (Item key e comma rest) values out =
 
 then_runs_where : {A B : Type 0} (program : List LinkedOf) (at : A → List ℕ → Machine) (at' : B → List ℕ → Machine) (b : ℕ) (c : Machine) (P : A → Type 0) (o : Outcome A) (go : A → List ℕ → Outcome B) → Runs program at b c o → Every P o → ((a : A) (out : List ℕ) → P a → Runs program at' b (at a out) (go a out)) → Runs program at' b c (and_then o go)
 then_runs_where program at at' b c P (Done a out) go r q k = after program at' b c (at a out) (go a out) r (k a out q)
-then_runs_where program at at' b c P (Panicked out) go r q k = r
+then_runs_where program at at' b c P (Panicked value out) go r q k = r
 then_runs_where program at at' b c P (Unfinished out) go r q k = r
 then_runs_where program at at' b c P Nonsense go r q k = tt
 
@@ -273,6 +275,18 @@ module _ (program : List LinkedOf) (s : SourceOf) (calls : Calls) (callers : Lis
       (ap (λ o. stuck_unless o out (λ taken. stuck_unless (line_text (letters (frame_in s.looks s.tree) items) taken.0) out (λ line. here (linked_source s) callers (p + 1) taken.1 slots (out ++ line)))) (pops vs stack _ r.many)
       ∙ ap (λ o. stuck_unless o out (λ line. here (linked_source s) callers (p + 1) stack slots (out ++ line))) r.is)
 
+  -- `panic` of one value
+  panic_runs : (ws : List Word) (vs : List Value) (p p' : ℕ) (stack slots : List ℤ) (out : List ℕ) → HasAt (linked_source s).code p (panic_end ws) → Runs program (gave (linked_source s) callers p' stack slots) b (gave (linked_source s) callers p stack slots vs out) (if_some (panicked_with ws vs) (λ value. Panicked value out))
+  panic_runs [] vs p p' stack slots out has = tt
+  panic_runs (w ∷ []) [] p p' stack slots out has = tt
+  panic_runs (words.Int ∷ []) (Number x ∷ []) p p' stack slots out has = leads_comes program _ _ (step_to program (linked_source s) callers p (x ∷ stack) slots out (instructions.Panic words.Int) _ has.0 refl)
+  panic_runs (words.Int ∷ []) (Truth t ∷ []) p p' stack slots out has = tt
+  panic_runs (words.Bool ∷ []) (Number x ∷ []) p p' stack slots out has = tt
+  panic_runs (words.Bool ∷ []) (Truth true ∷ []) p p' stack slots out has = leads_comes program _ _ (step_to program (linked_source s) callers p (bit true ∷ stack) slots out (instructions.Panic words.Bool) _ has.0 refl)
+  panic_runs (words.Bool ∷ []) (Truth false ∷ []) p p' stack slots out has = leads_comes program _ _ (step_to program (linked_source s) callers p (bit false ∷ stack) slots out (instructions.Panic words.Bool) _ has.0 refl)
+  panic_runs (w ∷ []) (v ∷ u ∷ vs) p p' stack slots out has = tt
+  panic_runs (w ∷ x ∷ ws) vs p p' stack slots out has = tt
+
   end_runs : (m : Meaning) (reference : ℕ) (items : ItemTrees) (vs : List Value) (p p' : ℕ) (stack slots : List ℤ) (out : List ℕ) → HasAt (linked_source s).code p (call_end (frame_in s.looks s.tree) m reference items) → p + length (call_end (frame_in s.looks s.tree) m reference items) ≡ p' → length vs ≡ receivers m + item_count items → Runs program (gave (linked_source s) callers p' stack slots) b (gave (linked_source s) callers p stack slots vs out) (call_meaning calls (frame_in s.looks s.tree) m (callee_in (slice_get s.callees reference)) items vs out)
   end_runs (meanings.Function r) reference items vs p p' stack slots out has e many = called_runs reference (item_count items) (callee_in (slice_get s.callees reference)) r vs p p' stack slots out has e (omega (arith, many)) refl
   end_runs (meanings.Method r) reference items vs p p' stack slots out has e many = called_runs reference (suc (item_count items)) (callee_in (slice_get s.callees reference)) r vs p p' stack slots out has e (omega (arith, many)) refl
@@ -280,8 +294,7 @@ module _ (program : List LinkedOf) (s : SourceOf) (calls : Calls) (callers : Lis
       let ends : p ≡ p' = omega arith in
       one_runs program (linked_source s) callers (gave (linked_source s) callers p' stack slots) b p stack slots vs out _ (λ v. moved program (linked_source s) callers p p' (word v ∷ stack) slots out ends)
   end_runs meanings.Println reference items vs p p' stack slots out has e many = println_runs items (line_printed (letters (frame_in s.looks s.tree) items) vs) vs p p' stack slots out has e refl
-  end_runs meanings.Panic reference items vs p p' stack slots out has e many =
-      one_runs program (linked_source s) callers (gave (linked_source s) callers p' stack slots) b p stack slots vs out _ (λ v. leads_comes program _ _ (step_to program (linked_source s) callers p (word v ∷ stack) slots out instructions.Panic _ has.0 refl))
+  end_runs meanings.Panic reference items vs p p' stack slots out has e many = panic_runs (letters (frame_in s.looks s.tree) items) vs p p' stack slots out has
   end_runs (meanings.Variable at w) reference items vs p p' stack slots out has e many = tt
   end_runs (meanings.Constant v) reference items vs p p' stack slots out has e many = tt
   end_runs meanings.Other reference items vs p p' stack slots out has e many = tt

@@ -20,7 +20,7 @@ pub record Leads (program : List LinkedOf) (c c' : Machine) : Type 0 where
 -- the same output
 abbrev pub Runs : {A : Type 0} → List LinkedOf → (A → List ℕ → Machine) → ℕ → Machine → Outcome A → Type 0
 Runs program at b c (Done a out) = Comes program c (at a out)
-Runs program at b c (Panicked out) = Comes program c (Over (PanickedRun out))
+Runs program at b c (Panicked value out) = Comes program c (Over (PanickedRun value out))
 Runs program at b c (Unfinished out) = (j : ℕ) × (b ≤ j) × (run_from program j c ≡ Spent out)
 Runs program at b c Nonsense = Unit {0}
 
@@ -103,25 +103,25 @@ module _ (program : List LinkedOf) where
 
   pub after : {A : Type 0} (at : A → List ℕ → Machine) (b : ℕ) (c c1 : Machine) (o : Outcome A) → Comes program c c1 → Runs program at b c1 o → Runs program at b c o
   after at b c c1 (Done a out) l r = comes_on c c1 (at a out) l r
-  after at b c c1 (Panicked out) l r = comes_on c c1 (Over (PanickedRun out)) l r
+  after at b c c1 (Panicked value out) l r = comes_on c c1 (Over (PanickedRun value out)) l r
   after at b c c1 (Unfinished out) l r = let a = l.by r.0 in (a.0, omega (arith, a.1, r.1), a.2 ∙ r.2)
   after at b c c1 Nonsense l r = tt
 
   pub after_step : {A : Type 0} (at : A → List ℕ → Machine) (b : ℕ) (c c1 : Machine) (o : Outcome A) → Leads program c c1 → Runs program at b c1 o → Runs program at (suc b) c o
   after_step at b c c1 (Done a out) l r = comes_on c c1 (at a out) (leads_comes c c1 l) r
-  after_step at b c c1 (Panicked out) l r = comes_on c c1 (Over (PanickedRun out)) (leads_comes c c1 l) r
+  after_step at b c c1 (Panicked value out) l r = comes_on c c1 (Over (PanickedRun value out)) (leads_comes c c1 l) r
   after_step at b c c1 (Unfinished out) l r = let a = l.by r.0 in (a.0, omega (arith, a.1, r.1), a.2 ∙ r.2)
   after_step at b c c1 Nonsense l r = tt
 
   pub fewer : {A : Type 0} (at : A → List ℕ → Machine) (m n : ℕ) (c : Machine) (o : Outcome A) → m ≤ n → Runs program at n c o → Runs program at m c o
   fewer at m n c (Done a out) le r = r
-  fewer at m n c (Panicked out) le r = r
+  fewer at m n c (Panicked value out) le r = r
   fewer at m n c (Unfinished out) le r = (r.0, omega (arith, le, r.1), r.2)
   fewer at m n c Nonsense le r = tt
 
   pub then_runs : {A B : Type 0} (at : A → List ℕ → Machine) (at' : B → List ℕ → Machine) (b : ℕ) (c : Machine) (o : Outcome A) (go : A → List ℕ → Outcome B) → Runs program at b c o → ((a : A) (out : List ℕ) → Runs program at' b (at a out) (go a out)) → Runs program at' b c (and_then o go)
   then_runs at at' b c (Done a out) go r k = after at' b c (at a out) (go a out) r (k a out)
-  then_runs at at' b c (Panicked out) go r k = r
+  then_runs at at' b c (Panicked value out) go r k = r
   then_runs at at' b c (Unfinished out) go r k = r
   then_runs at at' b c Nonsense go r k = tt
 

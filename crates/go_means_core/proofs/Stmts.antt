@@ -23,7 +23,7 @@ module _ (program : List LinkedOf) (g : LinkedOf) (callers : List Frame) (b : â„
   falls_to p p' pb pc stack c (Done (Breaks values) out) r k = r
   falls_to p p' pb pc stack c (Done (Continues values) out) r k = r
   falls_to p p' pb pc stack c (Done (Returns vs) out) r k = r
-  falls_to p p' pb pc stack c (Panicked out) r k = r
+  falls_to p p' pb pc stack c (Panicked value out) r k = r
   falls_to p p' pb pc stack c (Unfinished out) r k = r
   falls_to p p' pb pc stack c Nonsense r k = tt
 

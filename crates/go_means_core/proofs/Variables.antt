@@ -135,13 +135,13 @@ line_is (w ∷ ws) (v ∷ vs) t e = front_is w ws v vs (value_text w v) (more_pr
 -- what is so of the value of what is done
 abbrev pub Every : {A : Type 0} → (A → Type 0) → Outcome A → Type 0
 Every P (Done a out) = P a
-Every P (Panicked out) = Unit {0}
+Every P (Panicked value out) = Unit {0}
 Every P (Unfinished out) = Unit {0}
 Every P Nonsense = Unit {0}
 
 pub every_then : {A B : Type 0} (Q : A → Type 0) (P : B → Type 0) (o : Outcome A) (go : A → List ℕ → Outcome B) → Every Q o → ((a : A) (out : List ℕ) → Q a → Every P (go a out)) → Every P (and_then o go)
 every_then Q P (Done a out) go q k = k a out q
-every_then Q P (Panicked out) go q k = tt
+every_then Q P (Panicked value out) go q k = tt
 every_then Q P (Unfinished out) go q k = tt
 every_then Q P Nonsense go q k = tt
 
@@ -149,6 +149,6 @@ pub every_one : {B : Type 0} (P : B → Type 0) (o : Outcome (List Value)) (go :
 every_one P (Done [] out) go k = tt
 every_one P (Done (v ∷ []) out) go k = k v out
 every_one P (Done (v ∷ w ∷ vs) out) go k = tt
-every_one P (Panicked out) go k = tt
+every_one P (Panicked value out) go k = tt
 every_one P (Unfinished out) go k = tt
 every_one P Nonsense go k = tt

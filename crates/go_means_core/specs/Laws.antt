@@ -1,5 +1,6 @@
 -- The law of stack code.
 use Rattle.std.specs.Prelude.{◌≡◌, ◌≢◌, ℕ, ◌≤◌, List, ◌++◌, Some}
+use Rattle.go_machine_core.specs.declared.state.PanicValue.{PanicValue}
 use Rattle.go_machine_core.specs.Machine.{Frame, Ended, Panicked as PanickedRun, Spent, Stuck, all_begun, machine}
 use Rattle.go_means_core.specs.Meaning.{Outcome, Done, Panicked, Unfinished, Nonsense, SourceOf}
 use Rattle.go_means_core.specs.Whole.{code_of_program, meaning}
@@ -11,7 +12,7 @@ Begins out text = (more : List ℕ) × (text ≡ out ++ more)
 -- what an outcome printed
 abbrev pub Prints : Outcome (Unit {0}) → List ℕ → Type 0
 Prints (Done a out) text = out ≡ text
-Prints (Panicked out) text = out ≡ text
+Prints (Panicked value out) text = out ≡ text
 Prints (Unfinished out) text = out ≡ text
 Prints Nonsense text = ⊥
 
@@ -25,8 +26,8 @@ pub record HasMeaning (program : List SourceOf) (starts : List ℕ) : Type 0 whe
 pub record DoesWhatItMeans (program : List SourceOf) (starts : List ℕ) : Type 0 where
   pub ends : (n : ℕ) (out : List ℕ) → meaning program starts n ≡ Done tt out → (m : ℕ) × (machine (code_of_program program) starts m ≡ Ended out)
   pub ends_only : (m : ℕ) (out : List ℕ) → machine (code_of_program program) starts m ≡ Ended out → (n : ℕ) × (meaning program starts n ≡ Done tt out)
-  pub panics : (n : ℕ) (out : List ℕ) → meaning program starts n ≡ Panicked out → (m : ℕ) × (machine (code_of_program program) starts m ≡ PanickedRun out)
-  pub panics_only : (m : ℕ) (out : List ℕ) → machine (code_of_program program) starts m ≡ PanickedRun out → (n : ℕ) × (meaning program starts n ≡ Panicked out)
+  pub panics : (n : ℕ) (value : PanicValue) (out : List ℕ) → meaning program starts n ≡ Panicked value out → (m : ℕ) × (machine (code_of_program program) starts m ≡ PanickedRun value out)
+  pub panics_only : (m : ℕ) (value : PanicValue) (out : List ℕ) → machine (code_of_program program) starts m ≡ PanickedRun value out → (n : ℕ) × (meaning program starts n ≡ Panicked value out)
   pub never_stuck : (m : ℕ) (out : List ℕ) → machine (code_of_program program) starts m ≢ Stuck out
   pub goes_on : (n : ℕ) (out : List ℕ) → meaning program starts n ≡ Unfinished out → (m : ℕ) × (n ≤ m) × (machine (code_of_program program) starts m ≡ Spent out)
   pub goes_on_only : (m : ℕ) (out : List ℕ) → machine (code_of_program program) starts m ≡ Spent out → (n : ℕ) × (text : List ℕ) × Prints (meaning program starts n) text × Begins out text

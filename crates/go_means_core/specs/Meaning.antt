@@ -23,19 +23,21 @@ use Rattle.go_code_core.specs.fragment_core.Fragment.{expr_gives, means_method, 
 use Rattle.go_code_core.specs.fragment_core.Names.{CodeLooks, Frame, callee_meaning, frame_of}
 use Rattle.go_code_core.specs.fragment_core.Slots.{lines_slots, receiver_slots, signature_slots, slots_of}
 use Rattle.go_code_core.specs.Code.{head_init, head_post, head_test, letters}
+use Rattle.go_machine_core.specs.declared.state.PanicValue.{PanicValue}
+use Rattle.go_machine_core.specs.declared.state.PanicValue.TheVariants as panics
 use Rattle.go_machine_core.specs.Programs.{callee_in}
-use Rattle.go_means_core.specs.Values.{Value, Number, Truth, Applied, Yields, Panics, Undefined, unary_applied, binary_applied, step_binary, update_binary, line_printed}
+use Rattle.go_means_core.specs.Values.{Value, Number, Truth, Applied, Yields, Panics, Undefined, unary_applied, binary_applied, step_binary, update_binary, panicked_with, line_printed}
 
--- what something comes to that is done, with what was printed up to then: it is done; it panicked; a bound ran out; or it means nothing
+-- what something comes to that is done, with what was printed up to then: it is done; it panicked with a value; a bound ran out; or it means nothing
 pub data Outcome (A : Type 0) : Type 0 where
   Done : A → (out : List ℕ) → Outcome A
-  Panicked : (out : List ℕ) → Outcome A
+  Panicked : (value : PanicValue) (out : List ℕ) → Outcome A
   Unfinished : (out : List ℕ) → Outcome A
   Nonsense : Outcome A
 
 abbrev pub and_then : {A B : Type 0} → Outcome A → (A → List ℕ → Outcome B) → Outcome B
 and_then (Done a out) go = go a out
-and_then (Panicked out) go = Panicked out
+and_then (Panicked value out) go = Panicked value out
 and_then (Unfinished out) go = Unfinished out
 and_then Nonsense go = Nonsense
 
@@ -64,10 +66,10 @@ abbrev pub if_some : {A B : Type 0} → Option A → (A → Outcome B) → Outco
 if_some None go = Nonsense
 if_some (Some a) go = go a
 
--- what an operator gives, with what was printed up to then
+-- what an operator gives, with what was printed up to then: the one that panics is a division by 0
 abbrev pub if_yields : {A : Type 0} → Applied → List ℕ → (Value → Outcome A) → Outcome A
 if_yields (Yields v) out go = go v
-if_yields Panics out go = Panicked out
+if_yields Panics out go = Panicked panics.DivideByZero out
 if_yields Undefined out go = Nonsense
 
 -- the values of the variables of a function, in the order in which they are declared; none of one whose declaration is not done yet
@@ -150,7 +152,7 @@ call_meaning calls f (meanings.Function g) d items vs out = called calls d g vs 
 call_meaning calls f (meanings.Method g) d items vs out = called calls d g vs out
 call_meaning calls f (meanings.«Type» w) d items vs out = just_one vs (λ v. gives_one v out)
 call_meaning calls f meanings.Println d items vs out = if_some (line_printed (letters f items) vs) (λ line. Done [] (out ++ line))
-call_meaning calls f meanings.Panic d items vs out = just_one vs (λ v. Panicked out)
+call_meaning calls f meanings.Panic d items vs out = if_some (panicked_with (letters f items) vs) (λ value. Panicked value out)
 call_meaning calls f (meanings.Variable at w) d items vs out = Nonsense
 call_meaning calls f (meanings.Constant v) d items vs out = Nonsense
 call_meaning calls f meanings.Other d items vs out = Nonsense

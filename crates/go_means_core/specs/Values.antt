@@ -1,7 +1,7 @@
--- Values, what operators give of them, and how they are printed.
+-- Values, what operators give of them, what `panic` of them panics with, and how they are printed.
 --
 -- The Go specification, "Numeric types", "Boolean types", "Arithmetic operators", "Integer operators", "Integer overflow", "Comparison operators",
--- "Logical operators", "Bootstrapping".
+-- "Logical operators", "Handling panics", "Bootstrapping".
 use Rattle.std.specs.Prelude.{ℕ, Bool, true, false, not, List, [], ◌∷◌, ◌++◌, Option, Some, None, ℤ, codes, int_lt, int_le}
 use Rattle.std.specs.Fmt.{signed_decimal}
 use Rattle.std.specs.Ordering.{int_eq}
@@ -9,6 +9,8 @@ use Rattle.go_tree_nodes.specs.token_core.declared.kind.Operator.{Operator}
 use Rattle.go_tree_nodes.specs.token_core.declared.kind.Operator.TheVariants as operators
 use Rattle.go_machine_core.specs.instruction_core.declared.letters.Word.{Word}
 use Rattle.go_machine_core.specs.instruction_core.declared.letters.Word.TheVariants as words
+use Rattle.go_machine_core.specs.declared.state.PanicValue.{PanicValue}
+use Rattle.go_machine_core.specs.declared.state.PanicValue.TheVariants as panics
 use Rattle.go_machine_core.specs.Words.{negated, sum, difference, product, quotient, remainder}
 
 -- a value of a type over `int`, or over `bool`
@@ -83,6 +85,21 @@ update_binary operators.StarAssign = Some operators.Star
 update_binary operators.SlashAssign = Some operators.Slash
 update_binary operators.PercentAssign = Some operators.Percent
 update_binary _ = None
+
+-- what `panic` of a value of a type over this panics with: none if it is of another
+abbrev pub panic_value : Word → Value → Option PanicValue
+panic_value words.Int (Number x) = Some (panics.Int x)
+panic_value words.Bool (Truth b) = Some (panics.Bool b)
+panic_value words.Int (Truth b) = None
+panic_value words.Bool (Number x) = None
+
+-- `panic` of one value of a type over one of these
+abbrev pub panicked_with : List Word → List Value → Option PanicValue
+panicked_with [] vs = None
+panicked_with (w ∷ []) [] = None
+panicked_with (w ∷ []) (v ∷ []) = panic_value w v
+panicked_with (w ∷ []) (v ∷ u ∷ vs) = None
+panicked_with (w ∷ x ∷ ws) vs = None
 
 -- what is printed
 

@@ -4,7 +4,7 @@ ghost use Rattle.go_means_core.specs.Samples.{SampleMeans};
 
 use go_machine_core::budgets_agree;
 
-/// The code of a program does what its source means, wherever that means something: it ends with the same output, or panics with it, and is never
+/// The code of a program does what its source means, wherever that means something: it ends with the same output, or panics with the same value and output, and is never
 /// stuck; and where neither ends, what each printed is a beginning of what the other prints.
 pub fn meant_code_means_the_source()
     ensures { MeantCodeMeansTheSource }

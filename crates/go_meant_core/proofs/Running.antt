@@ -27,8 +27,8 @@ module _ (means : MeantCodeMeansTheSource) (one : AnswersAreOne) (p : ProgramOf)
       record {
         ends = λ n out e. let x = does.ends n out e in (x.0, gives x.0 _ x.1);
         ends_only = λ steps out g. does.ends_only steps out (given steps _ g);
-        panics = λ n out e. let x = does.panics n out e in (x.0, gives x.0 _ x.1);
-        panics_only = λ steps out g. does.panics_only steps out (given steps _ g);
+        panics = λ n value out e. let x = does.panics n value out e in (x.0, gives x.0 _ x.1);
+        panics_only = λ steps value out g. does.panics_only steps value out (given steps _ g);
         never_stuck = λ steps g. does.never_stuck steps g.2.0 (given steps _ (g.0, g.1, g.2.1));
         goes_on = λ n out e. let x = does.goes_on n out e in (x.0, x.1, gives x.0 _ x.2);
         goes_on_only = λ steps out g. does.goes_on_only steps out (given steps _ g);

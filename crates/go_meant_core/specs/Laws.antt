@@ -1,5 +1,6 @@
 -- The law of runs of sources.
 use Rattle.std.specs.Prelude.{◌≡◌, ℕ, ◌≤◌, List}
+use Rattle.go_means_core.specs.machine_core.declared.state.PanicValue.{PanicValue}
 use Rattle.go_means_core.specs.machine_core.Machine.{Ended, Panicked as PanickedRun, Spent}
 use Rattle.go_run_core.specs.link_core.Linked.{IsRunnable, ProgramOf, RunnableOf}
 use Rattle.go_run_core.specs.Runs.{GetsStuck, Gives}
@@ -17,8 +18,8 @@ pub record IsMeant (p : ProgramOf) (sources : List SourceOf) (r : RunnableOf) : 
 pub record RunsAsMeant (p : ProgramOf) (sources : List SourceOf) (starts : List ℕ) : Type 0 where
   pub ends : (n : ℕ) (out : List ℕ) → meaning sources starts n ≡ Done tt out → (steps : ℕ) × Gives p steps (Ended out)
   pub ends_only : (steps : ℕ) (out : List ℕ) → Gives p steps (Ended out) → (n : ℕ) × (meaning sources starts n ≡ Done tt out)
-  pub panics : (n : ℕ) (out : List ℕ) → meaning sources starts n ≡ Panicked out → (steps : ℕ) × Gives p steps (PanickedRun out)
-  pub panics_only : (steps : ℕ) (out : List ℕ) → Gives p steps (PanickedRun out) → (n : ℕ) × (meaning sources starts n ≡ Panicked out)
+  pub panics : (n : ℕ) (value : PanicValue) (out : List ℕ) → meaning sources starts n ≡ Panicked value out → (steps : ℕ) × Gives p steps (PanickedRun value out)
+  pub panics_only : (steps : ℕ) (value : PanicValue) (out : List ℕ) → Gives p steps (PanickedRun value out) → (n : ℕ) × (meaning sources starts n ≡ Panicked value out)
   pub never_stuck : (steps : ℕ) → GetsStuck p steps → ⊥
   pub goes_on : (n : ℕ) (out : List ℕ) → meaning sources starts n ≡ Unfinished out → (steps : ℕ) × (n ≤ steps) × Gives p steps (Spent out)
   pub goes_on_only : (steps : ℕ) (out : List ℕ) → Gives p steps (Spent out) → (n : ℕ) × (text : List ℕ) × Prints (meaning sources starts n) text × Begins out text

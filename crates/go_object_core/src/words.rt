@@ -106,7 +106,7 @@ pub(crate) fn add_instruction(
             text.push_str("Println ")?;
             add_letters(text, letters)
         }
-        Instruction::Panic => text.push_str("Panic"),
+        Instruction::Panic(_) => text.push_str("Panic"),
         Instruction::Outside => text.push_str("Outside"),
     }
 }

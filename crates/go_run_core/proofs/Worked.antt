@@ -59,6 +59,7 @@ samples_run = record {
   sum_spends = refl;
   zero_spends = refl;
   zero_panics = refl;
+  truth_panics = refl;
   test_ends = refl;
   test_spends = refl;
   begins = refl;

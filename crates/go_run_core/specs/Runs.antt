@@ -7,7 +7,7 @@ use Rattle.go_run_core.specs.declared.outcome.Run.TheVariants as runs
 
 abbrev pub run_shown : Run → MachineRun
 run_shown (runs.Ended output) = Ended (string_bytes output)
-run_shown (runs.Panicked output) = Panicked (string_bytes output)
+run_shown (runs.Panicked value output) = Panicked value (string_bytes output)
 run_shown (runs.Spent output) = Spent (string_bytes output)
 
 -- what functions come to in so many steps, from those that begin a program

@@ -5,6 +5,7 @@ use Rattle.go_link_core.specs.instruction_core.declared.instruction.Instruction.
 use Rattle.go_link_core.specs.instruction_core.declared.instruction.Instruction.TheVariants as instructions
 use Rattle.go_link_core.specs.instruction_core.declared.letters.Word.TheVariants as words
 use Rattle.go_link_core.specs.object_core.Objects.{FunctionOf, ObjectOf}
+use Rattle.go_link_core.specs.machine_core.declared.state.PanicValue.TheVariants as panics
 use Rattle.go_link_core.specs.machine_core.Machine.{Ended, Panicked, Spent, Run}
 use Rattle.go_link_core.specs.Functions.{PlaceModel}
 use Rattle.go_link_core.specs.Packages.{entry_in}
@@ -63,7 +64,11 @@ every =
     instructions.Println (words.Bool ∷ []) ∷ instructions.Jump (distances.Forward 1) ∷ instructions.Push (pos 9) ∷
     instructions.Push (pos 3) ∷ instructions.Push (pos 4) ∷ instructions.Add ∷ instructions.Drop ∷ instructions.Push (pos 20) ∷
     instructions.Push (pos 3) ∷ instructions.Call 0 2 ∷ instructions.Println (words.Int ∷ []) ∷ instructions.Load 0 ∷
-    instructions.JumpFalse 2 ∷ instructions.Push (pos 1) ∷ instructions.Panic ∷ instructions.Return false ∷ []
+    instructions.JumpFalse 2 ∷ instructions.Push (pos 1) ∷ instructions.Panic words.Int ∷ instructions.Return false ∷ []
+
+-- panic(x) of a truth
+abbrev pub with_truth : List Instruction
+with_truth = instructions.Push (pos 1) ∷ instructions.Panic words.Bool ∷ instructions.Return false ∷ []
 
 abbrev pub divides : List Instruction
 divides =
@@ -106,13 +111,14 @@ pub record SamplesRun : Type 0 where
   pub sum_ends : comes 0 sum_and_truth 4 ≡ Ended (codes "3 true\n")
   pub sum_spends : comes 0 sum_and_truth 3 ≡ Spent (codes "3 true\n")
   pub zero_spends : comes 1 by_zero 4 ≡ Spent []
-  pub zero_panics : comes 1 by_zero 5 ≡ Panicked []
+  pub zero_panics : comes 1 by_zero 5 ≡ Panicked panics.DivideByZero []
+  pub truth_panics : comes 0 with_truth 2 ≡ Panicked (panics.Bool true) []
   pub test_ends : comes 1 tested 9 ≡ Ended (codes "1\n")
   pub test_spends : comes 1 tested 8 ≡ Spent (codes "1\n")
   pub begins : entry_in (program (alone (codes "main") 0 [])).packages (program (alone (codes "main") 0 [])).main ≡ Some (record { root = 0; main = 0 })
   pub another_name : HasNoMain (program (alone (codes "a") 0 sum_and_truth))
   pub outside : IsBeyond (program (alone (codes "main") 0 (instructions.Outside ∷ [])))
-  pub every_panics : comes_to (record { functions = (program both).functions; starts = 0 ∷ [] }) 43 ≡ Panicked (codes "-2\nfalse\n6\n")
+  pub every_panics : comes_to (record { functions = (program both).functions; starts = 0 ∷ [] }) 43 ≡ Panicked (panics.Int (pos 1)) (codes "-2\nfalse\n6\n")
   pub every_spends : comes_to (record { functions = (program both).functions; starts = 0 ∷ [] }) 42 ≡ Spent (codes "-2\nfalse\n6\n")
   pub truncates : comes 0 truncated 11 ≡ Ended (codes "-3 -1 -9223372036854775808\n")
   -- b, c, a and m are initialised in this order, wherever their objects stand

@@ -7,6 +7,7 @@ mod laws;
 mod outcome;
 mod running;
 
+pub use go_link_core::machine_core::PanicValue;
 pub use go_link_core::{Place, Places};
 pub use laws::{answers_are_one, imports_come_first, samples_run, spent_does_all_steps};
 pub use outcome::Run;

@@ -19,7 +19,7 @@ fn told(ran: Ran) -> Option<Run>
 {
     match ran.end {
         End::Ended => Some(Run::Ended(ran.output)),
-        End::Panicked => Some(Run::Panicked(ran.output)),
+        End::Panicked(value) => Some(Run::Panicked(value, ran.output)),
         End::Spent => Some(Run::Spent(ran.output)),
         End::Stuck => None,
     }

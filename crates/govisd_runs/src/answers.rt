@@ -1,10 +1,10 @@
 //! What is answered of a run.
-ghost use Rattle.std.specs.Prelude.{◌≡◌, ◌++◌, IfOk, string_bytes};
+ghost use Rattle.std.specs.Prelude.{◌≡◌, ◌++◌, IfOk, OnOk, string_bytes};
 ghost use Rattle.govisd_folders.specs.Finds.{refused_line};
 ghost use Rattle.govisd_folders.specs.Notes.{refusal_line};
-ghost use Rattle.govisd_runs.specs.Outcomes.{HasRun, NothingRan, TellsRun};
+ghost use Rattle.govisd_runs.specs.Outcomes.{HasRun, NothingRan, TellsRun, panic_text, value_text};
 
-use go_launch_core::Run;
+use go_launch_core::{PanicValue, Run};
 use go_text_core::Rule;
 use govisd_folders::{CheckAnswer, name_or_quotes, note, note_rule};
 use std::alloc::{AllocError, Global};
@@ -68,6 +68,32 @@ fn has_run(alloc: Global, status: u8, output: String, said: &str) -> Result<Chec
     })
 }
 
+// Adds what a program panicked with, as Go's runtime names it.
+fn add_value(said: &mut String, value: PanicValue) -> Result<(), AllocError>
+    ensures { OnOk result (string_bytes said.new ≡ string_bytes said.old ++ value_text value) }
+{
+    match value {
+        PanicValue::DivideByZero => said.push_str("runtime error: integer divide by zero"),
+        PanicValue::Int(number) => write!(said, "{number}"),
+        PanicValue::Bool(true) => said.push_str("true"),
+        PanicValue::Bool(false) => said.push_str("false"),
+    }
+}
+
+// A program printed this and panicked.
+fn has_panicked(alloc: Global, value: PanicValue, output: String) -> Result<CheckAnswer, AllocError>
+    ensures { IfOk result (HasRun 2 (string_bytes output) (panic_text value)) }
+{
+    let mut said = String::from_str(alloc, "panic: ")?;
+    add_value(&mut said, value)?;
+    said.push_str("\n")?;
+    Ok(CheckAnswer {
+        status: 2,
+        text: output,
+        said,
+    })
+}
+
 /// What a run came to, with what it printed.
 ///
 /// # Errors
@@ -78,7 +104,7 @@ pub(crate) fn answer_of(alloc: Global, run: Run) -> Result<CheckAnswer, AllocErr
 {
     match run {
         Run::Ended(output) => has_run(alloc, 0, output, ""),
-        Run::Panicked(output) => has_run(alloc, 2, output, "govisd: panic\n"),
+        Run::Panicked(value, output) => has_panicked(alloc, value, output),
         Run::Spent(output) => has_run(
             alloc,
             3,

@@ -24,7 +24,7 @@ abbrev pub explain_help_text : List ℕ
 explain_help_text = codes "Says what a rule means, with an example that breaks it and how to mend it\n\nUsage: govisd explain [RULE]\n\nArguments:\n  [RULE]  The name of a rule, as N1. Without it all rules are listed, one a line\n\nOptions:\n  -h, --help  Writes this text\n\nExamples:\n  govisd explain N1\n  govisd explain\n\nExit status: 0, or 2 where no rule has this name\n"
 
 abbrev pub run_help_text : List ℕ
-run_help_text = codes "Compiles the Go packages of a folder, and runs one\n\nUsage: govisd run [OPTIONS] <FOLDER>\n\nArguments:\n  <FOLDER>  The folder of a module, as govisd check takes it\n\nOptions:\n  --module <PATH>  The import path of the module, as in its go.mod. Without it, the name of the folder\n  --main <PATH>    The import path of the package that is run. Without it, the one that is named main\n  --steps <N>      Stops after so many steps, one for each instruction. Without it, after 1,000,000,000\n  -h, --help       Writes this text\n\nWhat the program prints goes to standard output. Where it is not run, standard error says why: faults are told as govisd check tells them.\n\nExamples:\n  govisd run primes\n  govisd run shop --module example.com/shop --main example.com/shop/cmd\n\nExit status: 0 where the program ended, 1 where it was not run, 2 where it panicked or the command line is refused, 3 where its steps\nwere spent\n"
+run_help_text = codes "Compiles the Go packages of a folder, and runs one\n\nUsage: govisd run [OPTIONS] <FOLDER>\n\nArguments:\n  <FOLDER>  The folder of a module, as govisd check takes it\n\nOptions:\n  --module <PATH>  The import path of the module, as in its go.mod. Without it, the name of the folder\n  --main <PATH>    The import path of the package that is run. Without it, the one that is named main\n  --steps <N>      Stops after so many steps, one for each instruction. Without it, after 1,000,000,000\n  -h, --help       Writes this text\n\nWhat the program prints goes to standard output, and what it panics with to standard error, as panic: 5. Where it is not run, standard error says\nwhy: faults are told as govisd check tells them.\n\nExamples:\n  govisd run primes\n  govisd run shop --module example.com/shop --main example.com/shop/cmd\n\nExit status: 0 where the program ended, 1 where it was not run, 2 where it panicked or the command line is refused, 3 where its steps\nwere spent\n"
 
 abbrev pub script_help_text : List ℕ
 script_help_text = codes "Serves Go sessions by lines of JSON on standard input and output\n\nUsage: govisd script [OPTIONS]\n\nOptions:\n  --workers <N>  How many packages are compiled at once, 1 to 64. Without it, 1\n  -h, --help     Writes this text\n\nEach line is one request of a session, whose number, 1 to 32, is its member \"s\". Each is answered by one line, in order.\n\nExample:\n  printf '{\"cmd\":\"open\",\"module\":\"example.com/a\",\"s\":1}\\n' | govisd script\n\nExit status: 0 where the input ended, 1 where a line was too long, reading or writing failed, or memory or threads ran out, 2 where the command\nline is refused\n"
