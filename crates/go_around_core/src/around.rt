@@ -158,6 +158,19 @@ impl<'n, 'p> Literals for Around<'n, 'p> {
     fn field_names(&self, alloc: Global, t: &TypeRef<'p>) -> Result<Vec<&str>, AllocError> {
         self.here.field_names(alloc, t)
     }
+
+    fn has_index(&self, t: &TypeRef<'p>) -> bool {
+        self.here.has_index(t)
+    }
+
+    fn field_number(
+        &self,
+        alloc: Global,
+        t: &TypeRef<'p>,
+        name: &str,
+    ) -> Result<Option<usize>, AllocError> {
+        self.here.field_number(alloc, t, name)
+    }
 }
 
 impl<'n, 'p> Exprs for Around<'n, 'p> {

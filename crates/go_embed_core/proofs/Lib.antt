@@ -2,6 +2,7 @@ pub mod Ids
 pub mod Rows
 pub mod Keeping
 pub mod Counting
+pub mod Placing
 pub mod Edging
 pub mod Adding
 pub mod Noting

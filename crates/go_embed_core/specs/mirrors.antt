@@ -1,3 +1,4 @@
 pub mod Edges
 pub mod Tallies
+pub mod Places
 pub mod Passing

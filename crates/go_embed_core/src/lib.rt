@@ -6,6 +6,7 @@
 
 mod faults;
 mod hidden;
+mod indexed;
 mod laws;
 mod member;
 mod members;
@@ -17,8 +18,8 @@ pub use laws::{
     each_fault_once, embedding_is_a_step, faults_are_local, hidden_is_told, owner_is_local,
     repeated_is_told, starred_interface_is_told,
 };
-pub use member::{Hits, Member, has_method};
-pub use owner::{Embedded, Owner, embeds};
+pub use member::{Hits, Member};
+pub use owner::{Embedded, Owner, embeds, has_own_method};
 
 /// What the crates above name of `go_decl_core`.
 pub mod decl_core {

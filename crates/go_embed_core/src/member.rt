@@ -97,7 +97,7 @@ pub(crate) fn is_same_id(a: &str, a_path: &ImportPath, b: &str, b_path: &ImportP
 
 /// Whether a method of a type has an identifier: `path` is that of the package of the type, and `from` that of the package where the
 /// identifier is written. It takes no memory. The Go specification, "Uniqueness of identifiers".
-pub fn has_method(
+pub(crate) fn has_method(
     path: &ImportPath,
     methods: &[DeclaredMethod],
     name: &str,
@@ -212,7 +212,7 @@ fn interface_hits<'a>(
 }
 
 // The method of the predeclared type `error`, where it has the identifier: it is exported.
-fn error_hit<'a>(name: &str, from: &ImportPath) -> Hits<'a>
+pub(crate) fn error_hit<'a>(name: &str, from: &ImportPath) -> Hits<'a>
     ensures { hits_shown result ≡ tallies (tally_of name.now from.now) (term_found nobody ErrorType) }
 {
     if go_term_core::text_core::same_id("Error", "", name, from.as_str()) {

@@ -2,7 +2,7 @@
 ghost use Rattle.std.specs.Prelude.{◌≡◌, ◌++◌, ◌∷◌, [], IfOk, OnOk, map, option_map, option_to_list};
 ghost use Rattle.go_term_core.specs.Terms.{Defined, NoField, StructOf};
 ghost use Rattle.go_term_core.specs.Shapes.{shape, shape_found, fields_in, line_at, line_shapes};
-ghost use Rattle.go_type_core.specs.table_core.Entries.{find_entry};
+ghost use Rattle.go_type_core.specs.table_core.Entries.{find_entry, has_method};
 ghost use Rattle.go_type_core.specs.table_core.Methods.{term_fields};
 ghost use Rattle.go_type_core.specs.table_core.Shown.{line_shown, member_shown};
 ghost use Rattle.go_embed_core.specs.Owners.{AFieldOf, owner_in, embeds_at, embedded_in, owner_field_count, has_spelled, declared_found, fields_found, term_found, members_of, is_spelled_in, embedded_edge, nobody};
@@ -10,6 +10,7 @@ ghost use Rattle.go_embed_core.specs.OwnersShown.{owner_shown, source_shown, ent
 ghost use Rattle.go_embed_core.specs.mirrors.Edges.{hidden_in, IsHiding, edge_if};
 ghost use Rattle.go_embed_core.specs.mirrors.Tallies.{hits_shown, tallies, tally_of};
 
+use crate::indexed::{indexed_hits, indexed_methods, is_indexed, is_indexed_as};
 use crate::member::{
     Hits, Member, has_method, is_method_spelled, is_spelled, method_hits, term_hits,
 };
@@ -147,12 +148,24 @@ fn line_edge<'a>(line: &'a FieldLine, position: usize) -> Option<Embedded<'a>>
     }
 }
 
+/// Whether a method that is declared of a defined type has an identifier that is written in a package. It takes expected time that does not
+/// grow with the number of methods, and no memory. The Go specification, "Uniqueness of identifiers".
+pub fn has_own_method(defined: &DefinedType, name: &str, from: &ImportPath) -> bool
+    ensures { result ≡ has_method defined.now.key.path defined.now.methods name.now from.now }
+{
+    let path = &defined.key().path;
+    match defined.method_spellings() {
+        Some(index) => is_indexed_as(path, index, name, from),
+        None => has_method(path, defined.methods(), name, from),
+    }
+}
+
 // Whether a method has the identifier of a field of a struct type that is so named.
-fn has_namesake(path: &ImportPath, methods: &[DeclaredMethod], name: &str, term: &TypeTerm) -> bool
-    ensures { result ≡ hidden_in path.now (map member_shown methods.now) name.now (shape term.now) }
+fn has_namesake(defined: &DefinedType, name: &str, term: &TypeTerm) -> bool
+    ensures { result ≡ hidden_in defined.now.key.path defined.now.methods name.now (shape term.now) }
 {
     match term {
-        TypeTerm::Struct(from, _, _) => has_method(path, methods, name, from),
+        TypeTerm::Struct(from, _, _) => has_own_method(defined, name, from),
         TypeTerm::NoType
         | TypeTerm::Basic(_)
         | TypeTerm::Error
@@ -167,8 +180,7 @@ fn is_kept(defined: &DefinedType, name: &str) -> bool
     ensures { IsHiding result (entry_owner defined.now) name.now }
 {
     if defined.hides_fields() {
-        let path = &defined.key().path;
-        return has_namesake(path, defined.methods(), name, defined.underlying());
+        return has_namesake(defined, name, defined.underlying());
     }
     false
 }
@@ -177,14 +189,43 @@ fn is_kept(defined: &DefinedType, name: &str) -> bool
 fn entry_hits<'a>(defined: &'a DefinedType, name: &str, from: &ImportPath) -> Hits<'a>
     ensures { hits_shown result ≡ tallies (tally_of name.now from.now) (declared_found defined.now.key.path defined.now.methods) }
 {
-    method_hits(&defined.key().path, defined.methods(), name, from)
+    let path = &defined.key().path;
+    let methods = defined.methods();
+    match defined.method_spellings() {
+        Some(index) => indexed_methods(path, methods, index, name, from),
+        None => method_hits(path, methods, name, from),
+    }
+}
+
+// The members of the underlying type of a defined type that have an identifier.
+fn under_hits<'a>(defined: &'a DefinedType, name: &str, from: &ImportPath) -> Hits<'a>
+    ensures { hits_shown result ≡ tallies (tally_of name.now from.now) (term_found nobody defined.now.term) }
+{
+    let term = defined.underlying();
+    match defined.member_spellings() {
+        Some(index) => indexed_hits(term, index, name, from),
+        None => term_hits(term, name, from),
+    }
 }
 
 // Whether a method that is declared of a defined type is spelled so.
 fn is_entry_spelled(defined: &DefinedType, name: &str) -> bool
     ensures { result ≡ is_spelled_in (declared_found defined.now.key.path defined.now.methods) name.now }
 {
-    is_method_spelled(defined.methods(), name)
+    match defined.method_spellings() {
+        Some(index) => is_indexed(index, name),
+        None => is_method_spelled(defined.methods(), name),
+    }
+}
+
+// Whether the underlying type of a defined type has a member that is spelled so.
+fn is_under_spelled(defined: &DefinedType, name: &str) -> bool
+    ensures { result ≡ is_spelled_in (term_found nobody defined.now.term) name.now }
+{
+    match defined.member_spellings() {
+        Some(index) => is_indexed(index, name),
+        None => is_spelled(defined.underlying(), name),
+    }
 }
 
 // Adds the edge of an embedded field, where the field of a number is one.
@@ -318,9 +359,10 @@ impl<'a> Owner<'a> {
     fn underlying_hits(&self, name: &str, from: &ImportPath) -> Hits<'a>
         ensures { hits_shown result ≡ tallies (tally_of name.now from.now) (term_found nobody (owner_shown self.now).underlying) }
     {
-        match self.underlying() {
-            Some(term) => term_hits(term, name, from),
-            None => Hits::Nothing,
+        match self.source {
+            Source::Entry(defined) => under_hits(defined, name, from),
+            Source::Missing(_) => Hits::Nothing,
+            Source::Plain(term) => term_hits(term, name, from),
         }
     }
 
@@ -339,9 +381,10 @@ impl<'a> Owner<'a> {
     fn is_underlying_spelled(&self, name: &str) -> bool
         ensures { result ≡ is_spelled_in (term_found nobody (owner_shown self.now).underlying) name.now }
     {
-        match self.underlying() {
-            Some(term) => is_spelled(term, name),
-            None => false,
+        match self.source {
+            Source::Entry(defined) => is_under_spelled(defined, name),
+            Source::Missing(_) => false,
+            Source::Plain(term) => is_spelled(term, name),
         }
     }
 

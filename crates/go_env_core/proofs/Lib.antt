@@ -1,3 +1,4 @@
 pub mod Predeclared
 pub mod Seeing
+pub mod ByName
 pub mod Standing

@@ -7,16 +7,18 @@ ghost use Rattle.go_face_core.specs.embed_core.Owners.{owner_in};
 ghost use Rattle.go_face_core.specs.embed_core.OwnersShown.{entry_owner};
 ghost use Rattle.go_env_core.specs.Scenes.{SceneModel, scene_shown};
 ghost use Rattle.go_env_core.specs.Fields.{fields_seen, is_visible, literals_in, owner_seen, term_seen};
+ghost use Rattle.go_literal_core.specs.Marks.{field_number};
 ghost use Rattle.go_env_core.specs.mirrors.Seen.{hider_shown, is_kept, listed_field, name_unless, seen_shown, some_seen};
 
+use crate::field_index::{field_index, first_place};
 use crate::scene::Scene;
-use go_face_core::embed_core::has_method;
+use go_embed_core::has_own_method;
 use go_face_core::handle_core::{Decl, DeclSite, TypeRef, typed};
 use go_face_core::table_core::{DefinedType, StructField, TypeTable};
 use go_path_core::ImportPath;
 use go_term_core::{Field, FieldLine, TypeTerm};
 use go_text_core::is_exported;
-use go_top_core::literal_core::LiteralField;
+use go_literal_core::{LiteralField, first_named};
 use std::alloc::{AllocError, Global};
 
 /// The fields of a struct type, as a type that lies over it has them.
@@ -35,7 +37,7 @@ fn is_hidden(hider: Option<&DefinedType>, name: &str, home: &ImportPath) -> bool
     ensures { result ≡ is_kept (hider_shown hider.entry) name.now home.now }
 {
     match hider {
-        Some(defined) => has_method(&defined.key().path, defined.methods(), name, home),
+        Some(defined) => has_own_method(defined, name, home),
         None => false,
     }
 }
@@ -252,4 +254,36 @@ pub(crate) fn field_names<'p>(
         return Ok(Vec::new(alloc));
     };
     kept_names(alloc, seen.hider, seen.home, seen.fields)
+}
+
+// The number of the first of the fields that is spelled so, from 0: each is looked at.
+fn searched_number(
+    alloc: Global,
+    seen: Option<SeenFields<'_>>,
+    name: &str,
+) -> Result<Option<usize>, AllocError>
+    ensures { (s : SceneModel) → IfOk result (λ number. number ≡ field_number (some_seen s seen.entry) name.now) }
+{
+    let names = field_names(alloc, seen)?;
+    Ok(first_named(&names, name))
+}
+
+/// The number of the first of the fields of a type that is spelled so, from 0, and none where none is. It takes constant expected time where
+/// the type is declared with many fields and no method keeps one from it.
+///
+/// # Errors
+///
+/// `AllocError` where memory is wanting.
+pub(crate) fn field_number<'p>(
+    alloc: Global,
+    scene: &Scene<'p>,
+    t: &TypeRef<'p>,
+    name: &str,
+) -> Result<Option<usize>, AllocError>
+    ensures { IfOk result (λ number. number ≡ field_number ((literals_in (scene_shown scene.now)).fields t.now) name.now) }
+{
+    match field_index(scene, t) {
+        Some(index) => Ok(first_place(index, name)),
+        None => searched_number(alloc, seen_fields(scene, t), name),
+    }
 }

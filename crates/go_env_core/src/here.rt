@@ -3,7 +3,8 @@ ghost use Rattle.std.specs.Prelude.{◌≡◌, ◌++◌, OnOk, option_map};
 ghost use Rattle.go_top_core.specs.inline_core.Types.{inline_shown};
 ghost use Rattle.go_env_core.specs.Looks.{inline_faults, inline_type};
 
-use crate::fields::{field_at, field_count, field_names, seen_fields};
+use crate::field_index::field_index;
+use crate::fields::{field_at, field_count, field_names, field_number, seen_fields};
 use crate::found::{found_exported, found_of};
 use crate::meaning::Meaning;
 use crate::scene::Scene;
@@ -220,6 +221,19 @@ impl<'n, 'p> Literals for Here<'n, 'p> {
 
     fn field_names(&self, alloc: Global, t: &TypeRef<'p>) -> Result<Vec<&str>, AllocError> {
         field_names(alloc, seen_fields(self.scene, t))
+    }
+
+    fn has_index(&self, t: &TypeRef<'p>) -> bool {
+        field_index(self.scene, t).is_some()
+    }
+
+    fn field_number(
+        &self,
+        alloc: Global,
+        t: &TypeRef<'p>,
+        name: &str,
+    ) -> Result<Option<usize>, AllocError> {
+        field_number(alloc, self.scene, t, name)
     }
 }
 

@@ -6,6 +6,7 @@
 #![tactic(auto)]
 
 mod copies;
+mod field_index;
 mod fields;
 mod found;
 mod here;

@@ -24,7 +24,7 @@ pub use literals::{
     element_target, keys_among, literal_denotes, literal_mode, literal_rule, literal_type, misfits,
 };
 pub use looks::Literals;
-pub use marks::key_marks;
+pub use marks::{first_named, key_marks};
 pub use things::{KeyAnswer, KeyMark, Keys, LiteralField, Mode, NamedField};
 
 /// What the crates above name of `go_constant_core`.

@@ -1,6 +1,7 @@
 //! What is asked of the fields of struct types.
 ghost use Rattle.std.specs.Prelude.{◌≡◌, ◌<◌, IfOk, Some, length, map, option_map, slice_get};
 ghost use Rattle.go_literal_core.specs.Look.{LiteralRules};
+ghost use Rattle.go_literal_core.specs.Marks.{field_number};
 
 use crate::things::LiteralField;
 use go_denote_core::Names;
@@ -29,4 +30,21 @@ pub trait Literals: Names {
     /// `AllocError` where memory is wanting.
     fn field_names(&self, alloc: Global, t: &Self::Type) -> Result<Vec<&str>, AllocError>
         ensures { IfOk result (λ names. map (λ n. n.now) names.items ≡ map (λ f. f.name) ((literals self.now).fields t.now)) };
+
+    /// Whether the place has an index of the fields of a struct type by their names, so that each is found in constant expected time.
+    fn has_index(&self, t: &Self::Type) -> bool;
+
+    /// The number of the first field of a struct type that is spelled so, from 0, and none where no field is. Time grows with the number of
+    /// fields, unless the place has an index of them.
+    ///
+    /// # Errors
+    ///
+    /// `AllocError` where memory is wanting.
+    fn field_number(
+        &self,
+        alloc: Global,
+        t: &Self::Type,
+        name: &str,
+    ) -> Result<Option<usize>, AllocError>
+        ensures { IfOk result (λ number. number ≡ field_number ((literals self.now).fields t.now) name.now) };
 }

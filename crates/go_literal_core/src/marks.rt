@@ -2,7 +2,7 @@
 ghost use Rattle.std.specs.Prelude.{◌≡◌, ℕ, List, Some, None, map, if◌then◌else◌, IfOk, OnOk};
 ghost use Rattle.std.specs.Str.{bytes_eq};
 ghost use Rattle.go_literal_core.specs.Marks as marks;
-ghost use Rattle.go_literal_core.specs.mirrors.Numbers.{first_known, mark_by, number_of, searched_mark};
+ghost use Rattle.go_literal_core.specs.mirrors.Numbers.{asked_mark, first_known, mark_by, mark_with, number_of, searched_mark};
 
 use crate::looks::Literals;
 use crate::repeats::names_again;
@@ -10,7 +10,7 @@ use crate::things::KeyMark;
 use indexmap::{IndexMap, IndexSet};
 use std::alloc::{AllocError, Global};
 
-/// From how many keys on a table of the fields by their names is made; fewer are each looked for.
+/// From how many keys on a table of the fields by their names is made where the place has no index of them; fewer are each looked for.
 const TABLE_FROM: usize = 9;
 
 // Adds a name with its number, unless it is there.
@@ -80,8 +80,8 @@ fn mark_each(
     Ok(all)
 }
 
-// The number of the first of some names that is spelled so, from 0.
-fn search(names: &Vec<&str>, name: &str) -> Option<usize>
+/// The number of the first of some names that is spelled so, from 0, and none where none is. Time grows with their number.
+pub fn first_named(names: &Vec<&str>, name: &str) -> Option<usize>
     ensures { result ≡ marks.name_number_from 0 (map (λ m. m.now) names.now.items) name.now }
 {
     for (at, other) in names.iter().enumerate() {
@@ -92,14 +92,76 @@ fn search(names: &Vec<&str>, name: &str) -> Option<usize>
     None
 }
 
+// The number of the first field of a literal's type that is spelled so, from 0.
+fn asked_number<E: Literals>(
+    env: &E,
+    alloc: Global,
+    t: &Option<E::Type>,
+    name: &str,
+) -> Result<Option<usize>, AllocError>
+    ensures { IfOk result (λ number. number ≡ marks.field_number (marks.type_fields (E.literals env.now) t.now) name.now) }
+{
+    match t {
+        None => Ok(None),
+        Some(t) => env.field_number(alloc, t, name),
+    }
+}
+
+// The mark of a key, by the keys that are repeated and the number of its field.
+fn mark_with(again: &IndexSet<&str>, name: &str, field: Option<usize>) -> KeyMark
+    ensures { result ≡ mark_with (map (λ n. n.now) again.now.keys) field name.now }
+{
+    KeyMark {
+        is_repeated: again.contains(name),
+        field,
+    }
+}
+
+// The mark of a key, by the keys that are repeated and the fields of the literal's type.
+fn asked_mark<E: Literals>(
+    env: &E,
+    alloc: Global,
+    t: &Option<E::Type>,
+    again: &IndexSet<&str>,
+    name: &str,
+) -> Result<KeyMark, AllocError>
+    ensures { IfOk result (λ mark. mark ≡ asked_mark (map (λ n. n.now) again.now.keys) (marks.type_fields (E.literals env.now) t.now) name.now) }
+{
+    let field = asked_number(env, alloc, t, name)?;
+    Ok(mark_with(again, name, field))
+}
+
+// The marks of some keys, each of which is asked for among the fields of the literal's type.
+fn ask_each<E: Literals>(
+    env: &E,
+    alloc: Global,
+    t: &Option<E::Type>,
+    again: &IndexSet<&str>,
+    names: &[&str],
+) -> Result<Vec<KeyMark>, AllocError>
+    ensures { IfOk result (λ all. all.items ≡ map (asked_mark (map (λ n. n.now) again.now.keys) (marks.type_fields (E.literals env.now) t.now)) (map (λ n. n.now) names.now)) }
+{
+    let mut all = Vec::with_capacity(alloc, names.len())?;
+    for name in names {
+        let mark = asked_mark(env, alloc, t, again, *name)?;
+        all.push(mark)?;
+    }
+    Ok(all)
+}
+
+// Whether the place has an index of the fields of a literal's type.
+fn is_indexed<E: Literals>(env: &E, t: &Option<E::Type>) -> bool {
+    match t {
+        None => false,
+        Some(t) => env.has_index(t),
+    }
+}
+
 // The mark of a key, by the keys that are repeated and the names of fields.
 fn searched_mark(again: &IndexSet<&str>, fields: &Vec<&str>, name: &str) -> KeyMark
     ensures { result ≡ searched_mark (map (λ n. n.now) again.now.keys) (map (λ n. n.now) fields.now.items) name.now }
 {
-    KeyMark {
-        is_repeated: again.contains(name),
-        field: search(fields, name),
-    }
+    mark_with(again, name, first_named(fields, name))
 }
 
 // The marks of some keys, each of which is looked for among the fields.
@@ -133,7 +195,8 @@ fn names_of<'n, E: Literals>(
 }
 
 /// Of each of the keys of a literal, by their spellings in order, whether another is spelled the same, and which field of the literal's
-/// type is. Time grows with the number of keys and, where there is a key, with the number of fields; not with their product.
+/// type is. Where the place has an index of the fields, expected time grows with the number of keys alone; else with that of the fields too,
+/// and not with their product.
 ///
 /// The Go specification, "Composite literals".
 ///
@@ -152,6 +215,9 @@ pub fn key_marks<E: Literals>(
         return Ok(Vec::new(alloc));
     }
     let again = names_again(alloc, names)?;
+    if is_indexed(env, t) {
+        return ask_each(env, alloc, t, &again, names);
+    }
     let fields = names_of(env, alloc, t)?;
     if names.len() < TABLE_FROM {
         return search_each(alloc, &again, &fields, names);

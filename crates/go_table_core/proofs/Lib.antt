@@ -4,6 +4,7 @@ pub mod Searching
 pub mod Adding
 pub mod Spelled
 pub mod Underlying
+pub mod Listing
 pub mod Meanings
 pub mod Reaching
 pub mod ByRule

@@ -3,6 +3,7 @@ pub mod Nesting
 pub mod codes
 pub mod Shown
 pub mod Methods
+pub mod MemberNames
 pub mod Tables
 pub mod Underlying
 pub mod Assign

@@ -9,7 +9,6 @@ use Rattle.go_table_core.specs.declared.entry.TypeEntry.{TypeEntry}
 use Rattle.std.specs.Global.{Global}
 use Rattle.std.specs.declared.sync.Arc.{Arc}
 use Rattle.go_settle_core.specs.decl_core.declared.keys.DeclKey.{DeclKey}
-use Rattle.go_term_core.specs.declared.term.TypeTerm.{TypeTerm}
 use Rattle.go_table_core.specs.declared.assign.Operand.{Operand}
 use Rattle.go_table_core.specs.declared.assign.Operand.TheVariants as operands
 use Rattle.go_table_core.specs.Assign.{Assigned, AValue, ANil, AnInteger, AText, ABoolean}
@@ -22,8 +21,8 @@ member_shown m = record { name = m.name; place = m.place; pointer = m.pointer; s
 abbrev pub entry_shown : TypeEntry → Entry
 entry_shown e = record { key = e.key; name = e.name; term = shape e.term; methods = map member_shown e.methods.items }
 
-abbrev pub defined_shown : DeclKey → List ℕ → Arc TypeTerm Global → Vec DeclaredMethod Global → Entry
-defined_shown k n u ms = record { key = k; name = n; term = shape (arc_value u); methods = map member_shown ms.items }
+abbrev pub defined_shown : DeclKey → List ℕ → Arc Term Global → Vec DeclaredMethod Global → Entry
+defined_shown k n u ms = record { key = k; name = n; term = arc_value u; methods = map member_shown ms.items }
 
 -- some field of a struct type has the identifier of a method of a type in the package of a path
 abbrev pub hides_field : List ℕ → List Member → List ℕ → Fields → Bool

@@ -1,12 +1,16 @@
 //! What is declared of types.
-ghost use Rattle.std.specs.Prelude.{◌≡◌, IfOk, map};
+ghost use Rattle.std.specs.Prelude.{◌≡◌, IfOk, IfSome, map};
 ghost use Rattle.std.specs.Arc.{arc_value};
 ghost use Rattle.go_term_core.specs.Shapes.{shape};
 ghost use Rattle.go_table_core.specs.Shown.{member_shown, HidesRightly};
 ghost use Rattle.go_table_core.specs.mirrors.Spots.{spells_some};
 ghost use Rattle.go_table_core.specs.Methods.{term_fields};
+ghost use Rattle.go_table_core.specs.MemberNames.{term_names};
+ghost use Rattle.go_index_core.specs.Spelled.{AreSpelled, places_of};
 
 use crate::fields::FieldTable;
+use crate::indexed::{IndexedTerm, method_index};
+use go_index_core::Spellings;
 use go_settle_core::decl_core::DeclKey;
 use go_settle_core::text_core::Name;
 use go_term_core::{MemberPlace, Signature, TypeTerm};
@@ -60,8 +64,10 @@ impl Drop for TypeEntry {
 pub struct DefinedType {
     key: DeclKey,
     name: Name,
-    underlying: Arc<TypeTerm>,
+    underlying: Arc<IndexedTerm>,
     methods: Vec<DeclaredMethod>,
+    /// Where the names of its methods stand among them, where they are many.
+    spellings: Option<Spellings>,
     /// Whether a field of its struct type has the identifier of one of its methods, which keeps the field from it.
     hides: bool,
 }
@@ -73,6 +79,7 @@ impl Drop for DefinedType {
             name: _,
             underlying: _,
             methods: _,
+            spellings: _,
             hides: _,
         } = self;
     }
@@ -81,7 +88,8 @@ impl Drop for DefinedType {
 impl Model for DefinedType {
     ghost use Rattle.go_table_core.specs.Entries.{Entry};
     ghost use Rattle.go_table_core.specs.codes.EntryCodes.{coded_entry};
-    ghost use Rattle.go_table_core.specs.Shown.{defined_shown, HidesRightly};
+    ghost use Rattle.go_table_core.specs.Shown.{defined_shown};
+    ghost use Rattle.go_table_core.specs.mirrors.Kept.{IsDefined};
 
     ghost Value = { Entry };
 
@@ -89,7 +97,7 @@ impl Model for DefinedType {
 
     ghost view = { λ d. defined_shown d.key d.name d.underlying d.methods };
 
-    ghost invariant = { λ d. HidesRightly d.hides (defined_shown d.key d.name d.underlying d.methods) };
+    ghost invariant = { λ d. IsDefined d.hides d.spellings (defined_shown d.key d.name d.underlying d.methods) };
 }
 
 /// Whether a field of a struct type is spelled as one of these methods. Time grows with fields and methods.
@@ -122,17 +130,19 @@ impl DefinedType {
         alloc: Global,
         key: DeclKey,
         name: Name,
-        underlying: Arc<TypeTerm>,
+        underlying: Arc<IndexedTerm>,
         methods: Vec<DeclaredMethod>,
     ) -> Result<DefinedType, AllocError>
-        ensures { IfOk result (λ d. d ≡ record { key = key; name = name; term = shape (arc_value underlying); methods = map member_shown methods.items }) }
+        ensures { IfOk result (λ d. d ≡ record { key = key; name = name; term = arc_value underlying; methods = map member_shown methods.items }) }
     {
-        let hides = spells_one_of(alloc, &underlying, methods.as_slice())?;
+        let hides = spells_one_of(alloc, underlying.term(), methods.as_slice())?;
+        let spellings = method_index(alloc, methods.as_slice())?;
         Ok(DefinedType {
             key,
             name,
             underlying,
             methods,
+            spellings,
             hides,
         })
     }
@@ -155,7 +165,7 @@ impl DefinedType {
     pub fn underlying(&self) -> &TypeTerm
         ensures { shape result.now ≡ self.now.term }
     {
-        &self.underlying
+        self.underlying.term()
     }
 
     /// Its underlying type once more, to be shared with another defined type. It takes no memory.
@@ -163,8 +173,8 @@ impl DefinedType {
     /// # Errors
     ///
     /// `AllocError` where the term has too many owners.
-    pub fn share_underlying(&self) -> Result<Arc<TypeTerm>, AllocError>
-        ensures { IfOk result (λ u. shape (arc_value u) ≡ self.now.term) }
+    pub fn share_underlying(&self) -> Result<Arc<IndexedTerm>, AllocError>
+        ensures { IfOk result (λ u. arc_value u ≡ self.now.term) }
     {
         Arc::try_clone(&self.underlying)
     }
@@ -174,6 +184,24 @@ impl DefinedType {
         ensures { map member_shown result.now ≡ self.now.methods }
     {
         self.methods.as_slice()
+    }
+
+    /// Where the names of its methods stand among them, where they are many; of few each is looked for.
+    pub fn method_spellings(&self) -> Option<&Spellings>
+        ensures { IfSome result (λ s. AreSpelled (places_of s.now) (map (λ m. m.name) self.now.methods)) }
+    {
+        match &self.spellings {
+            Some(spellings) => Some(spellings),
+            None => None,
+        }
+    }
+
+    /// Where the names of the members of its underlying type stand among them, where they are many: of the fields of a struct type, or of
+    /// the methods of an interface type. Of few each is looked for.
+    pub fn member_spellings(&self) -> Option<&Spellings>
+        ensures { IfSome result (λ s. AreSpelled (places_of s.now) (term_names self.now.term)) }
+    {
+        self.underlying.members()
     }
 
     /// Whether a method may keep a field from it: where this is false, none does.

@@ -8,6 +8,7 @@ mod alike;
 mod assign;
 mod entry;
 mod fields;
+mod indexed;
 mod kinds;
 mod laws;
 mod table;
@@ -16,6 +17,7 @@ pub use alike::{identical_under, identical_under_but_for_tags};
 pub use assign::{Operand, assignable, is_named_type};
 pub use entry::{DeclaredMethod, DefinedType, TypeEntry};
 pub use fields::{FieldTable, StructField, StructFields, term_fields};
+pub use indexed::IndexedTerm;
 pub use laws::{
     adding_keeps, assignability_by_rule, assignable_is_local, assignable_to_itself,
     error_is_an_interface, nothing_is_assignable_to_no_type, reach_is_closed, underlying_is_local,

@@ -13,7 +13,6 @@ use Rattle.go_table_core.specs.decl_core.declared.keys.DeclKey.{DeclKey}
 use Rattle.go_table_core.specs.settle_core.declared.kind.Kind.{Kind}
 use Rattle.go_table_core.specs.settle_core.Settled.{is_among_names, settled, pointer_to}
 use Rattle.go_term_core.specs.text_core.Text.{is_blank}
-use Rattle.go_term_core.specs.declared.term.TypeTerm.{TypeTerm}
 use Rattle.go_term_core.specs.Shapes.{shape}
 use Rattle.go_term_core.specs.Terms.{Term, NoType, Predeclared, ErrorType, Defined, PointerTo, StructOf, InterfaceOf}
 use Rattle.go_table_core.specs.declared.entry.DeclaredMethod.{DeclaredMethod}
@@ -55,10 +54,10 @@ named_step keys looped es next after n e marked named y lt is table numbered mar
 
 -- underlying types of roots
 
-pub own_step : (far : EntryLook) (kind : DeclKey → Kind) (nothing : List Bool) (ends : List (Option ℕ)) (es : List TypeEntry) (us after : List (Arc TypeTerm Global)) (n : ℕ) (e : TypeEntry) (u : Arc TypeTerm Global) → n < length es → e ≡ get_or es n e → IsTable (terms_of_arcs us) n (own_term_at far kind nothing (map entry_shown es) ends) → shape (arc_value u) ≡ term_unless (not (is_root_at nothing ends n)) (root_term far kind (shape e.term)) → after ≡ us ++ u ∷ [] → IsTable (terms_of_arcs after) (n + 1) (own_term_at far kind nothing (map entry_shown es) ends)
+pub own_step : (far : EntryLook) (kind : DeclKey → Kind) (nothing : List Bool) (ends : List (Option ℕ)) (es : List TypeEntry) (us after : List (Arc Term Global)) (n : ℕ) (e : TypeEntry) (u : Arc Term Global) → n < length es → e ≡ get_or es n e → IsTable (terms_of_arcs us) n (own_term_at far kind nothing (map entry_shown es) ends) → arc_value u ≡ term_unless (not (is_root_at nothing ends n)) (root_term far kind (shape e.term)) → after ≡ us ++ u ∷ [] → IsTable (terms_of_arcs after) (n + 1) (own_term_at far kind nothing (map entry_shown es) ends)
 own_step far kind nothing ends es us after n e u lt is table made pushed =
-    let more : terms_of_arcs after ≡ terms_of_arcs us ++ shape (arc_value u) ∷ [] = ap terms_of_arcs pushed ∙ map_push (λ x. shape (arc_value x)) us u in
-    table_push (terms_of_arcs us) (terms_of_arcs after) n (own_term_at far kind nothing (map entry_shown es) ends) (shape (arc_value u)) table
+    let more : terms_of_arcs after ≡ terms_of_arcs us ++ arc_value u ∷ [] = ap terms_of_arcs pushed ∙ map_push (λ x. arc_value x) us u in
+    table_push (terms_of_arcs us) (terms_of_arcs after) n (own_term_at far kind nothing (map entry_shown es) ends) (arc_value u) table
     (made ∙ ap (λ t. term_unless (not (is_root_at nothing ends n)) (root_term far kind t)) (sym (term_read es n e lt is))) more
 
 -- what is shared

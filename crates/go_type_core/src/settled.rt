@@ -16,7 +16,7 @@ use crate::own_keys::OwnKeys;
 use crate::roots::KnownKinds;
 use go_table_core::decl_core::DeclKey;
 use go_table_core::settle_core::{Kind, settle};
-use go_table_core::{DefinedType, TypeEntry, TypeTable};
+use go_table_core::{DefinedType, IndexedTerm, TypeEntry, TypeTable};
 use go_term_core::TypeTerm;
 use go_term_core::text_core::add;
 use std::alloc::{AllocError, Global};
@@ -30,13 +30,32 @@ struct Plan<'a> {
     kinds: KnownKinds<'a>,
 }
 
+// A type with an index of its members, to be shared.
+fn indexed(alloc: Global, term: TypeTerm) -> Result<Arc<IndexedTerm>, AllocError>
+    ensures { IfOk result (λ u. arc_value u ≡ shape term) }
+{
+    let indexed = IndexedTerm::of(alloc, term)?;
+    Ok(Arc::new(alloc, indexed)?)
+}
+
+// What is no type, to be shared.
+fn no_term(alloc: Global) -> Result<Arc<IndexedTerm>, AllocError>
+    ensures { IfOk result (λ u. arc_value u ≡ NoType) }
+{
+    indexed(alloc, TypeTerm::NoType)
+}
+
 // The underlying type of a type of another package, and none where there is none.
-fn far_term(alloc: Global, imported: &TypeTable, key: &DeclKey) -> Result<Arc<TypeTerm>, AllocError>
-    ensures { IfOk result (λ u. shape (arc_value u) ≡ term_in (find_entry imported.now key.now)) }
+fn far_term(
+    alloc: Global,
+    imported: &TypeTable,
+    key: &DeclKey,
+) -> Result<Arc<IndexedTerm>, AllocError>
+    ensures { IfOk result (λ u. arc_value u ≡ term_in (find_entry imported.now key.now)) }
 {
     match imported.locate(key) {
         Some(located) => located.defined.share_underlying(),
-        None => Ok(Arc::new(alloc, TypeTerm::NoType)?),
+        None => no_term(alloc),
     }
 }
 
@@ -45,16 +64,20 @@ fn settled_term(
     alloc: Global,
     plan: &Plan<'_>,
     term: &TypeTerm,
-) -> Result<Arc<TypeTerm>, AllocError>
-    ensures { IfOk result (λ u. shape (arc_value u) ≡ settled (plan_kind plan.now) (shape term.now)) }
+) -> Result<Arc<IndexedTerm>, AllocError>
+    ensures { IfOk result (λ u. arc_value u ≡ settled (plan_kind plan.now) (shape term.now)) }
 {
     let term = settle(alloc, &plan.kinds, term)?;
-    Ok(Arc::new(alloc, term)?)
+    indexed(alloc, term)
 }
 
 // The underlying type of what is defined as another package's type, or by a type that is no name.
-fn root_term(alloc: Global, plan: &Plan<'_>, term: &TypeTerm) -> Result<Arc<TypeTerm>, AllocError>
-    ensures { IfOk result (λ u. shape (arc_value u) ≡ root_term (plan_far plan.now) (plan_kind plan.now) (shape term.now)) }
+fn root_term(
+    alloc: Global,
+    plan: &Plan<'_>,
+    term: &TypeTerm,
+) -> Result<Arc<IndexedTerm>, AllocError>
+    ensures { IfOk result (λ u. arc_value u ≡ root_term (plan_far plan.now) (plan_kind plan.now) (shape term.now)) }
 {
     match term {
         TypeTerm::Defined(key) => far_term(alloc, plan.kinds.imported, key),
@@ -78,12 +101,12 @@ fn is_root(plan: &Plan<'_>, number: usize) -> bool
 fn own_term(
     alloc: Global,
     plan: &Plan<'_>,
-    none: &Arc<TypeTerm>,
+    none: &Arc<IndexedTerm>,
     number: usize,
     entry: &TypeEntry,
-) -> Result<Arc<TypeTerm>, AllocError>
-    requires { shape (arc_value none.now) ≡ NoType }
-    ensures { IfOk result (λ u. shape (arc_value u) ≡ term_unless (not (is_root_at plan.now.nothing.now plan.now.ends.now number)) (root_term (plan_far plan.now) (plan_kind plan.now) (shape entry.now.term))) }
+) -> Result<Arc<IndexedTerm>, AllocError>
+    requires { arc_value none.now ≡ NoType }
+    ensures { IfOk result (λ u. arc_value u ≡ term_unless (not (is_root_at plan.now.nothing.now plan.now.ends.now number)) (root_term (plan_far plan.now) (plan_kind plan.now) (shape entry.now.term))) }
 {
     if is_root(plan, number) {
         root_term(alloc, plan, &entry.term)
@@ -96,10 +119,10 @@ fn own_term(
 fn own_terms(
     alloc: Global,
     plan: &Plan<'_>,
-    none: &Arc<TypeTerm>,
+    none: &Arc<IndexedTerm>,
     entries: &[TypeEntry],
-) -> Result<Vec<Arc<TypeTerm>>, AllocError>
-    requires { shape (arc_value none.now) ≡ NoType }
+) -> Result<Vec<Arc<IndexedTerm>>, AllocError>
+    requires { arc_value none.now ≡ NoType }
     ensures { IfOk result (λ terms. IsTable (terms_of_arcs terms.items) (length entries.now) (own_term_at (plan_far plan.now) (plan_kind plan.now) plan.now.nothing.now (map entry_shown entries.now) plan.now.ends.now)) }
 {
     let mut terms = Vec::with_capacity(alloc, entries.len())?;
@@ -113,12 +136,12 @@ fn own_terms(
 // The underlying type of the type with a number, from those of roots.
 fn share_term(
     plan: &Plan<'_>,
-    none: &Arc<TypeTerm>,
-    terms: &[Arc<TypeTerm>],
+    none: &Arc<IndexedTerm>,
+    terms: &[Arc<IndexedTerm>],
     number: usize,
-) -> Result<Arc<TypeTerm>, AllocError>
-    requires { shape (arc_value none.now) ≡ NoType }
-    ensures { IfOk result (λ u. shape (arc_value u) ≡ shared_at plan.now.nothing.now plan.now.ends.now (terms_of_arcs terms.now) number) }
+) -> Result<Arc<IndexedTerm>, AllocError>
+    requires { arc_value none.now ≡ NoType }
+    ensures { IfOk result (λ u. arc_value u ≡ shared_at plan.now.nothing.now plan.now.ends.now (terms_of_arcs terms.now) number) }
 {
     if is_marked(plan.nothing, number) {
         return Ok(Arc::try_clone(none)?);
@@ -134,15 +157,15 @@ fn defined_type(
     alloc: Global,
     plan: &Plan<'_>,
     entry: &TypeEntry,
-    underlying: Arc<TypeTerm>,
+    underlying: Arc<IndexedTerm>,
 ) -> Result<DefinedType, AllocError>
-    ensures { IfOk result (λ d. d ≡ entry_of (plan_kind plan.now) (shape (arc_value underlying)) (entry_shown entry.now)) }
+    ensures { IfOk result (λ d. d ≡ entry_of (plan_kind plan.now) (arc_value underlying) (entry_shown entry.now)) }
 {
     let methods = kept_methods(
         alloc,
         &plan.kinds,
         &entry.key.path,
-        &underlying,
+        underlying.term(),
         &entry.methods,
     )?;
     let name = entry.name.copy(alloc)?;
@@ -154,11 +177,11 @@ fn defined_type(
 fn shared_types(
     alloc: Global,
     plan: &Plan<'_>,
-    none: &Arc<TypeTerm>,
-    terms: &[Arc<TypeTerm>],
+    none: &Arc<IndexedTerm>,
+    terms: &[Arc<IndexedTerm>],
     entries: &[TypeEntry],
 ) -> Result<Vec<DefinedType>, AllocError>
-    requires { shape (arc_value none.now) ≡ NoType }
+    requires { arc_value none.now ≡ NoType }
     ensures { IfOk result (λ types. IsTable types.items (length entries.now) (shared_entry_at (plan_kind plan.now) plan.now.nothing.now (map entry_shown entries.now) plan.now.ends.now (terms_of_arcs terms.now))) }
 {
     let mut types = Vec::with_capacity(alloc, entries.len())?;
@@ -192,7 +215,7 @@ pub(crate) fn settled_types<'a>(
         ends,
         kinds,
     };
-    let none = Arc::new(alloc, TypeTerm::NoType)?;
+    let none = no_term(alloc)?;
     let terms = own_terms(alloc, &plan, &none, entries)?;
     shared_types(alloc, &plan, &none, &terms, entries)
 }

@@ -4,8 +4,9 @@ use Rattle.std.specs.Borrow.{Bor}
 use Rattle.std.specs.Map.{lookup}
 use Rattle.std.specs.Str.{bytes_eq}
 use Rattle.go_literal_core.specs.declared.things.KeyMark.{KeyMark}
+use Rattle.go_literal_core.specs.Look.{FieldOf}
 use Rattle.go_literal_core.specs.Repeats.{has_name}
-use Rattle.go_literal_core.specs.Marks.{name_number_from}
+use Rattle.go_literal_core.specs.Marks.{field_number, name_number_from}
 
 -- the number that a map has at a name
 abbrev pub number_of : List (Bor (List ℕ) × ℕ) → List ℕ → Option ℕ
@@ -20,6 +21,12 @@ first_known (Some n) new = Some n
 abbrev pub mark_by : List (List ℕ) → List (Bor (List ℕ) × ℕ) → List ℕ → KeyMark
 mark_by again entries name = record { is_repeated = has_name name again; field = number_of entries name }
 
--- the same, by the names of the fields
+-- the same, by the number of its field, by the fields, and by their names
+abbrev pub mark_with : List (List ℕ) → Option ℕ → List ℕ → KeyMark
+mark_with again field name = record { is_repeated = has_name name again; field = field }
+
+abbrev pub asked_mark : {T D : Type 0} → List (List ℕ) → List (FieldOf T D) → List ℕ → KeyMark
+asked_mark again fields name = mark_with again (field_number fields name) name
+
 abbrev pub searched_mark : List (List ℕ) → List (List ℕ) → List ℕ → KeyMark
-searched_mark again fields name = record { is_repeated = has_name name again; field = name_number_from 0 fields name }
+searched_mark again fields name = mark_with again (name_number_from 0 fields name) name

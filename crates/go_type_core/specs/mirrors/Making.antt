@@ -10,8 +10,6 @@ use Rattle.go_table_core.specs.decl_core.declared.keys.DeclRef.{DeclRef}
 use Rattle.go_table_core.specs.decl_core.declared.places.DeclKind.TheVariants as decl_kinds
 use Rattle.go_table_core.specs.settle_core.declared.kind.Kind.{Kind}
 use Rattle.go_table_core.specs.settle_core.Settled.{kind_of_term, is_among_names}
-use Rattle.go_term_core.specs.declared.term.TypeTerm.{TypeTerm}
-use Rattle.go_term_core.specs.Shapes.{shape}
 use Rattle.go_term_core.specs.Terms.{Term, NoType}
 use Rattle.go_table_core.specs.Entries.{Entry, EntryLook, Member, find_entry}
 use Rattle.go_table_core.specs.Methods.{has_field_before}
@@ -51,8 +49,8 @@ seen_after false name seen = seen
 
 -- underlying types that are shared
 
-abbrev pub terms_of_arcs : List (Arc TypeTerm Global) → List Term
-terms_of_arcs us = map (λ u. shape (arc_value u)) us
+abbrev pub terms_of_arcs : List (Arc Term Global) → List Term
+terms_of_arcs us = map (λ u. arc_value u) us
 
 -- the type with a number is a type, and the chain of names from it has no step
 abbrev pub is_root_at : List Bool → List (Option ℕ) → ℕ → Bool

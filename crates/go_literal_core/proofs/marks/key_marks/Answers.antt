@@ -1,10 +1,18 @@
 use Rattle.std.proofs.Common.{◌≡◌, ℕ, List, map, ap, subst, ◌∙◌}
 use Rattle.std.specs.Prelude.{IfOk}
 use Rattle.go_literal_core.specs.Repeats.{repeats}
-use Rattle.go_literal_core.specs.Marks.{name_number_from, type_fields, made_mark}
+use Rattle.go_literal_core.specs.Marks.{field_number, name_number_from, type_fields, made_mark}
 use Rattle.go_literal_core.specs.declared.things.KeyMark.{KeyMark}
-use Rattle.go_literal_core.specs.mirrors.Numbers.{number_of, mark_by, searched_mark}
+use Rattle.go_literal_core.specs.mirrors.Numbers.{asked_mark, number_of, mark_by, searched_mark}
 use Rattle.go_literal_core.proofs.marks.key_marks.Goals as goal
+
+pub returns-then-is_indexed : goal.returns-then-is_indexed
+returns-then-is_indexed g c =
+    let names = map (λ n. n.now) c.args.names.now in
+    let fields = type_fields (g.E.Literals.literals c.args.env.now) c.args.t.now in
+    let again = map (λ n. n.now) c.in_ok-again.again.keys in
+    let same : asked_mark again fields ≡ (λ n. made_mark fields (repeats n names) n) = λ i n. record { is_repeated = c.in_ok-again.ensures n i; field = field_number fields n } in
+    subst (λ (f : List ℕ → KeyMark). IfOk c.ask_each.result (λ all. all.items ≡ map f names)) same c.ask_each.ensures
 
 pub returns-then-names-lt-TABLE_FROM : goal.returns-then-names-lt-TABLE_FROM
 returns-then-names-lt-TABLE_FROM g c =

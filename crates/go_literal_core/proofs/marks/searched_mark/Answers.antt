@@ -1,6 +1,6 @@
-use Rattle.std.proofs.Common.{◌∙◌}
-use Rattle.go_literal_core.proofs.Names.{any_named}
+use Rattle.std.proofs.Common.{map, ap, ◌∙◌}
+use Rattle.go_literal_core.specs.mirrors.Numbers.{mark_with}
 use Rattle.go_literal_core.proofs.marks.searched_mark.Goals as goal
 
 pub returns : goal.returns
-returns c = λ i. record { is_repeated = (c.contains.ensures ∙ any_named c.args.name.now c.args.again.now.keys) i; field = c.search.ensures i }
+returns c = c.mark_with.ensures ∙ ap (λ k. mark_with (map (λ n. n.now) c.args.again.now.keys) k c.args.name.now) c.first_named.ensures

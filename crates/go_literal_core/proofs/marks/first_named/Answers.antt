@@ -1,7 +1,7 @@
 use Rattle.std.proofs.Common.{◌≡◌, Bor, ℕ, ◌<◌, ◌≤◌, List, [], true, false, length, get_or, sym, subst, ◌∙◌}
 use Rattle.std.specs.Str.{bytes_eq}
 use Rattle.go_literal_core.proofs.Marking.{number_passed, number_here, number_none}
-use Rattle.go_literal_core.proofs.marks.search.Goals as goal
+use Rattle.go_literal_core.proofs.marks.first_named.Goals as goal
 
 pub loop-at-preserved : goal.loop-at-preserved
 loop-at-preserved c =

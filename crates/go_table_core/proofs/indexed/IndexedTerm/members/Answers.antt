@@ -1,0 +1,13 @@
+use Rattle.std.proofs.Common.{subst}
+use Rattle.std.specs.Prelude.{Option, IfSome}
+use Rattle.go_settle_core.specs.term_core.Shapes.{shape}
+use Rattle.go_index_core.specs.declared.spellings.Spellings.{Spellings}
+use Rattle.go_index_core.specs.Spelled.{AreSpelled, places_of}
+use Rattle.go_table_core.specs.MemberNames.{term_names}
+use Rattle.go_table_core.proofs.indexed.IndexedTerm.members.Goals as goal
+
+pub returns-in-Some : goal.returns-in-Some
+returns-in-Some c =
+    let are : AreSpelled (places_of c.in-Some.members) (term_names (shape c.self.inside.term)) =
+    subst (λ (o : Option Spellings). IfSome o (λ s. AreSpelled (places_of s) (term_names (shape c.self.inside.term)))) c.in-Some.is c.self.invariant in
+    subst (λ t. AreSpelled (places_of c.in-Some.members) (term_names t)) c.self.view_is are
