@@ -26,7 +26,8 @@ pub mod denote_core {
 /// What the crates above name of `go_embed_core`.
 pub mod embed_core {
     pub use go_mset_core::embed_core::{
-        Hits, MemberFault, check_base, check_hidden_fields, check_methods, check_struct, has_method,
+        Hits, MemberFault, check_base, check_hidden_fields, check_methods, check_struct,
+        has_own_method,
     };
 }
 

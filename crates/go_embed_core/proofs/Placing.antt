@@ -5,8 +5,8 @@ use Rattle.std.specs.List.{list_any}
 use Rattle.std.specs.Str.{bytes_eq, chars}
 use Rattle.std.proofs.lemmas.Bool.{true≢false}
 use Rattle.std.proofs.lemmas.Slice.Eq.{bytes_eq-Decides}
-use Rattle.go_text_core.specs.Text.{exported}
-use Rattle.go_type_core.specs.term_core.Terms.{Term, NoType, Predeclared, ErrorType, Defined, PointerTo, StructOf, InterfaceOf, Fields, NoField, AField, Methods, NoMethod, AMethod}
+use Rattle.go_term_core.specs.text_core.Text.{exported}
+use Rattle.go_term_core.specs.Terms.{Term, NoType, Predeclared, ErrorType, Defined, PointerTo, StructOf, InterfaceOf, Fields, NoField, AField, Methods, NoMethod, AMethod}
 use Rattle.go_index_core.specs.declared.spellings.Spelling.{Spelling}
 use Rattle.go_index_core.specs.Spelled.{spelling, joined, spelled_if, spelled_from, spelled, spelled_in, AreSpelled}
 use Rattle.go_type_core.specs.table_core.Entries.{Member, same_id, has_method}

@@ -1,6 +1,6 @@
 //! The members of types that have many, by an index of their names.
 ghost use Rattle.std.specs.Prelude.{◌≡◌, ◌&&◌, is_some, map, option_map, slice_get};
-ghost use Rattle.go_type_core.specs.term_core.Shapes.{line_at, line_shapes, shape, sign_of};
+ghost use Rattle.go_term_core.specs.Shapes.{line_at, line_shapes, shape, sign_of};
 ghost use Rattle.go_index_core.specs.Spelled.{AreSpelled, places_of, spelled_in};
 ghost use Rattle.go_type_core.specs.table_core.Entries.{same_id};
 ghost use Rattle.go_type_core.specs.table_core.MemberNames.{term_names};
@@ -10,9 +10,9 @@ ghost use Rattle.go_embed_core.specs.mirrors.Tallies.{hits_shown, tallies, tally
 
 use crate::member::{Hits, Member, error_hit, is_same_id};
 use go_index_core::Spellings;
+use go_term_core::FieldLine;
 use go_type_core::path_core::ImportPath;
 use go_type_core::table_core::StructField;
-use go_type_core::term_core::FieldLine;
 use go_type_core::{DeclaredMethod, Field, Method, TypeTerm};
 
 /// Where the members of a list stand that an identifier names.

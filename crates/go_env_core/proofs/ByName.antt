@@ -4,13 +4,13 @@ use Rattle.std.specs.Prelude.{option_map}
 use Rattle.std.specs.Str.{bytes_eq}
 use Rattle.std.proofs.lemmas.Bool.{true≢false}
 use Rattle.std.proofs.lemmas.Slice.Eq.{bytes_eq-Decides}
-use Rattle.go_expr_core.specs.term_core.Terms.{Term, StructOf, Fields, NoField, AField}
+use Rattle.go_term_core.specs.Terms.{Term, StructOf, Fields, NoField, AField}
 use Rattle.go_index_core.specs.declared.spellings.Spelling.{Spelling}
 use Rattle.go_index_core.specs.Spelled.{joined, spelled_if, spelled_from, spelled, spelled_in, AreSpelled}
-use Rattle.go_inline_core.specs.table_core.MemberNames.{field_names, term_names}
+use Rattle.go_face_core.specs.table_core.MemberNames.{field_names, term_names}
 use Rattle.go_face_core.specs.table_core.Shown.{hides_some}
-use Rattle.go_expr_core.specs.literal_core.Marks.{name_number_from}
-use Rattle.go_inline_core.specs.embed_core.Owners.{OwnerModel, nobody}
+use Rattle.go_top_core.specs.literal_core.Marks.{name_number_from}
+use Rattle.go_face_core.specs.embed_core.Owners.{OwnerModel, nobody}
 use Rattle.go_env_core.specs.Scenes.{SceneModel}
 use Rattle.go_env_core.specs.Fields.{TheField, fields_seen, term_seen}
 use Rattle.go_env_core.proofs.Seeing.{none_kept}

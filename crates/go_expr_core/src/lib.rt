@@ -42,7 +42,7 @@ pub mod denote_core {
 
 /// What the crates above name of `go_literal_core`.
 pub mod literal_core {
-    pub use go_literal_core::{Keys, LiteralField, Literals, keys_among};
+    pub use go_literal_core::{Keys, LiteralField, Literals, first_named, keys_among};
 }
 
 /// What the crates above name of `go_local_core`.

@@ -5,6 +5,7 @@ pub use Rattle.go_handle_core.specs.table_core.Entries as Entries
 pub use Rattle.go_handle_core.specs.table_core.Finding as Finding
 pub use Rattle.go_handle_core.specs.table_core.Laws as Laws
 pub use Rattle.go_handle_core.specs.table_core.Meanings as Meanings
+pub use Rattle.go_handle_core.specs.table_core.MemberNames as MemberNames
 pub use Rattle.go_handle_core.specs.table_core.Methods as Methods
 pub use Rattle.go_handle_core.specs.table_core.Shown as Shown
 pub use Rattle.go_handle_core.specs.table_core.Tables as Tables

@@ -6,6 +6,7 @@ pub use Rattle.go_embed_core.specs.table_core.Finding as Finding
 pub use Rattle.go_embed_core.specs.table_core.Keys as Keys
 pub use Rattle.go_embed_core.specs.table_core.Laws as Laws
 pub use Rattle.go_embed_core.specs.table_core.Meanings as Meanings
+pub use Rattle.go_embed_core.specs.table_core.MemberNames as MemberNames
 pub use Rattle.go_embed_core.specs.table_core.Methods as Methods
 pub use Rattle.go_embed_core.specs.table_core.Nesting as Nesting
 pub use Rattle.go_embed_core.specs.table_core.Shown as Shown

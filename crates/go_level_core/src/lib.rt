@@ -21,7 +21,7 @@ pub use trails::Trails;
 pub mod embed_core {
     pub use go_embed_core::{
         Hits, Member, MemberFault, Owner, check_base, check_hidden_fields, check_methods,
-        check_struct, has_method,
+        check_struct, has_own_method,
     };
 }
 

@@ -20,7 +20,8 @@ pub use listing::{selectable, selections};
 /// What the crates above name of `go_embed_core`.
 pub mod embed_core {
     pub use go_level_core::embed_core::{
-        Hits, MemberFault, check_base, check_hidden_fields, check_methods, check_struct, has_method,
+        Hits, MemberFault, check_base, check_hidden_fields, check_methods, check_struct,
+        has_own_method,
     };
 }
 

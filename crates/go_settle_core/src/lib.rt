@@ -32,5 +32,5 @@ pub mod path_core {
 
 /// What the crates above name of `go_text_core`.
 pub mod text_core {
-    pub use go_term_core::text_core::{Name, is_exported};
+    pub use go_term_core::text_core::{Name, add, is_exported};
 }

@@ -2,9 +2,9 @@
 use Rattle.std.proofs.Common.{◌≡◌, ℕ, ◌+◌, ◌<◌, ◌≤◌, List, [], ◌∷◌, ◌++◌, length, map, drop, get_or, refl, sym, ap, ◌∙◌}
 use Rattle.std.specs.Borrow.{Bor}
 use Rattle.std.proofs.lemmas.List.{append_assoc, append-nil, map-append, drop_more, drop_all}
-use Rattle.go_settle_core.specs.term_core.declared.term.Field.{Field}
-use Rattle.go_settle_core.specs.term_core.declared.term.Method.{Method}
-use Rattle.go_settle_core.specs.term_core.Shapes.{Line, fields_in, method_shapes}
+use Rattle.go_term_core.specs.declared.term.Field.{Field}
+use Rattle.go_term_core.specs.declared.term.Method.{Method}
+use Rattle.go_term_core.specs.Shapes.{Line, fields_in, method_shapes}
 use Rattle.go_table_core.specs.declared.entry.DeclaredMethod.{DeclaredMethod}
 use Rattle.go_table_core.specs.Shown.{member_shown}
 use Rattle.go_table_core.specs.MemberNames.{field_names, method_names}

@@ -1,13 +1,13 @@
 //! Types with an index of their members by name.
 ghost use Rattle.std.specs.Prelude.{◌≡◌, IfOk, IfSome, map};
-ghost use Rattle.go_settle_core.specs.term_core.Shapes.{shape};
+ghost use Rattle.go_term_core.specs.Shapes.{shape};
 ghost use Rattle.go_index_core.specs.Spelled.{AreSpelled, places_of};
 ghost use Rattle.go_table_core.specs.MemberNames.{term_names};
 
 use crate::entry::DeclaredMethod;
 use go_index_core::Spellings;
-use go_settle_core::term_core::{Field, Method, TypeTerm};
-use go_text_core::add;
+use go_settle_core::text_core::add;
+use go_term_core::{Field, Method, TypeTerm};
 use std::alloc::{AllocError, Global};
 use std::marker::Model;
 
@@ -32,9 +32,9 @@ impl Drop for IndexedTerm {
 
 impl Model for IndexedTerm {
     ghost use Rattle.std.specs.Prelude.{IfSome};
-    ghost use Rattle.go_settle_core.specs.term_core.Terms.{Term};
-    ghost use Rattle.go_settle_core.specs.term_core.codes.TermCodes.{coded_term};
-    ghost use Rattle.go_settle_core.specs.term_core.Shapes.{shape};
+    ghost use Rattle.go_term_core.specs.Terms.{Term};
+    ghost use Rattle.go_term_core.specs.codes.TermCodes.{coded_term};
+    ghost use Rattle.go_term_core.specs.Shapes.{shape};
     ghost use Rattle.go_index_core.specs.Spelled.{AreSpelled, places_of};
     ghost use Rattle.go_table_core.specs.MemberNames.{term_names};
 

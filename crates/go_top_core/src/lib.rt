@@ -30,7 +30,7 @@ pub mod inline_core {
 
 /// What the crates above name of `go_literal_core`.
 pub mod literal_core {
-    pub use go_piece_core::literal_core::{LiteralField, Literals};
+    pub use go_piece_core::literal_core::{LiteralField, Literals, first_named};
 }
 
 /// What the crates above name of `go_local_core`.

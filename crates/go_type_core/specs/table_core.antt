@@ -4,8 +4,8 @@ pub use Rattle.go_table_core.proofs.ByRule as ByRule
 pub use Rattle.go_table_core.specs.Entries as Entries
 pub use Rattle.go_table_core.proofs.Finding as Finding
 pub use Rattle.go_table_core.proofs.Keys as Keys
-pub use Rattle.go_table_core.proofs.Listing as Listing
 pub use Rattle.go_table_core.specs.Laws as Laws
+pub use Rattle.go_table_core.proofs.Listing as Listing
 pub use Rattle.go_table_core.proofs.Meanings as Meanings
 pub use Rattle.go_table_core.specs.MemberNames as MemberNames
 pub use Rattle.go_table_core.specs.Methods as Methods

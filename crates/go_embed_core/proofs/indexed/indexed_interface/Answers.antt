@@ -1,5 +1,5 @@
 use Rattle.std.proofs.Common.{◌∙◌}
-use Rattle.go_type_core.specs.term_core.Shapes.{sign_of}
+use Rattle.go_term_core.specs.Shapes.{sign_of}
 use Rattle.go_index_core.specs.Spelled.{places_of}
 use Rattle.go_embed_core.specs.declared.indexed.Place.TheVariants as places
 use Rattle.go_embed_core.specs.Owners.{AnInterfaces}

@@ -1,7 +1,7 @@
 use Rattle.std.proofs.Common.{map, ap, sym, subst, ◌∙◌}
 use Rattle.std.specs.Prelude.{IfOk, IfSome}
-use Rattle.go_settle_core.specs.term_core.Shapes.{shape, line_shapes}
-use Rattle.go_settle_core.specs.term_core.TermShapes.{shape_struct, shape_interface}
+use Rattle.go_term_core.specs.Shapes.{shape, line_shapes}
+use Rattle.go_term_core.proofs.TermShapes.{shape_struct, shape_interface}
 use Rattle.go_index_core.specs.Spelled.{AreSpelled, places_of}
 use Rattle.go_table_core.specs.MemberNames.{term_names}
 use Rattle.go_table_core.proofs.Listing.{fields_are, methods_are}

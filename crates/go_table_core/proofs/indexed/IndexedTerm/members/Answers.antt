@@ -1,6 +1,6 @@
 use Rattle.std.proofs.Common.{subst}
 use Rattle.std.specs.Prelude.{Option, IfSome}
-use Rattle.go_settle_core.specs.term_core.Shapes.{shape}
+use Rattle.go_term_core.specs.Shapes.{shape}
 use Rattle.go_index_core.specs.declared.spellings.Spellings.{Spellings}
 use Rattle.go_index_core.specs.Spelled.{AreSpelled, places_of}
 use Rattle.go_table_core.specs.MemberNames.{term_names}
