@@ -1,7 +1,6 @@
 -- What an index of names says of the members of a list.
-use Rattle.std.proofs.Common.{◌≡◌, ℕ, zero, suc, ◌+◌, Bool, true, false, ◌&&◌, ◌||◌, List, [], ◌∷◌, map, Option, Some, None, is_some, if◌then◌else◌, refl, sym, ap, ◌∙◌, subst, arith}
+use Rattle.std.proofs.Common.{◌≡◌, ℕ, zero, suc, ◌+◌, Bool, true, false, ◌&&◌, ◌||◌, List, [], ◌∷◌, map, Option, Some, None, is_some, if◌then◌else◌, refl, sym, ap, ◌∙◌, arith}
 use Rattle.std.specs.Prelude.{slice_get, option_map, codes}
-use Rattle.std.specs.List.{list_any}
 use Rattle.std.specs.Str.{bytes_eq, chars}
 use Rattle.std.proofs.lemmas.Bool.{true≢false}
 use Rattle.std.proofs.lemmas.Slice.Eq.{bytes_eq-Decides}
@@ -14,7 +13,7 @@ use Rattle.go_type_core.specs.table_core.MemberNames.{field_names, method_names,
 use Rattle.go_embed_core.specs.declared.indexed.Place.{Place}
 use Rattle.go_embed_core.specs.declared.indexed.Place.TheVariants as places
 use Rattle.go_embed_core.specs.Owners.{Found, fields_found, methods_found, declared_found, term_found, is_spelled_in, nobody}
-use Rattle.go_embed_core.specs.mirrors.Places.{spelled_place, place_found, hit_found, tally_at}
+use Rattle.go_embed_core.specs.mirrors.Places.{place_found, hit_found, tally_at}
 use Rattle.go_embed_core.specs.mirrors.Tallies.{Tally, NoHit, OneHit, ManyHits, together, hit_if, tallies}
 
 same_bytes : (x y : List ℕ) → bytes_eq x y ≡ true → x ≡ y
