@@ -1,24 +1,24 @@
 #!/usr/bin/env python3
-"""Builds the libraries of the repository as the gate does, side by side, for whoever works on it: python3 tools/base.py all [LANES]
+"""Proves the crates of the repository as the gate does, side by side, for whoever works on it: python3 tools/base.py all [LANES]
 
-    python3 tools/base.py all [LANES]      every library whose sources changed, those with the longest chain behind them first; goes on as files change
+    python3 tools/base.py all [LANES]      every crate whose sources changed, those with the longest chain behind them first; goes on as files change
     python3 tools/base.py program NAME     the libraries below a program, and then the program; `./govisd --build` calls it
-    python3 tools/base.py one NAME [JOBS]  one crate, as the gate proves it; of a program the program
     python3 tools/base.py check NAME ..    `rt check` of a crate over what is built so, with rattle's flags, as --only F and --allow-holes
-    python3 tools/base.py status           the libraries that are built of the sources as they stand
+    python3 tools/base.py status           the crates that are proved as they stand
 
-It uses the kit's own `rt`, with two of its calls replaced: what lies below a crate, and the sum of a crate's sources, are found once, where rattle-kit-13b
-goes down every path of crates.txt for them. So it gives no verdict: `rt ci` is the judge. Libraries are built with their statements alone, as in the gate.
-Crates on the longest chain get three jobs and a better priority. Logs lie in .git/base.
+It calls the kit's own `rt` for each step of the gate, and keeps what passes where `rt ci` keeps it: a gate on this machine takes it from there. It gives no
+verdict: `rt ci` is the judge. Crates on the longest chain get three jobs and a better priority. Logs lie in .git/base.
 """
-import hashlib
+import contextlib
 import importlib.machinery
 import importlib.util
+import json
 import os
 import re
 import shutil
 import subprocess
 import sys
+import threading
 import time
 
 ROOT = os.path.dirname(os.path.dirname(os.path.abspath(__file__)))
@@ -37,7 +37,6 @@ def load():
 sys.dont_write_bytecode = True
 rt = load()
 rtlib = rt.rtlib
-sums = {}
 
 
 def below(crate):
@@ -50,46 +49,164 @@ def below(crate):
     return crate.__dict__["libraries"]
 
 
-def stamp(crate):
-    """The sum of what a crate is made from."""
-    if crate.name not in sums:
-        found = hashlib.sha256(repr(crate.said).encode())
-        for file in rtlib.files_of(crate.folder):
-            with open(file, "rb") as it:
-                found.update(file.removeprefix(crate.folder).encode() + it.read())
-        for dep in crate.deps:
-            found.update(dep.stamp().encode())
-        sums[crate.name] = found.hexdigest()
-    return sums[crate.name]
-
-
 def crates():
-    rtlib.Crate.below, rtlib.Crate.stamp, rtlib.Crate = below, stamp, rt.Crate
+    """The crates of the repository by their names, from the bottom up."""
+    rt.Crate.below, rt.Crate.cuts_libraries, rtlib.Crate = below, True, rt.Crate
     rtlib.listed.cache_clear()
-    sums.clear()
     rt.Crate.allowed = rt.handles_of(ROOT)
-    return {it.name: it for it in rtlib.crates_below(ROOT)}
+    return {it.name: it for it in sorted(rtlib.crates_below(ROOT), key=lambda it: len(it.below()))}
+
+
+def stamps(there):
+    """Of each crate the sum of its sources and of those below it."""
+    seen = {}
+    return {name: rt.stamp_of(crate, seen) for name, crate in there.items()}
+
+
+def seconds():
+    """What the crates took when they were measured, or by their lines."""
+    found = {}
+    for row in re.findall(r"\| `(\w+)` \| ([\d,]+) / [\d,]+ / [\d,]+ \| (\d*) \|", rtlib.text_of(f"{ROOT}/docs/PROVING.md")):
+        found[row[0]] = int(row[2]) if row[2] else 40 + int(row[1].replace(",", "")) // 6
+    return found
+
+
+class Proof:
+    """The proof of one crate, as the gate makes it, over libraries that are built."""
+
+    def __init__(self, crate, sums):
+        self.crate, self.kept, self.sums = crate, rt.Kept([crate, *crate.below()]), sums
+
+    def note(self, crate):
+        """Notes the sum of a library that is built, which is found once for each build."""
+        mark = repr(self.kept.mark(crate))
+        if self.sums.get(crate.name, ("",))[0] == mark:
+            self.kept.rlibs[crate.name], self.kept.marks[crate.name] = self.sums[crate.name][1], self.kept.mark(crate)
+        else:
+            self.kept.is_built(crate)
+            self.sums[crate.name] = mark, self.kept.rlibs[crate.name]
+
+    def stands(self, key):
+        """Whether what was kept under the key stands in the crate's out/."""
+        with contextlib.suppress(OSError, ValueError, KeyError):
+            made = json.loads(rtlib.text_of(f"{self.kept.place(self.crate, False, key)}/made.json"))
+            names = [it for it, _ in made["files"]]
+            return names == self.kept.made(self.crate, False) and all(rtlib.sum_of(f"{self.crate.folder}/out/{it}") == sum for it, sum in made["files"])
+        return False
+
+    def is_given(self, key):
+        """Whether an earlier run proved the same: what it made is put into out/."""
+        if not os.path.isdir(self.kept.place(self.crate, False, key)):
+            return False
+        # what is there would be taken for damage
+        shutil.rmtree(f"{self.crate.folder}/out/rlib", ignore_errors=True)
+        return self.kept.give(self.crate, False, key)
+
+    def is_proved(self, jobs):
+        rtlib.stop_on_links(self.crate.folder)
+        rtlib.stop_on_text(self.crate, "verdict")
+        rt.stop_on_words(self.crate)
+        return not rtlib.fmt(self.crate.folder, "--check", self.crate.out) and not self.crate.ci(["--jobs", str(jobs)], False)
+
+    def run(self, jobs):
+        os.makedirs(f"{self.crate.folder}/out", exist_ok=True)
+        for it in self.crate.below():
+            self.note(it)
+        key = self.kept.key(self.crate)
+        if self.stands(key) or self.is_given(key):
+            return True
+        if not self.is_proved(jobs):
+            return False
+        if not self.crate.is_program:
+            self.kept.is_built(self.crate)
+        self.kept.keep(self.crate, False, key)
+        return True
+
+
+class Base:
+    def __init__(self, lanes, wanted=None):
+        self.lanes, self.wanted, self.took, self.sums = lanes, wanted, seconds(), {}
+        self.running, self.failed, self.proved, self.lock = {}, {}, {}, threading.Lock()
+
+    def behind(self, there):
+        """Of each crate the seconds of the longest chain that begins with it."""
+        found = {it: 0 for it in there}
+        for crate in reversed([*there.values()]):
+            found[crate.name] += self.took.get(crate.name, 100)
+            for dep in crate.deps:
+                found[dep.name] = max(found[dep.name], found[crate.name])
+        return found
+
+    def prove(self, crate, stamp, jobs, priority):
+        start, is_proved = time.time(), False
+        os.setpriority(os.PRIO_PROCESS, threading.get_native_id(), max(priority, -20) if os.geteuid() == 0 else 0)
+        with open(f"{LOGS}/{crate.name}", "w+", encoding="utf-8", errors="replace") as crate.out:
+            with contextlib.suppress(SystemExit):
+                is_proved = Proof(crate, self.sums).run(jobs)
+        with self.lock:
+            del self.running[crate.name]
+            (self.proved if is_proved else self.failed)[crate.name] = stamp
+        print(f"{time.strftime('%H:%M:%S')} {crate.name} {'ok' if is_proved else 'FAILED'} {time.time() - start:.0f} s", flush=True)
+
+    def step(self):
+        there = crates()
+        if self.wanted:
+            there = {it.name: it for it in [*there[self.wanted].below(), there[self.wanted]]}
+        now = stamps(there)
+        with self.lock:
+            proved, running = {it for it, of in self.proved.items() if now.get(it) == of}, {*self.running}
+        behind, left = self.behind(there), [it for it in there.values() if it.name not in proved]
+        fails = lambda it: self.failed.get(it.name) == now[it.name]
+        ready = [it for it in left if it.name not in running and not fails(it) and all(dep.name in proved for dep in it.below())]
+        most = max([behind[it.name] for it in left if not fails(it)], default=0)
+        for crate in sorted(ready, key=lambda it: -behind[it.name])[: max(self.lanes - len(running), 0)]:
+            is_first = behind[crate.name] >= 0.95 * most
+            given = crate, now[crate.name], 3 if is_first and self.took.get(crate.name, 0) > 120 else 1, -16 if is_first else -8
+            self.running[crate.name] = now[crate.name]
+            threading.Thread(target=self.prove, args=given, daemon=True).start()
+            print(f"{time.strftime('%H:%M:%S')} {crate.name} begins", flush=True)
+        self.count = f"{len(proved)} of {len(there)} crates are proved"
+        return bool(left)
+
+    def changes(self):
+        """Waits until a crate has ended, or a while."""
+        was, until = len(self.running), time.time() + 10
+        while len(self.running) == was and time.time() < until:
+            time.sleep(1)
+
+
+def everything(lanes="4"):
+    os.makedirs(LOGS, exist_ok=True)
+    rtlib.guarded()
+    base, had_work = Base(int(lanes)), True
+    while True:
+        has_work = base.step()
+        if had_work and not has_work:
+            print("all crates are proved", flush=True)
+        had_work = has_work
+        base.changes()
+
+
+def program(name, lanes="4"):
+    os.makedirs(LOGS, exist_ok=True)
+    rtlib.guarded()
+    base, start, said = Base(int(lanes), name), time.time(), None
+    while base.step():
+        now = f"{base.count}, {int(time.time() - start) // 60} minutes"
+        if now != said:
+            print(now, flush=True)
+        said = now
+        if base.failed and not base.running:
+            print(f"not proved: {' '.join(base.failed)}: {LOGS} has what was said", file=sys.stderr)
+            return 1
+        base.changes()
+    return 0
 
 
 def is_built(crate):
-    return os.path.isdir(crate.rlib) and rtlib.text_of(f"{crate.folder}/out/rlib/built") == crate.stamp()
-
-
-def one(name, jobs="1"):
-    rtlib.guarded()
-    rt.Crate.cuts_libraries = True
-    crate = crates()[name]
-    os.makedirs(f"{crate.folder}/out", exist_ok=True)
-    if crate.is_program:
-        return crate.ci(["--jobs", jobs], False)
-    was, folder = crate.stamp(), f"{crate.folder}/out/rlib"
-    shutil.rmtree(folder, ignore_errors=True)
-    os.makedirs(folder)
-    status = crate.prove(["build", *crate.words(["--jobs", jobs], keeps=False), "--statements", "-o", crate.rlib])
-    if not status and crates()[name].stamp() == was:
-        with open(f"{folder}/built", "w", encoding="utf-8") as it:
-            it.write(was)
-    return status
+    """Whether the crate's library is there, and none of its sources is newer."""
+    made = f"{crate.rlib}/format"
+    return os.path.exists(made) and all(os.stat(it).st_ctime <= os.stat(made).st_mtime for it in rtlib.files_of(crate.folder))
 
 
 def check(name, *flags):
@@ -102,94 +219,21 @@ def check(name, *flags):
     return crate.check([*flags, *([] if "--jobs" in flags else ["--jobs", "1"])])
 
 
-def seconds():
-    """What the crates took when they were measured, or by their lines."""
-    found = {}
-    for row in re.findall(r"\| `(\w+)` \| ([\d,]+) / [\d,]+ / [\d,]+ \| (\d*) \|", rtlib.text_of(f"{ROOT}/docs/PROVING.md")):
-        found[row[0]] = int(row[2]) if row[2] else 40 + int(row[1].replace(",", "")) // 6
-    return found
-
-
-class Base:
-    def __init__(self, lanes, wanted=None):
-        self.lanes, self.running, self.failed, self.took, self.wanted = lanes, {}, {}, seconds(), wanted
-
-    def behind(self, libraries):
-        """Of each library the seconds of the longest chain that begins with it."""
-        found = {it.name: 0 for it in libraries}
-        for crate in reversed(libraries):
-            found[crate.name] += self.took.get(crate.name, 100)
-            for dep in crate.deps:
-                found[dep.name] = max(found[dep.name], found[crate.name])
-        return found
-
-    def end(self):
-        for name, (ran, start, was) in [*self.running.items()]:
-            if ran.poll() is not None:
-                del self.running[name]
-                print(f"{time.strftime('%H:%M:%S')} {name} {'FAILED' if ran.returncode else 'ok'} {time.time() - start:.0f} s", flush=True)
-                if ran.returncode:
-                    self.failed[name] = was
-
-    def begin(self, crate, is_first):
-        words = ["nice", "-n", "-10" if is_first else "0", sys.executable, os.path.abspath(__file__), "one", crate.name]
-        words += ["3" if is_first and self.took.get(crate.name, 0) > 120 else "1"]
-        with open(f"{LOGS}/{crate.name}", "w", encoding="utf-8") as log:
-            ran = subprocess.Popen(words, stdout=log, stderr=subprocess.STDOUT, stdin=subprocess.DEVNULL)
-        self.running[crate.name] = ran, time.time(), crate.stamp()
-        print(f"{time.strftime('%H:%M:%S')} {crate.name} begins", flush=True)
-
-    def step(self):
-        self.end()
-        there = crates()
-        below = {it.name for it in there[self.wanted].below()} if self.wanted else {*there}
-        libraries = sorted((it for it in there.values() if not it.is_program and it.name in below), key=lambda it: len(it.below()))
-        built = {it.name for it in libraries if is_built(it)}
-        behind = self.behind(libraries)
-        left = [it for it in libraries if it.name not in built]
-        ready = [it for it in left if it.name not in self.running and self.failed.get(it.name) != it.stamp() and all(d.name in built for d in it.below())]
-        most = max([behind[it.name] for it in left], default=0)
-        for crate in sorted(ready, key=lambda it: -behind[it.name])[: max(self.lanes - len(self.running), 0)]:
-            self.begin(crate, behind[crate.name] >= 0.85 * most)
-        self.count = f"{len(libraries) - len(left)} of {len(libraries)} crates are proved"
-        return bool(left)
-
-
-def everything(lanes="4"):
-    os.makedirs(LOGS, exist_ok=True)
-    base, had_work = Base(int(lanes)), True
-    while True:
-        has_work = base.step()
-        if had_work and not has_work:
-            print("all libraries are built", flush=True)
-        had_work = has_work
-        time.sleep(3)
-
-
-def program(name, lanes="4"):
-    os.makedirs(LOGS, exist_ok=True)
-    base, start, said = Base(int(lanes), name), time.time(), None
-    while base.step():
-        now = f"{base.count}, {int(time.time() - start) // 60} minutes"
-        if now != said:
-            print(now, flush=True)
-        said = now
-        if base.failed and not base.running:
-            print(f"not proved: {' '.join(base.failed)}: {LOGS} has what was said", file=sys.stderr)
-            return 1
-        time.sleep(3)
-    print(f"{base.count}, and now {name}", flush=True)
-    return one(name, lanes)
-
-
 def status():
-    built = [it for it in crates().values() if not it.is_program and is_built(it)]
-    print("\n".join(it.name for it in built))
+    there, sums, proved = crates(), {}, set()
+    for crate in there.values():
+        if not crate.is_program and all(it.name in proved for it in crate.below()) and is_built(crate):
+            proof = Proof(crate, sums)
+            for it in crate.below():
+                proof.note(it)
+            if proof.stands(proof.kept.key(crate)):
+                proved.add(crate.name)
+    print("\n".join(proved))
 
 
 def main(words):
     os.chdir(ROOT)
-    verbs = {"all": everything, "program": program, "one": one, "check": check, "status": status}
+    verbs = {"all": everything, "program": program, "check": check, "status": status}
     if not words or words[0] not in verbs:
         sys.exit(__doc__)
     sys.exit(verbs[words[0]](*words[1:]) or 0)
