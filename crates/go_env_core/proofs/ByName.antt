@@ -4,13 +4,17 @@ use Rattle.std.specs.Prelude.{option_map}
 use Rattle.std.specs.Str.{bytes_eq}
 use Rattle.std.proofs.lemmas.Bool.{true≢false}
 use Rattle.std.proofs.lemmas.Slice.Eq.{bytes_eq-Decides}
-use Rattle.go_term_core.specs.Terms.{Term, StructOf, Fields, NoField, AField}
+use Rattle.go_term_core.specs.Terms.{Term, Defined, StructOf, Fields, NoField, AField}
 use Rattle.go_index_core.specs.declared.spellings.Spelling.{Spelling}
 use Rattle.go_index_core.specs.Spelled.{joined, spelled_if, spelled_from, spelled, spelled_in, AreSpelled}
+use Rattle.go_term_core.specs.decl_core.declared.keys.DeclKey.{DeclKey}
+use Rattle.go_face_core.specs.table_core.Entries.{Entry, find_entry, methods_in, term_in}
 use Rattle.go_face_core.specs.table_core.MemberNames.{field_names, term_names}
 use Rattle.go_face_core.specs.table_core.Shown.{hides_some}
+use Rattle.go_face_core.specs.table_core.Tables.{IsPlaceOf}
 use Rattle.go_top_core.specs.literal_core.Marks.{name_number_from}
-use Rattle.go_face_core.specs.embed_core.Owners.{OwnerModel, nobody}
+use Rattle.go_face_core.specs.embed_core.Owners.{OwnerModel, nobody, owner_in}
+use Rattle.go_face_core.specs.embed_core.OwnersShown.{entry_owner}
 use Rattle.go_env_core.specs.Scenes.{SceneModel}
 use Rattle.go_env_core.specs.Fields.{TheField, fields_seen, term_seen}
 use Rattle.go_env_core.proofs.Seeing.{none_kept}
@@ -53,3 +57,12 @@ struct_names s o home fs t is off =
     ap term_names is
     ∙ (names_seen s home fs
     ∙ (ap (λ u. map (λ (f : TheField). f.name) (term_seen s nobody u)) (sym is) ∙ ap (map (λ (f : TheField). f.name)) (none_kept s o t off)))
+
+-- a defined type that a table has is what its key stands for
+
+pub found_owner : (es : List Entry) (k : DeclKey) (n : ℕ) (d : Entry) → IsPlaceOf es k n → find_entry es k ≡ Some d → entry_owner d ≡ owner_in (find_entry es) (Defined k)
+found_owner es k n d place found =
+    let is : Some place.0 ≡ Some d = sym place.2 ∙ found in
+    let same : place.0 ≡ d = cc in
+    let own : d.key ≡ k = ap (λ (e : Entry). e.key) (sym same) ∙ place.3 in
+    λ i. record { path = (own i).path; methods = methods_in (sym found i); underlying = term_in (sym found i) }
