@@ -121,15 +121,15 @@ told_none zero = refl
 told_none (suc count) = ap (λ l. None ∷ l) (told_none count)
 
 pub kept_begun : (ps : List PackageModel) (plan : PlanModel) (sets : List Numbers) (turns : TurnsModel) (slots : List Slot) (parts : List (Option PartModel)) (told : List (Option SummaryModel)) (untold : List Tell) (room left : ℕ) → IsPlanned ps plan sets → AreOrdered (length ps) plan.order slots → AreImporters plan turns.needing → length turns.needing ≡ length plan.outcomes → turns.marks ≡ map mark_of slots → parts ≡ replicate (length ps) None → told ≡ replicate (length ps) None → left ≡ unfinished slots → untold ≡ [] → left ≤ room → IsKept ps plan sets turns slots parts told untold room left
-kept_begun ps plan sets turns slots parts told untold room left plans ordered importers rows marked none nothing counts empty wide = record {
-  plans = plans;
+kept_begun ps plan sets turns slots parts told untold room left planned ordered importers rows marked none nothing counts empty wide = record {
+  plans = planned;
   importers = importers;
   rows = rows;
   marks = marked;
   right = record {
     many = ordered.many;
     many_parts = ap length none ∙ length-replicate {A = Option PartModel} (length ps) None;
-    each = λ n s e. begun_right ps plan slots parts n s plans.planned ordered none e (none_other (length ps) plan.order slots n s ordered e);
+    each = λ n s e. begun_right ps plan slots parts n s planned.planned ordered none e (none_other (length ps) plan.order slots n s ordered e);
   };
   tells = ap (with_tells told) empty ∙ nothing ∙ sym (told_none (length ps)) ∙ ap told_of (sym none);
   within = subst (AreWithin (length told)) (sym empty) (All-nil (λ (t : Tell). t.place < length told));
