@@ -1,3 +1,4 @@
+pub mod Begun
 pub mod Commits
 pub mod Growing
 pub mod Lists

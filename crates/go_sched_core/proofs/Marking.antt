@@ -1,5 +1,5 @@
 -- What the core keeps beside its state, as actions are handed out and finished, and batches are published.
-use Rattle.std.proofs.Common.{◌≡◌, ℕ, Bool, true, false, true≢false, List, [], set, Option, Some, None, refl, sym, ap, ◌∙◌, subst}
+use Rattle.std.proofs.Common.{◌≡◌, ℕ, Bool, true, false, true≢false, cond, List, [], set, Option, Some, None, refl, sym, ap, ◌∙◌, subst}
 use Rattle.std.specs.Prelude.{IfSome, slice_get}
 use Rattle.go_batch_core.specs.graph_core.Workspaces.{PackageModel}
 use Rattle.go_batch_core.specs.part_core.Inputs.{InputModel, path_in}
@@ -16,7 +16,8 @@ use Rattle.go_batch_core.specs.declared.slot.Slot.{Slot}
 use Rattle.go_batch_core.specs.declared.slot.Slot.TheVariants.{Taken}
 use Rattle.go_batch_core.proofs.Steadied.{steady_begun, steady_finished, steady_handed}
 use Rattle.go_sched_core.specs.Service.{Service}
-use Rattle.go_sched_core.specs.Steps.{IsFormed, with_batch}
+use Rattle.go_sched_core.specs.Steps.{IsFormed, IsKeptIf, with_batch}
+use Rattle.go_sched_core.specs.declared.event.Action.{Action}
 use Rattle.go_sched_core.specs.declared.change.Hand.{Hand}
 use Rattle.go_sched_core.specs.declared.running.Running.{Running}
 use Rattle.go_sched_core.specs.mirrors.Beside.{BeginsBeside, BeginsOf, IsKeptEnd, IsMove, IsMoveOf, IsPlannedFor, IsSteadyBeside, IsSteadyOf, SteadyRuns, finished, handed}
@@ -112,6 +113,17 @@ hand_known : (bs : List PublishedBatch) (b : BatchModel) (h : Hand) → IsHand b
 hand_known bs b h hand said =
     let k = hand.kept said in
     (k.0, k.3.0, k.3.1, k.3.2, k.2 ∙ sym hand.next.awaited)
+
+place_said : (kept : Bool) (o : Option ℕ) (place n : ℕ) → o ≡ cond kept (Some place) None → o ≡ Some n → (kept ≡ true) × (n ≡ place)
+place_said true o place n is e = (refl, (let both : Some n ≡ Some place = sym e ∙ is in cc))
+place_said false o place n is e = absurd (let no : Some n ≡ None = sym e ∙ is in cc)
+
+-- what an action says that is handed out
+pub kept_action : (bs : List PublishedBatch) (b : BatchModel) (h : Hand) (a : Action) → IsHand bs b h → a.kept ≡ cond h.kept (Some h.next.place) None → a.earlier ≡ h.earlier → a.input ≡ h.next.input → IsKeptIf a h.next.place
+kept_action bs b h a hand is earlier input n said =
+    let k = place_said h.kept a.kept h.next.place n is said in
+    let known = hand.kept k.0 in
+    record { number = k.1; part = known.0; earlier = earlier ∙ known.1; input = known.2 ∙ sym input }
 
 -- what is marked where an action is handed out
 pub steady_hand : (bs : List PublishedBatch) (b : BatchModel) (st : Option SteadyModel) (h : Hand) (number : ℕ) → IsSteadyBeside bs b st → IsHand bs b h

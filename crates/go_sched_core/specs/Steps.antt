@@ -54,6 +54,16 @@ pub record IsFormed (s : Service) (r : Running) : Type 0 where
 abbrev pub with_formed : Service → Running → Service
 with_formed s r = record s { waiting = []; generations = s.generations + 1; running = Some r }
 
+-- where an action says a number, it is that of its package, and the earlier part is made of its input
+pub record IsKeptAt (a : Action) (place n : ℕ) : Type 0 where
+  pub number : n ≡ place
+  pub part : PartModel
+  pub earlier : a.earlier ≡ Some part
+  pub input : part.input ≡ a.input
+
+abbrev pub IsKeptIf : Action → ℕ → Type 0
+IsKeptIf a place = (n : ℕ) → a.kept ≡ Some n → IsKeptAt a place n
+
 -- a ready action of the running batch is handed out
 pub record Acts (s : Service) (r : Running) (a : Action) (t : Service) : Type 0 where
   pub generation : a.generation ≡ r.generation
@@ -61,6 +71,7 @@ pub record Acts (s : Service) (r : Running) (a : Action) (t : Service) : Type 0 
   pub earlier : IsEarlierPart s.published (path_in a.input) a.earlier
   pub after : BatchModel
   pub handed : HandsOut r.batch a.number a.input after
+  pub kept : IsKeptIf a handed.place
   pub state : t ≡ counts (record s { actions = s.actions + 1; running = Some (with_batch r after) })
 
 -- the running batch, of which no action is left, is published

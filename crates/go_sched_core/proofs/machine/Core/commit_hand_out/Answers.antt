@@ -13,7 +13,7 @@ use Rattle.go_sched_core.specs.declared.event.Reply.TheVariants.{Act}
 use Rattle.go_sched_core.specs.declared.running.Running.{Running}
 use Rattle.go_sched_core.proofs.Commits.{acting}
 use Rattle.go_sched_core.proofs.Lists.{some_same}
-use Rattle.go_sched_core.proofs.Marking.{runs_with, steady_hand}
+use Rattle.go_sched_core.proofs.Marking.{kept_action, runs_with, steady_hand}
 use Rattle.go_sched_core.proofs.machine.Core.commit_hand_out.Goals as goal
 
 pub returns-clause-step : goal.returns-clause-step
@@ -35,6 +35,7 @@ returns-clause-step c =
       earlier = hand.earlier;
       after = after;
       handed = record { place = c.args.hand.next.place; ready = hand.next.ready; of_package = hand.next.input; slots = ap (λ i. batch_with r.batch.sources (slice_set r.batch.slots c.args.hand.next.place (Taken number i)) r.batch.parts) hand.next.awaited };
+      kept = kept_action s.published r.batch c.args.hand a hand c.place_if.ensures refl refl;
       state = ap (λ n. acting n c.hand_out-generation.new.running number V) c.counted-self-inside.ensures ∙ ap (λ o. acting (counted i.accepted) o number V) q.3 ∙ ap (λ (x : Service). acting (counted x.accepted) (Some (with_batch r after)) (x.actions + 1) x) c.self.view_is;
     } in
     subst (λ (o : Option Running). TakesOf o s (Act a) (acting c.counted-self-inside.result c.hand_out-generation.new.running number V)) (sym running) acts
