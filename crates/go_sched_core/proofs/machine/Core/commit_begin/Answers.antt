@@ -43,11 +43,11 @@ returns-clause-step c =
     let V : Service = record { accepted = i.accepted; opened = i.opened; held = i.held.items; tickets = i.tickets; waiting = i.waiting; generations = i.generations; actions = i.actions; running = i.running; published = i.published } in
     let number = i.actions + 1 in
     let a : Action = record { generation = c.hand_out_of.new.running.generation; number = number; input = h.next.input; earlier = h.earlier; kept = c.place_if.result } in
-    let t : Service = record { accepted = c.counted-self-inside.result; opened = i.opened; held = i.held.items; tickets = i.tickets; waiting = c.new-self-inside.result; generations = i.generations + 1; actions = number; running = Some c.hand_out_of.new.running; published = i.published } in
+    let t : Service = record { accepted = c.counted-self-inside.result; opened = i.opened; held = i.held.items; tickets = i.tickets; waiting = c.new.result; generations = i.generations + 1; actions = number; running = Some c.hand_out_of.new.running; published = i.published } in
     let said : a.number ≡ s.actions + 1 = ap (λ (x : Service). x.actions + 1) c.self.view_is in
     let state : t ≡ begun_with s r h.next.place (s.actions + 1) h.next.awaited =
-        ap (λ n. begun_record n c.new-self-inside.result (Some c.hand_out_of.new.running) V) c.counted-self-inside.ensures
-        ∙ ap (λ l. begun_record (counted i.accepted) l (Some c.hand_out_of.new.running) V) c.new-self-inside.ensures
-        ∙ ap (λ (x : Running). begun_record (counted i.accepted) [] (Some x) V) c.hand_out_of.ensures
-        ∙ ap (λ (x : Service). begun_record (counted x.accepted) [] (Some (with_batch r (batch_with r.batch.sources (slice_set r.batch.slots h.next.place (Taken (x.actions + 1) h.next.awaited)) r.batch.parts))) x) c.self.view_is in
+    ap (λ n. begun_record n c.new.result (Some c.hand_out_of.new.running) V) c.counted-self-inside.ensures
+    ∙ ap (λ l. begun_record (counted i.accepted) l (Some c.hand_out_of.new.running) V) c.new.ensures
+    ∙ ap (λ (x : Running). begun_record (counted i.accepted) [] (Some x) V) c.hand_out_of.ensures
+    ∙ ap (λ (x : Service). begun_record (counted x.accepted) [] (Some (with_batch r (batch_with r.batch.sources (slice_set r.batch.slots h.next.place (Taken (x.actions + 1) h.next.awaited)) r.batch.parts))) x) c.self.view_is in
     begun_step s r c.args.steady h a t c.requires (ap (λ (x : Running). x.generation) c.hand_out_of.ensures) said refl refl c.place_if.ensures state
