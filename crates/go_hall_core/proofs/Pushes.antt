@@ -35,10 +35,10 @@ same_by h n e false on off none never = (ap opens_in (off refl), ap submits_in (
 pub recorded_counts : (old new : Kept) (e : Event) (reply : Reply) → Recorded old e reply new → open_count e ≡ 0 → submit_count e ≡ 0 → (opens_in new.history ≡ opens_in old.history) × (submits_in new.history ≡ submits_in old.history)
 recorded_counts old new e reply r none never = same_by old.history new.history e (accepts reply) r.1 r.2 none never
 
--- the same where an action is finished by its earlier part, if there is one
-pub kept_counts : (old new : Kept) (number : ℕ) (o : Option Reply) → MatchOption o (new ≡ old) (λ reply. (part : PartModel) × Recorded old (Finish number part) reply new) → (opens_in new.history ≡ opens_in old.history) × (submits_in new.history ≡ submits_in old.history)
+-- the same where an action is finished by its earlier part, if it is
+pub kept_counts : (old new : Kept) (number : ℕ) (o : Option Reply) → MatchOption o (new ≡ old) (λ reply. (part : PartModel) × (accepts reply ≡ true) × Recorded old (Finish number part) reply new) → (opens_in new.history ≡ opens_in old.history) × (submits_in new.history ≡ submits_in old.history)
 kept_counts old new number None same = (ap (λ (k : Kept). opens_in k.history) same, ap (λ (k : Kept). submits_in k.history) same)
-kept_counts old new number (Some reply) r = recorded_counts old new (Finish number r.0) reply r.1 refl refl
+kept_counts old new number (Some reply) r = recorded_counts old new (Finish number r.0) reply r.2 refl refl
 
 -- an open that was accepted: there is a part for it
 pub opened_room : (old new : Kept) (m : List ℕ) (id : SessionId) (parts all : ℕ) → ((old.stopped ≡ false) × Recorded old (Open m) (Opened id) new) → length new.history ≤ 1048576 → parts + opens_in old.history ≡ all → 1048576 < all → (1 ≤ parts) × (opens_in new.history ≡ opens_in old.history + 1) × (submits_in new.history ≡ submits_in old.history)

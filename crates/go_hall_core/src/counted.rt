@@ -2,8 +2,8 @@
 ghost use Rattle.std.specs.Prelude.{◌≡◌, ◌⊎◌, ℕ, ◌<◌, ◌+◌, [], false, true, IfErr, IfOk, MatchOption, OnErr, OnOk, length};
 ghost use Rattle.go_board_core.specs.part_core.Parts.{PartModel};
 ghost use Rattle.std.specs.List.{sum_by};
-ghost use Rattle.go_sched_core.specs.Service.{Service, empty, open_rule, submit_rule};
-ghost use Rattle.go_sched_core.specs.Steps.{Replay};
+ghost use Rattle.go_sched_core.specs.Service.{Service, empty, open_rule, submit_rule, ticket_of};
+ghost use Rattle.go_sched_core.specs.Steps.{Replay, accepts};
 ghost use Rattle.go_hall_core.specs.Counts.{opens_in, submits_in};
 ghost use Rattle.go_hall_core.specs.Kept.{IsRefusal, Recorded};
 
@@ -158,7 +158,7 @@ impl<L: Named> Counted<L> {
 
     /// As `HallState::finish_kept`.
     pub fn finish_kept<R: Wait>(&mut self, rt: &R, place: usize, number: u64) -> Option<Reply>
-        ensures { MatchOption result (self.new ≡ self.old) (λ reply. (part : PartModel) × Recorded self.old (Event.Finish number part) reply self.new) }
+        ensures { MatchOption result (self.new ≡ self.old) (λ reply. (part : PartModel) × (accepts reply ≡ true) × Recorded self.old (Event.Finish number part) reply self.new) }
     {
         self.state.finish_kept(rt, place, number)
     }
@@ -182,7 +182,10 @@ impl<L: Named> Counted<L> {
         self.state.is_stopped()
     }
 
-    pub fn ticket(&self, ticket: Ticket) -> Option<TicketState> {
+    /// As `HallState::ticket`.
+    pub fn ticket(&self, ticket: Ticket) -> Option<TicketState>
+        ensures { result ≡ ticket_of self.now.service ticket.0 }
+    {
         self.state.ticket(ticket)
     }
 

@@ -63,23 +63,20 @@ fn committed(core: &mut Core, history: &mut Vec<Event>, ready: Ready, event: Eve
     reply
 }
 
-// The same of the end of an action of this number, whose part the core has.
+// The same of a step whose event no one else has.
 #[tactic(auto, using(crate::proofs::Replays::replay_more))]
-fn finished(core: &mut Core, history: &mut Vec<Event>, ready: Ready, number: u64) -> Reply
+fn written(core: &mut Core, history: &mut Vec<Event>, ready: Ready) -> Reply
     requires from { ready.from ≡ core.old }
-    requires event { (part : PartModel) × (ready.event ≡ Event.Finish number part) }
     requires room { vec_len history.old < vec_capacity history.old }
     requires replays { Replay empty history.old.items core.old }
-    ensures step { (part : PartModel) × (history.new.items ≡ history.old.items ++ Event.Finish number part ∷ []) × Step core.old (Event.Finish number part) result core.new }
+    ensures step { Step core.old ready.event result core.new }
     ensures accepted { accepts result ≡ true }
-    ensures held { core.new.held ≡ core.old.held }
     ensures published { core.new.published ≡ ready.batches }
     ensures replays { Replay empty history.new.items core.new }
+    ensures items { history.new.items ≡ history.old.items ++ ready.event ∷ [] }
     ensures len { vec_len history.new ≡ vec_len history.old + 1 }
     ensures room { vec_capacity history.new ≡ vec_capacity history.old }
 {
-    // The number is what the event is known by.
-    let _ = number;
     let Committed { event, reply } = core.commit_with_event(ready);
     history.push_reserved(event);
     reply
@@ -202,19 +199,18 @@ impl HallState {
     /// handed in, so that nothing is compared. None where there is no such action, and where memory is wanting: nothing changed then. A publication waits
     /// for readers.
     pub fn finish_kept<R: Wait>(&mut self, rt: &R, place: usize, number: u64) -> Option<Reply>
-        ensures { MatchOption result (self.new ≡ self.old) (λ reply. (part : PartModel) × Recorded self.old (Event.Finish number part) reply self.new) }
+        ensures { MatchOption result (self.new ≡ self.old) (λ reply. (part : PartModel) × (accepts reply ≡ true) × Recorded self.old (Event.Finish number part) reply self.new) }
     {
         let Ok(()) = self.history.reserve(self.core.sessions() + 3) else {
             return None;
         };
-        let ready = match self.core.prepare_kept(place, number)? {
-            Ok(ready) => ready,
-            Err(reply) => return Some(reply),
+        let Ok(ready) = self.core.prepare_kept(place, number)? else {
+            return None;
         };
         let Ok(()) = show(rt, &mut self.desk, &ready) else {
-            return Some(Reply::Refused(Rule::M0));
+            return None;
         };
-        Some(finished(&mut self.core, &mut self.history, ready, number))
+        Some(written(&mut self.core, &mut self.history, ready))
     }
 
     /// Opens a session, which takes a reader of the board with it.
