@@ -11,7 +11,7 @@ use std::sync::{CondvarTimeouts, Wait};
 use std::thread::Threads;
 use std::time::{Clock, Duration};
 
-/// Does an action's work, with no lock held. It is not asked of an action that the core knows to have its earlier part.
+/// Does an action's work, with no lock held. It is not asked of an action that was finished by its earlier part.
 pub trait Gate {
     /// A part of the action's input, or `None` where the gate is closed.
     ///
@@ -55,8 +55,8 @@ pub enum WorkEnd {
     GateClosed,
 }
 
-// Waits for the next action that has work to do: one that the core knows to have its earlier part is finished at once. `None` where the hall is stopped.
-// Where memory is wanting it tries again a millisecond later, or where something changed.
+// Waits for the next action that has work to do: one that the core knows to have its earlier part is finished at once, where memory is at hand. `None` where
+// the hall is stopped. Where memory is wanting it tries again a millisecond later, or where something changed.
 fn next<L: Named, R: Wait + Clock>(rt: &R, hall: &Hall<L>) -> Option<Action> {
     let mut state = hall.state.lock(rt);
     for _ in rt.forever() {
@@ -76,10 +76,6 @@ fn next<L: Named, R: Wait + Clock>(rt: &R, hall: &Hall<L>) -> Option<Action> {
                         return Some(action);
                     }
                     Some(Reply::Published(_)) => hall.built.notify_all(),
-                    Some(Reply::Refused(_)) => {
-                        state.give_back(action.generation);
-                        hall.built.notify_all();
-                    }
                     Some(_) => {}
                 }
             }
