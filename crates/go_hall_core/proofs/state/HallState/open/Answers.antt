@@ -1,10 +1,13 @@
-use Rattle.std.proofs.Common.{rules, ◌≡◌, subst, sym, List, ℕ, arith}
+use Rattle.std.proofs.Common.{rules, ◌≡◌, None, subst, sym, List, ℕ, arith}
 use Rattle.std.specs.Prelude.{MatchOption}
-use Rattle.go_sched_core.specs.Service.{Service, open_rule}
-use Rattle.go_sched_core.specs.Steps.{Step}
+use Rattle.go_sched_core.specs.Prepared.{IsAllowed}
+use Rattle.go_sched_core.specs.Service.{Service, empty, open_rule}
+use Rattle.go_sched_core.specs.Steps.{Replay, Step}
+use Rattle.go_sched_core.specs.declared.event.Event.{Event}
 use Rattle.go_sched_core.specs.declared.event.Event.TheVariants.{Open}
 use Rattle.go_board_core.specs.submit_core.declared.published.PublishedBatch.{PublishedBatch}
 use Rattle.go_hall_core.specs.Kept.{IsRefusal, Kept}
+use Rattle.go_hall_core.proofs.Lengths.{opened_few}
 use Rattle.go_hall_core.proofs.Refusals.{open_refusal, open_refused}
 use Rattle.go_hall_core.proofs.Rooms.{open_room}
 use Rattle.go_hall_core.proofs.state.HallState.open.Goals as goal
@@ -25,3 +28,13 @@ invariant_of-self-2 c =
     let step = subst (λ (x : Service). Step x (Open c.args.own) c.committed-reply.result t) c.prepare.ensures.same c.committed-reply.ensures.step in
     let room = open_room s c.args.own c.committed-reply.result t step in
     (c.committed-reply.ensures.replays, subst (λ (p : List PublishedBatch). MatchOption c.self.inside.desk ⊥ (λ d. d.writer.desk.shown.value ≡ p)) (sym room.0) c.self.invariant.1, omega (arith, room.1, c.committed-reply.ensures.len, c.committed-reply.ensures.room, c.in-Ok-Ok.ensures.len, c.in-Ok-Ok.ensures.ok, c.in-Ok-Ok.ensures.capacity, c.sessions.ensures.count))
+
+pub returns-clause-few : goal.returns-clause-few
+returns-clause-few c =
+    let s = c.self.inside.core in
+    let held = c.reserve.new.self.items in
+    let from = subst (λ (x : Service). IsAllowed x c.in-Ok.ready.event) c.in-Ok.ensures.ok.0 c.batches-allowed.ensures.allowed in
+    let event = subst (λ (e : Event). IsAllowed s e) c.in-Ok.ensures.ok.1 from in
+    let none = subst (λ (m : List ℕ). open_rule s m ≡ None) c.in-Ok-Ok.ensures' event in
+    let run = subst (λ (h : List Event). Replay empty h s) (sym c.reserve.ensures.items) c.self.invariant.0 in
+    opened_few held c.committed-reply.new.history.items (Open c.args.own) s c.args.own run none c.committed-reply.ensures.items
