@@ -1,5 +1,5 @@
 -- Expressions that fit mean something.
-use Rattle.std.proofs.Common.{◌≡◌, ◌⊎◌, inl, inr, ℕ, suc, ◌+◌, Bool, true, false, not, ◌&&◌, ◌||◌, T, List, [], ◌∷◌, ◌++◌, length, ℤ, Option, Some, None, is_some, refl, sym, ap, ◌∙◌, subst, arith, length-append, nat_eq, eqb→eq, if◌then◌else◌}
+use Rattle.std.proofs.Common.{◌≡◌, ℕ, ◌+◌, Bool, true, false, not, ◌&&◌, ◌||◌, T, List, [], ◌∷◌, ◌++◌, length, ℤ, Option, Some, None, is_some, refl, sym, ap, ◌∙◌, subst, arith, length-append, nat_eq, eqb→eq, if◌then◌else◌}
 use Rattle.go_tree_nodes.specs.token_core.declared.kind.Operator.{Operator}
 use Rattle.go_tree_nodes.specs.token_core.declared.kind.Operator.TheVariants as operators
 use Rattle.go_tree_nodes.specs.Trees.{ExprTree, ItemTrees, Integer, Text, Named, Paren, Unary, Binary, Select, Call, Literal, StructLiteral, NoItems, Item}
@@ -15,12 +15,12 @@ use Rattle.go_fragment_core.specs.declared.names.Meaning.{Meaning}
 use Rattle.go_fragment_core.specs.declared.names.Meaning.TheVariants as meanings
 use Rattle.go_fragment_core.specs.Constants.{folded}
 use Rattle.go_fragment_core.specs.Fragment.{is_one, over, unary_word, binary_word, meaning_gives, selected_gives, call_gives, means_method, expr_gives, receiver_fits, all_ones}
-use Rattle.go_fragment_core.specs.Names.{CodeLooks, Frame, slot_of, word_of, callee_meaning}
+use Rattle.go_fragment_core.specs.Names.{Frame, slot_of, word_of, callee_meaning}
 use Rattle.go_code_core.specs.Code.{letter, letters}
 use Rattle.go_means_core.specs.Values.{Value, Number, Truth, Applied, Yields, Panics, Undefined, of_result, unary_applied, binary_applied, panicked_with}
-use Rattle.go_means_core.specs.Meaning.{Outcome, Done, Panicked, Unfinished, Nonsense, and_then, just_one, with_one, with_truth, if_some, if_yields, Variables, value_of, Calls, gives_one, constant_value, constant_else, name_value, and_value, or_value, second_truth, binary_meaning, fitting, called, call_meaning, SourceOf, callee_at, scene_of, expr_meaning, receiver_meaning, items_meaning}
+use Rattle.go_means_core.specs.Meaning.{Outcome, Done, Panicked, Nonsense, and_then, just_one, with_one, with_truth, if_some, if_yields, Variables, value_of, Calls, gives_one, constant_value, constant_else, name_value, and_value, or_value, second_truth, binary_meaning, fitting, called, call_meaning, SourceOf, callee_at, scene_of, expr_meaning, receiver_meaning, items_meaning}
 use Rattle.go_fit_core.specs.Fitting.{IsGiven, IsDeclared, Typing, UnaryFits, BothGive, BinaryFits, receiver_letters, the_frame, NameFits, CalleeFits, ExprFits, ItemsFit}
-use Rattle.go_fit_core.proofs.Valued.{and_both, Means, means_then, means_more, IsOver, AreOver, over_both, Gave, NotOther, not_other, the_word, just_means, none_means, one_means, truth_means, line_is, panic_is, Sound, has_value}
+use Rattle.go_fit_core.proofs.Valued.{and_both, Means, means_then, IsOver, AreOver, over_both, Gave, NotOther, just_means, none_means, one_means, truth_means, line_is, panic_is, Sound, has_value}
 use Rattle.go_fit_core.proofs.Folds.{folded_gives}
 
 -- operators

@@ -1,5 +1,5 @@
 -- How statements are left, one behind another.
-use Rattle.std.proofs.Common.{◌≡◌, ℕ, zero, suc, Bool, true, false, not, ◌&&◌, ◌||◌, List, [], ◌∷◌, refl, ap, ◌∙◌, if◌then◌else◌}
+use Rattle.std.proofs.Common.{◌≡◌, ℕ, zero, suc, Bool, true, false, not, ◌&&◌, ◌||◌, List, refl, ap, ◌∙◌, if◌then◌else◌}
 use Rattle.go_fragment_core.specs.declared.names.Gives.{Gives}
 use Rattle.go_means_core.specs.Meaning.{Outcome, Done, Panicked, Unfinished, Nonsense, and_then, Variables, Flow, Falls, Breaks, Continues, Returns, flow_on, then_do, loop_on, turns}
 use Rattle.go_fit_core.proofs.Valued.{Means, means_then, Gave}

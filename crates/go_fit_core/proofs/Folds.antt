@@ -1,5 +1,5 @@
 -- A constant is over what its expression gives.
-use Rattle.std.proofs.Common.{◌≡◌, ℕ, Bool, true, false, ◌&&◌, List, [], ◌∷◌, ◌++◌, ℤ, pos, Option, Some, None, is_some, refl, sym, ap, ◌∙◌, subst, nat_eq, nat_lt, ◌^◌, if◌then◌else◌}
+use Rattle.std.proofs.Common.{◌≡◌, ℕ, Bool, true, false, ◌&&◌, List, [], ◌∷◌, ◌++◌, ℤ, pos, Option, Some, None, refl, sym, ap, ◌∙◌, nat_eq, nat_lt, ◌^◌, if◌then◌else◌}
 use Rattle.std.specs.Prelude.{◌+ℤ◌, ◌-ℤ◌, ◌*ℤ◌, neg_ℤ, int_div, int_rem}
 use Rattle.go_tree_nodes.specs.token_core.declared.kind.Operator.{Operator}
 use Rattle.go_tree_nodes.specs.token_core.declared.kind.Operator.TheVariants as operators
@@ -11,13 +11,12 @@ use Rattle.go_fragment_core.specs.constant_core.declared.values.Constant.TheVari
 use Rattle.go_fragment_core.specs.constant_core.Values.{fits_64_bits, int_same, ranged, divided, unary, binary}
 use Rattle.go_fragment_core.specs.declared.names.ConstantWord.{ConstantWord}
 use Rattle.go_fragment_core.specs.declared.names.ConstantWord.TheVariants as constants
-use Rattle.go_fragment_core.specs.declared.names.Gives.{Gives}
 use Rattle.go_fragment_core.specs.declared.names.Gives.TheVariants as gives
 use Rattle.go_fragment_core.specs.declared.names.Meaning.{Meaning}
 use Rattle.go_fragment_core.specs.declared.names.Meaning.TheVariants as meanings
-use Rattle.go_fragment_core.specs.Constants.{constant_of, held, some_held, folded_unary, folded_binary, folded_name, converted, folded, folded_one}
+use Rattle.go_fragment_core.specs.Constants.{held, some_held, folded_unary, folded_binary, folded_name, converted, folded, folded_one}
 use Rattle.go_fragment_core.specs.Fragment.{is_one, over, unary_word, binary_word, meaning_gives, selected_gives, call_gives, expr_gives, receiver_fits, all_ones}
-use Rattle.go_fragment_core.specs.Names.{slot_of, word_of, callee_meaning}
+use Rattle.go_fragment_core.specs.Names.{word_of, callee_meaning}
 use Rattle.go_code_core.specs.Code.{letter, letters}
 use Rattle.go_means_core.specs.Meaning.{SourceOf}
 use Rattle.go_fit_core.specs.Fitting.{Typing, the_frame, CalleeFits, ExprFits, ItemsFit, receiver_letters}

@@ -1,5 +1,5 @@
 -- Functions that fit mean something, and programs of them.
-use Rattle.std.proofs.Common.{◌≡◌, ◌⊎◌, inl, inr, ℕ, zero, suc, ◌+◌, ◌<◌, Bool, true, false, ◌&&◌, T, List, [], ◌∷◌, ◌++◌, length, map, get_or, Contains, Option, Some, None, refl, sym, ap, ◌∙◌, subst, arith, length-append, nat_eq, eqb→eq, if◌then◌else◌}
+use Rattle.std.proofs.Common.{◌≡◌, ◌⊎◌, inl, inr, ℕ, zero, suc, ◌+◌, ◌<◌, Bool, true, false, ◌&&◌, T, List, [], ◌∷◌, ◌++◌, length, map, Contains, Option, Some, None, refl, sym, ap, ◌∙◌, subst, arith, nat_eq, eqb→eq, if◌then◌else◌}
 use Rattle.std.specs.Prelude.{option_map, slice_get}
 use Rattle.std.proofs.lemmas.Bool.{eq-eqb}
 use Rattle.std.proofs.lemmas.Option.{slice_get-map}
@@ -11,14 +11,13 @@ use Rattle.go_fragment_core.specs.Inside.{receiver_inside, signature_inside, lin
 use Rattle.go_fragment_core.specs.Slots.{lines_slots, receiver_slots, signature_slots}
 use Rattle.go_code_core.specs.Code.{frame_in}
 use Rattle.go_means_core.specs.Values.{Value}
-use Rattle.go_means_core.specs.Meaning.{Outcome, Done, Panicked, Unfinished, Nonsense, and_then, just_none, if_some, Variables, value_of, Calls, SourceOf, callee_at, scene_of, Flow, Falls, Breaks, Continues, Returns, lines_meaning, results_of, locals_of, params_of}
+use Rattle.go_means_core.specs.Meaning.{Outcome, Unfinished, Nonsense, and_then, if_some, Variables, value_of, Calls, SourceOf, callee_at, scene_of, Flow, Falls, Breaks, Continues, Returns, lines_meaning, results_of, locals_of, params_of}
 use Rattle.go_machine_core.specs.Programs.{callee_in}
 use Rattle.go_means_core.specs.Whole.{body_meaning, function_meaning, calls_of, one_by_one, meaning, linked_source, code_of_program}
-use Rattle.go_means_core.specs.Laws.{HasMeaning}
-use Rattle.go_fit_core.specs.Fitting.{AreTypedAs, IsAmong, IsDeclared, Typing, the_frame, given_by, taken_by}
+use Rattle.go_fit_core.specs.Fitting.{AreTypedAs, IsAmong, IsDeclared, Typing, given_by, taken_by}
 use Rattle.go_fit_core.specs.Ends.{lines_break, lines_continue, lines_terminate}
 use Rattle.go_fit_core.specs.Laws.{FunctionFits, IsReached, Begins, IsCalled, ProgramFits, FittingMeansSomething}
-use Rattle.go_fit_core.proofs.Valued.{and_both, Means, means_then, IsOver, AreOver, over_count, Gave, none_means, IsTyped, Sound}
+use Rattle.go_fit_core.proofs.Valued.{and_both, Means, means_then, AreOver, over_count, Gave, none_means, IsTyped, Sound}
 use Rattle.go_fit_core.proofs.Exprs.{CallsMean}
 use Rattle.go_fit_core.proofs.Flows.{FlowFits}
 use Rattle.go_fit_core.proofs.Stmts.{Are, lines_mean}

@@ -1,13 +1,11 @@
 -- A call of `panic` comes to no value.
-use Rattle.std.proofs.Common.{◌≡◌, ℕ, Bool, true, false, ◌&&◌, List, [], ◌∷◌, ◌++◌, Option, Some, None, refl, sym, ap, ◌∙◌, subst, nat_eq, if◌then◌else◌}
+use Rattle.std.proofs.Common.{◌≡◌, ℕ, true, List, ◌++◌, Option, Some, None}
 use Rattle.go_tree_nodes.specs.Trees.{ExprTree, ItemTrees, Integer, Text, Named, Paren, Unary, Binary, Select, Call, Literal, StructLiteral}
-use Rattle.go_tree_nodes.specs.Counts.{item_count}
 use Rattle.go_machine_core.specs.declared.state.PanicValue.{PanicValue}
 use Rattle.go_fragment_core.specs.declared.names.ConstantWord.{ConstantWord}
-use Rattle.go_fragment_core.specs.declared.names.Gives.{Gives}
 use Rattle.go_fragment_core.specs.declared.names.Meaning.{Meaning}
 use Rattle.go_fragment_core.specs.declared.names.Meaning.TheVariants as meanings
-use Rattle.go_fragment_core.specs.Constants.{converted, folded, folded_one}
+use Rattle.go_fragment_core.specs.Constants.{converted, folded_one}
 use Rattle.go_fragment_core.specs.Names.{Frame, callee_meaning}
 use Rattle.go_code_core.specs.Code.{letters}
 use Rattle.go_means_core.specs.Values.{Value, panicked_with}

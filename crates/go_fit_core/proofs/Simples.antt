@@ -1,5 +1,5 @@
 -- Simple statements and declarations that fit mean something.
-use Rattle.std.proofs.Common.{◌≡◌, ◌⊎◌, inl, inr, ℕ, Bool, true, false, not, ◌&&◌, List, [], ◌∷◌, ◌++◌, ℤ, Option, Some, None, is_some, refl, sym, ap, ◌∙◌, subst, if◌then◌else◌, nat_eq}
+use Rattle.std.proofs.Common.{◌≡◌, inr, ℕ, Bool, true, false, not, ◌&&◌, List, [], ◌∷◌, ◌++◌, ℤ, Option, Some, None, is_some, refl, sym, ap, ◌∙◌, subst, if◌then◌else◌}
 use Rattle.go_tree_nodes.specs.text_core.Text.{is_blank}
 use Rattle.go_tree_nodes.specs.text_core.declared.span.Span.{Span}
 use Rattle.go_tree_nodes.specs.token_core.declared.kind.Operator.{Operator}
@@ -15,18 +15,18 @@ use Rattle.go_fragment_core.specs.declared.names.Gives.TheVariants as gives
 use Rattle.go_fragment_core.specs.declared.names.Meaning.{Meaning}
 use Rattle.go_fragment_core.specs.declared.names.Meaning.TheVariants as meanings
 use Rattle.go_fragment_core.specs.Fragment.{is_one, is_other, over, expr_gives, some_type_inside}
-use Rattle.go_fragment_core.specs.Inside.{one_value, one_target, one_declared, simple_inside, some_simple_inside, values_inside, names_inside, value_spec_inside, value_lines_inside, value_specs_inside}
+use Rattle.go_fragment_core.specs.Inside.{one_value, one_target, one_declared, simple_inside, some_simple_inside, values_inside, value_spec_inside, value_lines_inside, value_specs_inside}
 use Rattle.go_fragment_core.specs.declared.targets.Target.{Target}
 use Rattle.go_fragment_core.specs.declared.targets.Target.TheVariants as targets
 use Rattle.go_machine_core.specs.Words.{sum, difference, product, quotient, remainder}
-use Rattle.go_fragment_core.specs.Names.{Frame, slot_of, slot_target, meant_target, named_target, declared_slot, slot_assigned, is_slot, is_target}
+use Rattle.go_fragment_core.specs.Names.{Frame, slot_of, slot_target, meant_target, slot_assigned, is_slot, is_target}
 use Rattle.go_fragment_core.specs.Operators.{step_operator, update_operator}
-use Rattle.go_fragment_core.specs.Slots.{local_slot, local_slots, define_slots, value_spec_slots}
-use Rattle.go_means_core.specs.Values.{Value, Number, Truth, Applied, Yields, Panics, Undefined, binary_applied, step_binary, update_binary}
-use Rattle.go_means_core.specs.Meaning.{Outcome, Done, Panicked, Unfinished, Nonsense, and_then, with_one, if_some, if_yields, Variables, value_of, assigned, Calls, gives_one, SourceOf, scene_of, expr_meaning, Flow, Falls, then_do, falls, Goal, ToVariable, ToNothing, Elsewhere, meant_goal, named_goal, goal_of, declared_goal, assign_to, one_meaning, assign_one, declare_one, update_meaning, let_go, simple_meaning, some_simple_meaning, zero_value, some_type_word, initial_meaning, value_spec_meaning, value_lines_meaning, value_specs_meaning}
-use Rattle.go_fit_core.specs.Fitting.{IsGiven, IsAmong, Typing, simple_after, some_simple_after, lines_after, specs_after, the_frame, ExprFits, OneFits, one_gives, GoalFits, TargetsFit, DeclaredFit, UpdatedFits, SimpleFits, SomeSimpleFits, initial_gives, InitialFits, SpecFits, SpecLinesFit, SpecsFit, given_by}
+use Rattle.go_fragment_core.specs.Slots.{local_slots, define_slots, value_spec_slots}
+use Rattle.go_means_core.specs.Values.{Value, Number, binary_applied, step_binary, update_binary}
+use Rattle.go_means_core.specs.Meaning.{Outcome, with_one, if_some, if_yields, Variables, assigned, Calls, gives_one, SourceOf, scene_of, expr_meaning, Flow, falls, Goal, ToVariable, ToNothing, Elsewhere, meant_goal, goal_of, assign_to, one_meaning, assign_one, declare_one, update_meaning, let_go, simple_meaning, some_simple_meaning, zero_value, some_type_word, initial_meaning, value_spec_meaning, value_lines_meaning, value_specs_meaning}
+use Rattle.go_fit_core.specs.Fitting.{IsGiven, Typing, simple_after, some_simple_after, lines_after, specs_after, the_frame, ExprFits, OneFits, one_gives, GoalFits, TargetsFit, DeclaredFit, UpdatedFits, SimpleFits, SomeSimpleFits, initial_gives, InitialFits, SpecFits, SpecLinesFit, SpecsFit, given_by}
 use Rattle.go_fit_core.specs.Ends.{panics, simple_panics}
-use Rattle.go_fit_core.proofs.Valued.{and_both, Means, means_then, means_more, IsOver, AreOver, Gave, NotOther, not_other, the_word, just_means, none_means, one_means, Sound, fewer, has_value, IsAssigned, is_assigned, sound_assigned}
+use Rattle.go_fit_core.proofs.Valued.{and_both, Means, means_then, IsOver, AreOver, Gave, NotOther, the_word, just_means, none_means, one_means, Sound, fewer, has_value, is_assigned, sound_assigned}
 use Rattle.go_fit_core.proofs.Exprs.{Applies, result_applies, numbers, yields_means, CallsMean, expr_means}
 use Rattle.go_fit_core.proofs.Panics.{never_means, panic_never}
 use Rattle.go_fit_core.proofs.Flows.{FlowFits, lesser, unjumped, first_means}

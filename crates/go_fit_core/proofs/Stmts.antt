@@ -1,25 +1,21 @@
 -- Statements and functions that fit mean something.
-use Rattle.std.proofs.Common.{◌≡◌, ◌⊎◌, inl, inr, ℕ, zero, suc, ◌+◌, Bool, true, false, not, ◌&&◌, ◌||◌, T, List, [], ◌∷◌, ◌++◌, length, map, Option, Some, None, is_some, is_none, refl, sym, ap, ◌∙◌, subst, arith, length-append, nat_eq, eqb→eq, if◌then◌else◌}
+use Rattle.std.proofs.Common.{◌≡◌, inr, ℕ, ◌+◌, Bool, true, false, not, ◌&&◌, ◌||◌, List, [], ◌∷◌, ◌++◌, Option, Some, None, is_some, is_none, refl, sym, ◌∙◌, subst}
 use Rattle.go_tree_nodes.specs.text_core.declared.span.Span.{Span}
-use Rattle.go_tree_nodes.specs.Trees.{Separated, ExprTree, SimpleTree, Alone, Step, Assign, Update, Define, ValueSpecTree, Specs, Single, Group, ForTree, Forever, While, Clauses, StmtTree, Empty, Declare, Simple, Return, Break, Continue, Block, If, For, BranchTree, Branch, ElseTree, NoElse, ElseBlock, ElseIf, Lines, NoLines, Line, FuncTree}
+use Rattle.go_tree_nodes.specs.Trees.{Separated, ExprTree, SimpleTree, Alone, Step, Assign, Update, Define, ValueSpecTree, Specs, Single, Group, ForTree, Forever, While, Clauses, StmtTree, Empty, Declare, Simple, Return, Break, Continue, Block, If, For, BranchTree, Branch, ElseTree, NoElse, ElseBlock, ElseIf, Lines, NoLines, Line}
 use Rattle.go_tree_nodes.specs.declared.decls.ValueKind.{ValueKind}
-use Rattle.go_instruction_core.specs.declared.letters.Word.{Word}
 use Rattle.go_instruction_core.specs.declared.letters.Word.TheVariants as words
-use Rattle.go_fragment_core.specs.declared.names.Gives.{Gives}
-use Rattle.go_fragment_core.specs.declared.names.Gives.TheVariants as gives
 use Rattle.go_fragment_core.specs.Fragment.{is_one, expr_gives}
-use Rattle.go_fragment_core.specs.Inside.{some_simple_inside, init_inside, test_inside, results_given, head_inside, stmt_inside, branch_inside, else_inside, lines_inside, receiver_inside, signature_inside, in_fragment}
+use Rattle.go_fragment_core.specs.Inside.{some_simple_inside, init_inside, test_inside, results_given, head_inside, stmt_inside, branch_inside, else_inside, lines_inside}
 use Rattle.go_fragment_core.specs.Names.{CodeLooks}
 use Rattle.go_fragment_core.specs.Slots.{define_slots, value_spec_slots}
 use Rattle.go_code_core.specs.Code.{head_init, head_post, head_test}
-use Rattle.go_means_core.specs.Values.{Value}
-use Rattle.go_means_core.specs.Meaning.{Outcome, Done, Panicked, Unfinished, Nonsense, and_then, Variables, Calls, SourceOf, scene_of, Flow, Falls, Breaks, Continues, Returns, then_do, init_meaning, some_simple_meaning, test_meaning, turns, returned, stmt_meaning, branch_meaning, else_meaning, lines_meaning, results_of}
-use Rattle.go_fit_core.specs.Fitting.{IsAmong, Typing, simple_after, some_simple_after, init_after, lines_after, specs_after, stmt_after, the_frame, TestFits, ReturnFits, InitFits, SomeSimpleFits, StmtFits, BranchFits, ElseFits, LinesFit, given_by}
+use Rattle.go_means_core.specs.Meaning.{Outcome, Done, Variables, Calls, SourceOf, scene_of, Flow, init_meaning, some_simple_meaning, test_meaning, turns, returned, stmt_meaning, branch_meaning, else_meaning, lines_meaning}
+use Rattle.go_fit_core.specs.Fitting.{IsAmong, Typing, simple_after, some_simple_after, init_after, lines_after, specs_after, stmt_after, the_frame, TestFits, ReturnFits, InitFits, StmtFits, BranchFits, ElseFits, LinesFit, given_by}
 use Rattle.go_fit_core.specs.Ends.{breaks, branch_breaks, else_breaks, lines_break, continues, branch_continues, else_continues, lines_continue, terminates, branch_terminates, else_terminates, lines_terminate}
-use Rattle.go_fit_core.proofs.Valued.{and_both, Means, means_then, AreOver, Gave, one_means, truth_means, Sound, fewer}
+use Rattle.go_fit_core.proofs.Valued.{and_both, Means, means_then, Gave, one_means, truth_means, Sound, fewer}
 use Rattle.go_fit_core.proofs.Exprs.{CallsMean}
-use Rattle.go_fit_core.proofs.Flows.{FlowFits, lesser, unjumped, flow_means, first_means, either_means, turns_mean}
-use Rattle.go_fit_core.proofs.Simples.{At, some_panics, one_fits_means, OneMeans, only_means, simple_means, some_simple_means, specs_mean}
+use Rattle.go_fit_core.proofs.Flows.{FlowFits, lesser, flow_means, first_means, either_means, turns_mean}
+use Rattle.go_fit_core.proofs.Simples.{some_panics, one_fits_means, only_means, simple_means, some_simple_means, specs_mean}
 
 -- what is declared stays declared
 

@@ -1,5 +1,5 @@
 -- Values over words, and variables that hold them.
-use Rattle.std.proofs.Common.{◌≡◌, ◌⊎◌, inl, inr, ℕ, suc, Bool, true, false, ◌&&◌, T, List, [], ◌∷◌, ◌++◌, length, Option, Some, None, is_some, refl, sym, ap, ◌∙◌, subst, arith, nat_eq, eqb→eq, if◌then◌else◌}
+use Rattle.std.proofs.Common.{◌≡◌, inl, inr, ℕ, suc, Bool, true, false, ◌&&◌, T, List, [], ◌∷◌, ◌++◌, length, Option, Some, None, is_some, refl, sym, ap, ◌∙◌, subst, arith, nat_eq, eqb→eq, if◌then◌else◌}
 use Rattle.std.proofs.lemmas.Bool.{eq-eqb}
 use Rattle.go_instruction_core.specs.declared.letters.Word.{Word}
 use Rattle.go_instruction_core.specs.declared.letters.Word.TheVariants as words
@@ -8,7 +8,7 @@ use Rattle.go_machine_core.specs.declared.state.PanicValue.TheVariants as panics
 use Rattle.go_fragment_core.specs.declared.names.Gives.{Gives}
 use Rattle.go_fragment_core.specs.declared.names.Gives.TheVariants as gives
 use Rattle.go_fragment_core.specs.Fragment.{is_one}
-use Rattle.go_fragment_core.specs.Names.{slot_from, slot_of}
+use Rattle.go_fragment_core.specs.Names.{slot_from}
 use Rattle.go_means_core.specs.Values.{Value, Number, Truth, panic_value, panicked_with, truth_letters, value_text, in_front, behind_space, more_printed, line_printed}
 use Rattle.std.specs.Fmt.{signed_decimal}
 use Rattle.go_means_core.specs.Meaning.{Outcome, Done, Panicked, Unfinished, Nonsense, and_then, just_one, just_none, with_one, just_truth, with_truth, Variables, value_of, behind, assigned}

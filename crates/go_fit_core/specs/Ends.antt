@@ -1,7 +1,7 @@
 -- Where statements are left: by `break` and `continue` of a `for` around them, or nowhere behind them.
 --
 -- The Go specification, "Terminating statements", "Break statements", "Continue statements".
-use Rattle.std.specs.Prelude.{◌≡◌, ◌⊎◌, ◌&&◌, ◌||◌, not, Bool, true, false, is_none}
+use Rattle.std.specs.Prelude.{◌&&◌, ◌||◌, not, Bool, true, false, is_none}
 use Rattle.go_tree_nodes.specs.Trees.{ExprTree, Integer, Text, Named, Paren, Unary, Binary, Select, Call, Literal, StructLiteral, SimpleTree, Alone, Step, Assign, Update, Define, StmtTree, Empty, Declare, Simple, Return, Break, Continue, Block, If, For, BranchTree, Branch, ElseTree, NoElse, ElseBlock, ElseIf, Lines, NoLines, Line}
 use Rattle.go_fragment_core.specs.declared.names.Meaning.{Meaning}
 use Rattle.go_fragment_core.specs.declared.names.Meaning.TheVariants as meanings

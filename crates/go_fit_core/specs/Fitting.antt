@@ -3,7 +3,7 @@
 -- function gives.
 --
 -- The Go specification, "Declarations and scope", "Operators", "Calls", "Assignment statements", "Return statements", "Terminating statements".
-use Rattle.std.specs.Prelude.{◌≡◌, ◌⊎◌, ◌&&◌, ◌||◌, not, ℕ, Bool, true, false, List, [], ◌∷◌, ◌++◌, map, Option, Some, None, is_none, slice_get, Contains, if◌then◌else◌}
+use Rattle.std.specs.Prelude.{◌≡◌, ◌⊎◌, ℕ, Bool, true, List, [], ◌∷◌, ◌++◌, map, Option, Some, None, slice_get, if◌then◌else◌}
 use Rattle.go_tree_nodes.specs.text_core.declared.span.Span.{Span}
 use Rattle.go_tree_nodes.specs.token_core.declared.kind.Operator.{Operator}
 use Rattle.go_tree_nodes.specs.token_core.declared.kind.Operator.TheVariants as operators
@@ -11,21 +11,19 @@ use Rattle.go_tree_nodes.specs.declared.names.Ident.{Ident}
 use Rattle.go_tree_nodes.specs.declared.decls.ValueKind.{ValueKind}
 use Rattle.go_tree_nodes.specs.declared.decls.ValueKind.TheVariants as value_kinds
 use Rattle.go_tree_nodes.specs.declared.files.Receiver.{Receiver}
-use Rattle.go_tree_nodes.specs.Trees.{TypeTree, Separated, One, Then, ParamTrees, NoParams, Param, ResultTree, NoResult, OneResult, Results, SignatureTree, Signed, ExprTree, ItemTrees, Integer, Text, Named, Paren, Unary, Binary, Select, Call, Literal, StructLiteral, NoItems, Item, ValueSpecTree, Specs, Single, Group, SimpleTree, Alone, Step, Assign, Update, Define, StmtTree, Empty, Declare, Simple, Return, Break, Continue, Block, If, For, BranchTree, Branch, ElseTree, NoElse, ElseBlock, ElseIf, Lines, NoLines, Line, FuncTree}
+use Rattle.go_tree_nodes.specs.Trees.{TypeTree, Separated, One, Then, ParamTrees, NoParams, Param, ResultTree, NoResult, OneResult, Results, SignatureTree, Signed, ExprTree, ItemTrees, Integer, Text, Named, Paren, Unary, Binary, Select, Call, Literal, StructLiteral, NoItems, Item, ValueSpecTree, Specs, Single, Group, SimpleTree, Alone, Step, Assign, Update, Define, StmtTree, Empty, Declare, Simple, Return, Break, Continue, Block, If, For, BranchTree, Branch, ElseTree, NoElse, ElseBlock, ElseIf, Lines, NoLines, Line}
 use Rattle.go_instruction_core.specs.declared.letters.Word.{Word}
 use Rattle.go_instruction_core.specs.declared.letters.Word.TheVariants as words
-use Rattle.go_fragment_core.specs.declared.names.ConstantWord.{ConstantWord}
 use Rattle.go_fragment_core.specs.declared.names.Gives.{Gives}
 use Rattle.go_fragment_core.specs.declared.names.Gives.TheVariants as gives
 use Rattle.go_fragment_core.specs.declared.names.Meaning.{Meaning}
 use Rattle.go_fragment_core.specs.declared.names.Meaning.TheVariants as meanings
 use Rattle.go_fragment_core.specs.Constants.{folded}
 use Rattle.go_fragment_core.specs.Fragment.{expr_gives, means_method, over, type_name_word, type_word}
-use Rattle.go_fragment_core.specs.Inside.{in_fragment}
 use Rattle.go_fragment_core.specs.Names.{CodeLooks, Frame, callee_meaning}
 use Rattle.go_fragment_core.specs.Slots.{define_slots, value_spec_slots}
 use Rattle.go_code_core.specs.Code.{frame_in, head_init, head_post, head_test, letter, letters}
-use Rattle.go_means_core.specs.Meaning.{SourceOf, Goal, ToVariable, ToNothing, Elsewhere, callee_at, declared_goal, goal_of, params_of, some_type_word}
+use Rattle.go_means_core.specs.Meaning.{SourceOf, Goal, ToVariable, ToNothing, Elsewhere, callee_at, declared_goal, goal_of, some_type_word}
 
 abbrev pub IsGiven : {A : Type 0} → Option A → Type 0
 IsGiven None = ⊥

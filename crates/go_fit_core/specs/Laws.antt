@@ -1,5 +1,5 @@
 -- Programs that fit mean something.
-use Rattle.std.specs.Prelude.{◌≡◌, ◌⊎◌, ℕ, false, true, List, [], Option, Some, Contains, slice_get}
+use Rattle.std.specs.Prelude.{◌≡◌, ◌⊎◌, ℕ, false, true, List, [], Some, Contains, slice_get}
 use Rattle.go_fragment_core.specs.declared.names.Gives.TheVariants as gives
 use Rattle.go_fragment_core.specs.Inside.{in_fragment}
 use Rattle.go_code_core.specs.Code.{frame_in}

@@ -1,14 +1,14 @@
-mod Agree
+pub mod Agree
 pub mod Among
 mod AnswerLists
 mod AnswerStanding
 mod Answering
 mod Answers
 pub mod Called
-mod Clean
+pub mod Clean
 pub mod CodeFunctions
-mod ConstantCalling
-mod ConstantLists
+pub mod ConstantCalling
+pub mod ConstantLists
 mod ConstantMethods
 pub mod Declaring
 pub mod FileStanding
@@ -20,12 +20,12 @@ pub mod Grammar
 pub mod Making
 mod Meanings
 mod Methods
-mod Names
+pub mod Names
 mod Objects
 mod Own
 mod Packages
 mod Parts
-mod Pieces
+pub mod Pieces
 pub mod Placed
 mod Reading
 pub mod Referring
@@ -41,4 +41,4 @@ mod Told
 mod Uses
 mod Walking
 mod Wider
-mod Within
+pub mod Within

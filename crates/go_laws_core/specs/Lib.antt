@@ -9,3 +9,6 @@ pub mod Reached
 pub mod Standing
 pub mod TreeLaws
 pub mod Trees
+pub mod file_core
+pub mod func_core
+pub mod whole_core

@@ -18,3 +18,18 @@ pub use code_laws::{
 pub use constant_laws::{constants_are_of_the_check, parts_are_fit};
 pub use file_laws::{clean_is_faultless, snapshots_have_what_is_told, texts_have_snapshots};
 pub use object_laws::{declarations_are_reached, objects_are_of_parts_alone, objects_are_of_trees};
+
+/// What the crates above name of `go_file_core`.
+pub mod file_core {
+    pub use govisd_core::file_core::functions_are_placed;
+}
+
+/// What the crates above name of `go_func_core`.
+pub mod func_core {
+    pub use govisd_core::func_core::{functions_have_one_table, locals_are_declarations};
+}
+
+/// What the crates above name of `go_whole_core`.
+pub mod whole_core {
+    pub use go_snap_core::whole_core::imports_bind_theirs;
+}

@@ -1,0 +1,14 @@
+pub mod Ending
+pub mod Clear
+pub mod Sources
+pub mod Words
+pub mod Operators
+pub mod Statements
+pub mod Calling
+pub mod Types
+pub mod Variables
+pub mod Named
+pub mod Clearing
+pub mod Naming
+pub mod Initial
+pub mod Running
