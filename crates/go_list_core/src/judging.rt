@@ -9,6 +9,7 @@ ghost use Rattle.go_list_core.specs.Importing.{IsJudgedAt};
 ghost use Rattle.go_list_core.specs.mirrors.Marks.{IsWithin, MarkCycles, Settles};
 ghost use Rattle.go_list_core.specs.mirrors.Standings.{ComesTo};
 
+use crate::reaching::leads_to;
 use crate::standing::standing_of;
 use go_graph_core::cycle_core::leading_to;
 use go_graph_core::path_core::{ImportPath, PathText, may_import_text};
@@ -55,8 +56,8 @@ fn path_target(
     }
 }
 
-// What an import of a text comes to, cycles left aside.
-fn target(
+/// What an import of a text comes to, cycles left aside.
+pub(crate) fn target(
     packages: &[PackageSource],
     from: &ImportPath,
     text: &str,
@@ -97,8 +98,7 @@ fn settled(
 {
     match target {
         ImportOutcome::Package(number) => {
-            let marks = cycle_marks(alloc, workspace, own)?;
-            if marks[number] {
+            if leads_to(alloc, workspace, number, own)? {
                 Ok(ImportOutcome::Refused(Rule::I4))
             } else {
                 Ok(target)
@@ -118,7 +118,8 @@ fn settled(
 /// - `Rule::I5` where its name is `main`.
 /// - `Rule::I4` where imports that break none of these lead from that package to the one that imports it, or where it is this one.
 ///
-/// The time is linear in the imports of the workspace.
+/// The time is linear in the imports of the packages that the imported one leads to, each of which is looked up by its path, and a byte is written
+/// for each package of the workspace.
 ///
 /// # Errors
 ///

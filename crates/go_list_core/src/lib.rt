@@ -6,6 +6,7 @@
 mod judging;
 mod laws;
 mod listing;
+mod reaching;
 mod standing;
 
 pub use judging::{judge_import, number_of};
