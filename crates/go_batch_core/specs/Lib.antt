@@ -4,6 +4,7 @@ pub mod Planning
 pub mod Steadiness
 pub mod mirrors
 pub mod graph_core
+pub mod head_core
 pub mod part_core
 pub mod snap_core
 pub mod whole_core

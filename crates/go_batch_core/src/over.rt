@@ -1,6 +1,7 @@
 //! The plan of a workspace over that of a snapshot.
 ghost use Rattle.std.specs.Prelude.{◌≡◌, ◌<◌, IfOk, length};
 ghost use Rattle.go_head_core.specs.Heads.{AreSameMarks, HaveSameHeads};
+ghost use Rattle.go_head_core.specs.Outside.{AreSameOutside};
 ghost use Rattle.go_batch_core.specs.Planning.{IsPlanned};
 ghost use Rattle.go_batch_core.specs.Steadiness.{AreSameAt, BeginsSteady};
 ghost use Rattle.go_batch_core.specs.mirrors.Rows.{StaysIf};
@@ -10,6 +11,7 @@ use crate::planned::Planned;
 use crate::rows::has_same;
 use crate::steady::Steady;
 use go_head_core::{Compared, compare, outcomes_stay};
+use go_path_core::Module;
 use go_snap_core::Snapshot;
 use go_snap_core::graph_core::{PackageSource, Workspace};
 use std::alloc::{AllocError, Global};
@@ -76,7 +78,8 @@ fn same_by_heads(earlier: &Workspace, current: &Workspace, same: &[bool])
 }
 
 /// The plan of a workspace over that of a snapshot, and what of the snapshot is as it was. Where the two have the same paths and the same heads of files, the
-/// plan is shared; else imports are planned, and a package stays only if they come to the same.
+/// plan is shared; else imports are planned, and a package stays only if they come to the same. Of a package of a path outside the modules that were
+/// replaced no text is compared.
 ///
 /// # Errors
 ///
@@ -85,14 +88,16 @@ pub fn plan_over(
     alloc: Global,
     snapshot: &Snapshot,
     old: &Planned,
+    modules: &[Module],
     sources: &Workspace,
 ) -> Result<Over, AllocError>
-    requires { IsPlanned snapshot.now.sources old.now.plan old.now.reached }
+    requires planned { IsPlanned snapshot.now.sources old.now.plan old.now.reached }
+    requires outside { AreSameOutside modules.now snapshot.now.sources sources.now }
     ensures planned { IfOk result (λ o. IsPlanned sources.now o.planned.plan o.planned.reached) }
     ensures steady { IfOk result (λ o. BeginsSteady snapshot.now.sources sources.now o.steady) }
 {
     let earlier = snapshot.sources();
-    let Compared { same, heads } = compare(alloc, earlier, sources)?;
+    let Compared { same, heads } = compare(alloc, modules, earlier, sources)?;
     if heads {
         let planned = old.again(earlier, sources)?;
         same_by_heads(earlier, sources, &same);

@@ -3,3 +3,4 @@ pub mod Staying
 pub mod Texts
 pub mod Marking
 pub mod RowByRow
+pub mod Replacing

@@ -1,4 +1,5 @@
 pub mod Heads
 pub mod Laws
+pub mod Outside
 pub mod Rows
 pub mod mirrors

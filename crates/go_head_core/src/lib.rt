@@ -7,6 +7,7 @@
 mod heads;
 mod laws;
 mod marks;
+mod outside;
 mod rows;
 
 pub use laws::{outcomes_stay, plans_stay};

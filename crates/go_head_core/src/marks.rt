@@ -2,10 +2,13 @@
 ghost use Rattle.std.specs.Prelude.{◌≡◌, ◌↔◌, IfOk, IsTrue, None, Some, slice_get};
 ghost use Rattle.go_graph_core.specs.Workspaces.{AreAllRead, IsWorkspace};
 ghost use Rattle.go_head_core.specs.Heads.{AreSameMarks, HaveSameHeads, head_of};
-ghost use Rattle.go_head_core.specs.mirrors.Marking.{IsHeadOf, IsMarkOf};
+ghost use Rattle.go_head_core.specs.Outside.{AreSameOutside};
+ghost use Rattle.go_head_core.specs.mirrors.Marking.{AreSameTwo, AreSameTwoAt, IsHeadOf, IsMarkOf};
 
 use crate::heads::is_same_package_head;
+use crate::outside::is_same_outside;
 use go_graph_core::{PackageSource, Workspace};
+use go_path_core::Module;
 use std::alloc::{AllocError, Global};
 
 /// What a workspace has of an earlier one.
@@ -18,12 +21,16 @@ pub struct Compared {
 }
 
 // Whether two packages are the same, and whether their paths and heads are known to be.
-fn compare_one(one: &PackageSource, other: &PackageSource) -> (bool, bool)
+fn compare_one(modules: &[Module], one: &PackageSource, other: &PackageSource) -> (bool, bool)
+    requires outside { AreSameTwo modules.now one.now other.now }
     requires own { AreAllRead one.now }
     requires other { AreAllRead other.now }
     ensures same { IsTrue result.0 ↔ (one.now ≡ other.now) }
     ensures head { IsTrue result.1 → head_of one.now ≡ head_of other.now }
 {
+    if is_same_outside(modules, one, other) {
+        return (true, true);
+    }
     if one.is_same(other) {
         return (true, true);
     }
@@ -31,14 +38,20 @@ fn compare_one(one: &PackageSource, other: &PackageSource) -> (bool, bool)
 }
 
 // The same of the package of a number and another one, where there may be none of that number.
-fn compare_at(packages: &[PackageSource], number: usize, other: &PackageSource) -> (bool, bool)
+fn compare_at(
+    modules: &[Module],
+    packages: &[PackageSource],
+    number: usize,
+    other: &PackageSource,
+) -> (bool, bool)
+    requires outside { AreSameTwoAt modules.now packages.now number other.now }
     requires own { IsWorkspace packages.now }
     requires other { AreAllRead other.now }
     ensures same { IsMarkOf packages.now number other.now result.0 }
     ensures head { IsHeadOf packages.now number other.now result.1 }
 {
     match packages.get(number) {
-        Some(package) => compare_one(package, other),
+        Some(package) => compare_one(modules, package, other),
         None => (false, false),
     }
 }
@@ -46,9 +59,11 @@ fn compare_at(packages: &[PackageSource], number: usize, other: &PackageSource) 
 // What the packages of a list have of an earlier one.
 fn compare_all(
     alloc: Global,
+    modules: &[Module],
     packages: &[PackageSource],
     others: &[PackageSource],
 ) -> Result<Compared, AllocError>
+    requires outside { AreSameOutside modules.now packages.now others.now }
     requires own { IsWorkspace packages.now }
     requires other { IsWorkspace others.now }
     ensures same { IfOk result (λ c. AreSameMarks packages.now others.now c.same.items) }
@@ -57,7 +72,7 @@ fn compare_all(
     let mut same = Vec::with_capacity(alloc, others.len())?;
     let mut heads = packages.len() == others.len();
     for number in 0..others.len() {
-        let (mark, head) = compare_at(packages, number, &others[number]);
+        let (mark, head) = compare_at(modules, packages, number, &others[number]);
         same.push(mark)?;
         heads = heads && head;
     }
@@ -65,18 +80,21 @@ fn compare_all(
 }
 
 /// What a workspace has of an earlier one: which packages are the same, by their numbers; and whether all paths are, the names in the clauses of all files,
-/// and the texts of their imports, in order. Imports that are spelled in another way count as others. The time is linear in the two.
+/// and the texts of their imports, in order. Imports that are spelled in another way count as others. A package of a path outside the modules that were
+/// replaced is known to be the same; the time is linear in the paths, and in the packages inside the modules.
 ///
 /// # Errors
 ///
 /// `AllocError` where memory is wanting.
 pub fn compare(
     alloc: Global,
+    modules: &[Module],
     earlier: &Workspace,
     current: &Workspace,
 ) -> Result<Compared, AllocError>
+    requires { AreSameOutside modules.now earlier.now current.now }
     ensures same { IfOk result (λ c. AreSameMarks earlier.now current.now c.same.items) }
     ensures heads { IfOk result (λ c. IsTrue c.heads → HaveSameHeads earlier.now current.now) }
 {
-    compare_all(alloc, earlier.packages(), current.packages())
+    compare_all(alloc, modules, earlier.packages(), current.packages())
 }

@@ -3,4 +3,5 @@ pub mod Commits
 pub mod Growing
 pub mod Lists
 pub mod Marking
+pub mod Outside
 pub mod Runs

@@ -1,11 +1,12 @@
 //! What a step needs: all growth is here, and nothing changes.
 ghost use Rattle.std.specs.Prelude.{◌≡◌, ℕ, ◌+◌, ◌<◌, ◌^◌, ◌++◌, ◌∷◌, [], IfErr, IfOk, IfSome, MatchOption, Some, false};
 ghost use Rattle.go_batch_core.specs.graph_core.Workspaces.{AreAllRead};
+ghost use Rattle.go_submit_core.specs.Modules.{with_trees};
 ghost use Rattle.go_submit_core.specs.Published.{IsEarlierPart, IsOneWorker, batch_of, last_of, sources_of};
 ghost use Rattle.go_submit_core.specs.Submitted.{submission_with, submitted};
 ghost use Rattle.go_batch_core.specs.Batches.{Awaits, IsReady, NoneReady, actions_left, with_part};
 ghost use Rattle.go_batch_core.specs.Planning.{IsPlanned};
-ghost use Rattle.go_batch_core.specs.Steadiness.{IsSteady};
+ghost use Rattle.go_batch_core.specs.Steadiness.{BeginsSteady, IsSteady};
 ghost use Rattle.go_sched_core.specs.Steps.{IsFormed, Step, accepts, with_batch};
 ghost use Rattle.go_sched_core.specs.mirrors.Fitting.{ArePublished, Fits, IsBeginning, IsHand};
 ghost use Rattle.go_sched_core.specs.mirrors.Beside.{BeginsBeside, IsKeptEnd, IsMove, IsSteadyBeside};
@@ -18,11 +19,13 @@ use crate::running::{Formed, Running};
 use go_batch_core::graph_core::Workspace;
 use go_batch_core::part_core::Part;
 use go_batch_core::snap_core::{SharedSnapshot, Snapshot};
-use go_batch_core::{Batch, Planned, ReadPart, Steady, plan_over};
+use go_batch_core::{Batch, Over, Planned, ReadPart, Steady, plan_over};
 use go_path_core::{ImportPath, Module};
-use go_submit_core::{Batches, ModuleTree, PublishedBatch, Submission, Submissions, Ticket};
+use go_submit_core::{
+    Batches, ModuleTree, PublishedBatch, Submission, Submissions, Ticket, add_trees,
+};
 use go_text_core::Rule;
-use std::alloc::AllocError;
+use std::alloc::{AllocError, Global};
 use std::collections::LinkedList;
 
 // The most submissions that wait.
@@ -34,6 +37,35 @@ fn read_again(part: &Part) -> Result<ReadPart, AllocError>
     ensures { IfOk result (λ p. p ≡ part.now) }
 {
     Ok(ReadPart::new(part.share()?))
+}
+
+// The modules of submissions, each once.
+fn modules_of(alloc: Global, submissions: &Submissions) -> Result<Vec<Module>, AllocError>
+    ensures { IfOk result (λ v. v.items ≡ with_trees [] submissions.now) }
+{
+    let mut modules = Vec::new(alloc);
+    add_trees(&mut modules, submissions.as_slice())?;
+    Ok(modules)
+}
+
+// The plan of the packages of a snapshot with what was submitted, and what of the snapshot is as it was. Only packages inside the modules of what was
+// submitted can have changed.
+fn plan_with(
+    alloc: Global,
+    snapshot: &Snapshot,
+    old: &Planned,
+    submissions: &Submissions,
+    sources: &Workspace,
+) -> Result<Over, AllocError>
+    requires planned { IsPlanned snapshot.now.sources old.now.plan old.now.reached }
+    requires sources { sources.now ≡ submitted snapshot.now.sources submissions.now }
+    ensures planned { IfOk result (λ o. IsPlanned sources.now o.planned.plan o.planned.reached) }
+    ensures steady { IfOk result (λ o. BeginsSteady snapshot.now.sources sources.now o.steady) }
+{
+    let modules = modules_of(alloc, submissions)?;
+    // Its packages stand in order of path.
+    let _packages = sources.packages();
+    plan_over(alloc, snapshot, old, modules.as_slice(), sources)
 }
 
 impl Core {
@@ -206,13 +238,24 @@ impl Core {
     }
 
     // The plan of what is to be compiled, and what of the last snapshot is as it was in it, where that is known.
-    fn planned_with(&self, sources: &Workspace) -> Result<(Planned, Option<Steady>), AllocError>
+    fn planned_with(
+        &self,
+        submissions: &Submissions,
+        sources: &Workspace,
+    ) -> Result<(Planned, Option<Steady>), AllocError>
+        requires { sources.now ≡ submitted (sources_of self.now.published) submissions.now }
         ensures planned { IfOk result (λ p. IsPlanned sources.now p.0.plan p.0.reached) }
         ensures steady { IfOk result (λ p. BeginsBeside self.now.published sources.now p.1) }
     {
         match (&self.planned, self.published.last()) {
             (Some(planned), Some(last)) => {
-                let over = plan_over(self.alloc, last.snapshot.get(), planned, sources)?;
+                let over = plan_with(
+                    self.alloc,
+                    last.snapshot.get(),
+                    planned,
+                    submissions,
+                    sources,
+                )?;
                 Ok((over.planned, Some(over.steady)))
             }
             _ => Ok((Planned::of(self.alloc, sources)?, None)),
@@ -227,7 +270,7 @@ impl Core {
     {
         let submissions = Submissions::new(self.alloc, self.waiting_again()?)?;
         let sources = submissions.put_into(self.published.sources(self.alloc)?)?;
-        let (planned, steady) = self.planned_with(&sources)?;
+        let (planned, steady) = self.planned_with(&submissions, &sources)?;
         let batch = Batch::begin(self.alloc, sources, planned)?;
         let running = Running {
             generation: self.generations + 1,
