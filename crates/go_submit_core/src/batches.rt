@@ -1,35 +1,34 @@
 //! The published batches, shared.
-ghost use Rattle.std.specs.Prelude.{◌≡◌, ◌-◌, ◌++◌, ◌∷◌, [], IfOk, IfSome, MatchOption, Some, length, map, slice_get};
+ghost use Rattle.std.specs.Prelude.{◌≡◌, ◌++◌, ◌∷◌, [], IfOk, IfSome, MatchOption, length, slice_get};
 ghost use Rattle.std.specs.Option.{option_copied};
-ghost use Rattle.std.specs.Arc.{arc_value};
 ghost use Rattle.go_snap_core.specs.graph_core.Workspaces.{AreAllRead};
 ghost use Rattle.go_submit_core.specs.Published.{AreSound, IsEarlierPart, IsFoundIn, IsOneWorker, last_of, modules_of, number_of, sources_of};
-ghost use Rattle.go_submit_core.specs.Modules.{with_trees};
 ghost use Rattle.go_submit_core.specs.Submitted.{submitted};
 
-use crate::modules::{add_trees, shared_modules};
+use crate::list::BatchList;
+use crate::module_list::ModuleList;
+use crate::modules::shared_modules;
 use crate::published::PublishedBatch;
-use crate::submission::{Submissions, Ticket, has_ticket};
+use crate::submission::{Ticket, has_ticket};
 use go_path_core::{ImportPath, Module};
 use go_snap_core::SharedSnapshot;
 use go_snap_core::graph_core::Workspace;
 use go_snap_core::part_core::Part;
-use go_text_core::add;
 use std::alloc::{AllocError, Global};
 use std::marker::Model;
 use std::sync::Arc;
 
 // The batches, and the modules of which there is a submission among them, each once.
 #[derive(Drop)]
-struct BatchList {
-    batches: Vec<Arc<PublishedBatch>>,
-    modules: Vec<Module>,
+struct Listing {
+    batches: BatchList,
+    modules: ModuleList,
 }
 
 /// The published batches, in the order in which they were published. A handle over one shared pointer, and so is each batch. Contracts see them as a
 /// list, and that each snapshot is the one of what was published up to it.
 pub struct Batches {
-    list: Arc<BatchList>,
+    list: Arc<Listing>,
 }
 
 impl Drop for Batches {
@@ -39,7 +38,7 @@ impl Drop for Batches {
 }
 
 impl Model for Batches {
-    ghost use Rattle.std.specs.Prelude.{List, map};
+    ghost use Rattle.std.specs.Prelude.{List};
     ghost use Rattle.std.specs.Arc.{arc_value};
     ghost use Rattle.go_submit_core.specs.declared.published.PublishedBatch.{PublishedBatch};
     ghost use Rattle.go_submit_core.specs.Coding.{coded_batches};
@@ -49,50 +48,9 @@ impl Model for Batches {
 
     ghost coded = { coded_batches };
 
-    ghost view = { λ b. map (λ a. arc_value a) (arc_value b.list).batches.items };
+    ghost view = { λ b. (arc_value b.list).batches };
 
-    ghost invariant = { λ b. IsKept (map (λ a. arc_value a) (arc_value b.list).batches.items) (arc_value b.list).modules.items };
-}
-
-// The same batches, each shared, with room for one more.
-fn shared(
-    alloc: Global,
-    batches: &[Arc<PublishedBatch>],
-) -> Result<Vec<Arc<PublishedBatch>>, AllocError>
-    ensures { IfOk result (λ v. map (λ a. arc_value a) v.items ≡ map (λ a. arc_value a) batches.now) }
-{
-    let mut copy = Vec::new(alloc);
-    copy.reserve(batches.len())?;
-    for batch in batches {
-        add(&mut copy, Arc::try_clone(batch)?)?;
-    }
-    Ok(copy)
-}
-
-// The modules of batches with those of submissions.
-fn modules_with(
-    alloc: Global,
-    modules: &[Module],
-    submissions: &Submissions,
-) -> Result<Vec<Module>, AllocError>
-    ensures { IfOk result (λ v. v.items ≡ with_trees modules.now submissions.now) }
-{
-    let mut longer = shared_modules(alloc, modules)?;
-    add_trees(&mut longer, submissions.as_slice())?;
-    Ok(longer)
-}
-
-// The batches with one more.
-fn list_with(
-    alloc: Global,
-    batches: &[Arc<PublishedBatch>],
-    batch: PublishedBatch,
-) -> Result<Vec<Arc<PublishedBatch>>, AllocError>
-    ensures { IfOk result (λ v. map (λ a. arc_value a) v.items ≡ map (λ a. arc_value a) batches.now ++ batch ∷ []) }
-{
-    let mut longer = shared(alloc, batches)?;
-    add(&mut longer, Arc::new(alloc, batch)?)?;
-    Ok(longer)
+    ghost invariant = { λ b. IsKept (arc_value b.list).batches (arc_value b.list).modules };
 }
 
 // The part of the package of a path in a snapshot, shared, where there is one.
@@ -119,9 +77,9 @@ impl Batches {
     pub fn new(alloc: Global) -> Result<Batches, AllocError>
         ensures { IfOk result (λ b. b ≡ []) }
     {
-        let list = BatchList {
-            batches: Vec::new(alloc),
-            modules: Vec::new(alloc),
+        let list = Listing {
+            batches: BatchList::new(alloc)?,
+            modules: ModuleList::new(alloc)?,
         };
         Ok(Batches {
             list: Arc::new(alloc, list)?,
@@ -129,7 +87,8 @@ impl Batches {
     }
 
     /// These batches, and one more, whose snapshot is the one of what was published up to it. The batches are shared: the time and the memory are those
-    /// of one pointer for each.
+    /// of one pointer for each batch behind the full pieces of 64, which are fewer than 64. Each 64th time it is one more for each piece, so a time one
+    /// for each 4096 batches; and where a module is new, one handle for each module.
     ///
     /// # Errors
     ///
@@ -138,10 +97,10 @@ impl Batches {
         requires { IsOneWorker (submitted (sources_of self.now) batch.submissions) batch.snapshot }
         ensures { IfOk result (λ b. b ≡ self.now ++ batch ∷ []) }
     {
-        let modules = modules_with(alloc, &self.list.modules, &batch.submissions)?;
-        let batches = list_with(alloc, &self.list.batches, batch)?;
+        let modules = self.list.modules.with_those_of(alloc, &batch.submissions)?;
+        let batches = self.list.batches.with_one(alloc, batch)?;
         Ok(Batches {
-            list: Arc::new(alloc, BatchList { batches, modules })?,
+            list: Arc::new(alloc, Listing { batches, modules })?,
         })
     }
 
@@ -170,10 +129,7 @@ impl Batches {
         ensures value { option_copied result ≡ slice_get self.now place }
         ensures sound { AreSound self.now }
     {
-        match self.list.batches.get(place) {
-            Some(batch) => Some(batch),
-            None => None,
-        }
+        self.list.batches.get(place)
     }
 
     // The last batch.
@@ -201,7 +157,7 @@ impl Batches {
     pub fn copied_modules(&self, alloc: Global) -> Result<Vec<Module>, AllocError>
         ensures { IfOk result (λ v. v.items ≡ modules_of self.now) }
     {
-        shared_modules(alloc, &self.list.modules)
+        shared_modules(alloc, self.list.modules.as_slice())
     }
 
     /// The packages of all that is published: the last tree of each module. They are shared.

@@ -4,8 +4,11 @@
 
 mod batches;
 mod laws;
+mod list;
+mod module_list;
 mod module_tree;
 mod modules;
+mod piece;
 mod published;
 mod submission;
 mod tree_rules;

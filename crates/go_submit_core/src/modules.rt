@@ -1,5 +1,6 @@
 //! The modules of submissions, each once.
 ghost use Rattle.std.specs.Prelude.{◌≡◌, IfOk, OnOk};
+ghost use Rattle.std.specs.List.{list_all};
 ghost use Rattle.std.specs.Str.{bytes_eq};
 ghost use Rattle.go_submit_core.specs.Modules.{is_among, with_module, with_trees};
 
@@ -20,6 +21,15 @@ pub fn is_among(modules: &[Module], own: &Module) -> bool
     ensures { result ≡ is_among own.now modules.now }
 {
     modules.iter().any(|module| is_same_module(module, own))
+}
+
+/// Whether the module of each submission is among these.
+pub(crate) fn are_among(modules: &[Module], submissions: &[Submission]) -> bool
+    ensures { result ≡ list_all (λ s. is_among s.tree.own modules.now) submissions.now }
+{
+    submissions
+        .iter()
+        .all(|submission| is_among(modules, submission.tree.own()))
 }
 
 /// Adds a module that is not there yet.

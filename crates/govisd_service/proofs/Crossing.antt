@@ -19,6 +19,10 @@ use Rattle.govisd_desk.specs.batch_core.contracts.tell.Tell as tell
 use Rattle.govisd_desk.specs.batch_core.contracts.slot.Slot as slot
 use Rattle.govisd_desk.specs.batch_core.contracts.batch.Batch as batch
 use Rattle.govisd_desk.specs.submit_core.contracts.batches.Batches as batches
+use Rattle.govisd_desk.specs.submit_core.contracts.list.BatchList as batch_list
+use Rattle.govisd_desk.specs.submit_core.contracts.module_list.ModuleList as module_list
+use Rattle.govisd_desk.specs.submit_core.contracts.piece.Piece as batch_piece
+use Rattle.govisd_desk.specs.submit_core.contracts.piece.SharedBatch as shared_batch
 use Rattle.govisd_desk.specs.sched_core.contracts.event.Event as event
 use Rattle.govisd_desk.specs.sched_core.contracts.event.Held as held
 use Rattle.govisd_desk.specs.sched_core.contracts.running.Running as running
@@ -71,11 +75,35 @@ batch_row_send = search (plan_row_send, shared_reached_row_send, turns_row_send,
 running_row_send : IsSend running.the_row
 running_row_send = search (batch_row_send, below, sendable) depth 60 fits 20000
 
+shared_batch_row_send : IsSend shared_batch.the_row
+shared_batch_row_send = search (below, sendable) depth 60 fits 20000
+
+shared_batch_row_sync : IsSync shared_batch.the_row
+shared_batch_row_sync = search (below, sendable) depth 60 fits 20000
+
+batch_piece_row_send : IsSend batch_piece.the_row
+batch_piece_row_send = search (shared_batch_row_send, shared_batch_row_sync, std.crosses, sendable) depth 60 fits 20000
+
+batch_piece_row_sync : IsSync batch_piece.the_row
+batch_piece_row_sync = search (shared_batch_row_send, shared_batch_row_sync, std.crosses, sendable) depth 60 fits 20000
+
+batch_list_row_send : IsSend batch_list.the_row
+batch_list_row_send = search (batch_piece_row_send, batch_piece_row_sync, shared_batch_row_send, std.crosses, sendable) depth 60 fits 20000
+
+batch_list_row_sync : IsSync batch_list.the_row
+batch_list_row_sync = search (batch_piece_row_send, batch_piece_row_sync, shared_batch_row_sync, std.crosses, sendable) depth 60 fits 20000
+
+module_list_row_send : IsSend module_list.the_row
+module_list_row_send = search (crossing, std.crosses, sendable) depth 60 fits 20000
+
+module_list_row_sync : IsSync module_list.the_row
+module_list_row_sync = search (crossing, std.crosses, sendable) depth 60 fits 20000
+
 batches_row_send : IsSend batches.the_row
-batches_row_send = search (below, sendable) depth 60 fits 20000
+batches_row_send = search (batch_list_row_send, batch_list_row_sync, module_list_row_send, module_list_row_sync, std.crosses, sendable) depth 60 fits 20000
 
 batches_row_sync : IsSync batches.the_row
-batches_row_sync = search (below, sendable) depth 60 fits 20000
+batches_row_sync = search (batch_list_row_send, batch_list_row_sync, module_list_row_send, module_list_row_sync, std.crosses, sendable) depth 60 fits 20000
 
 core_row_send : IsSend core.the_row
 core_row_send = search (list.the_send, held_row_send, running_row_send, batches_row_send, planned_row_send, steady_row_send, below, sendable) depth 60 fits 20000
