@@ -3,7 +3,7 @@ pub mod Among
 mod AnswerLists
 mod AnswerStanding
 mod Answering
-mod Answers
+pub mod Answers
 pub mod Called
 pub mod Clean
 pub mod CodeFunctions
@@ -14,17 +14,17 @@ pub mod Declaring
 pub mod FileStanding
 pub mod FileTelling
 mod Fitting
-mod Functions
+pub mod Functions
 pub mod Given
 pub mod Grammar
 pub mod Making
-mod Meanings
-mod Methods
+pub mod Meanings
+pub mod Methods
 pub mod Names
 mod Objects
 mod Own
 mod Packages
-mod Parts
+pub mod Parts
 pub mod Pieces
 pub mod Placed
 mod Reading
@@ -34,11 +34,11 @@ mod Scenes
 mod Selecting
 pub mod Snapshots
 pub mod Sound
-mod Tables
+pub mod Tables
 mod Telling
-mod Terms
+pub mod Terms
 mod Told
-mod Uses
+pub mod Uses
 mod Walking
-mod Wider
+pub mod Wider
 pub mod Within

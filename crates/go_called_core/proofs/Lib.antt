@@ -1,0 +1,17 @@
+pub mod Numbers
+pub mod Spelled
+pub mod Sourced
+pub mod Integers
+pub mod Beside
+pub mod Procedures
+pub mod Beginning
+pub mod Starts
+pub mod Over
+pub mod Denoting
+pub mod Walked
+pub mod Scenes
+pub mod Declared
+pub mod Told
+pub mod Parts
+pub mod Referred
+pub mod Placing

@@ -1,0 +1,144 @@
+//! Laws of the functions of workspaces and of the runs of their programs, with nothing to run.
+ghost use Rattle.go_faultless_core.specs.Called.{CallsAreServed};
+ghost use Rattle.go_faultless_core.specs.Parts.{PartsAreAmong, PartsAreSeenAlike, PartsShowTheirTypes};
+ghost use Rattle.go_faultless_core.specs.Runs.{FaultlessProgramsRun, ReachedProgramsRun};
+ghost use Rattle.go_faultless_core.specs.Served.{ConstantsAreServed, FunctionsAreServed, IntegersAreGiven, NamesAreRead};
+
+use go_called_core::{
+    calls_refer_to_theirs, functions_keep_types, integers_have_values, parts_are_read,
+    parts_tell_kept, starts_take_nothing,
+};
+use go_emit_core::{bodies_are_between_braces, objects_are_of_faultless};
+use go_fit_core::fitting_means_something;
+use go_laws_core::file_core::functions_are_placed;
+use go_laws_core::func_core::{functions_have_one_table, locals_are_declarations};
+use go_laws_core::parts_are_fit;
+use go_meant_core::programs_run_as_meant;
+use go_snap_core::whole_core::{check_is_local, imports_bind_theirs};
+use go_sources_core::objects_are_code_of_sources;
+use go_typed_core::functions_fit;
+
+/// The names of the files of a workspace come in code to the same over what all its packages tell and over what those tell that a package reaches.
+///
+/// The Go specification, "Packages", "Import declarations".
+pub fn parts_are_seen_alike()
+    ensures { PartsAreSeenAlike }
+{
+    check_is_local();
+    imports_bind_theirs();
+}
+
+/// The packages of a workspace show as types what their names mean where a type is written, to each package that reaches them.
+///
+/// The Go specification, "Exported identifiers", "Qualified identifiers", "Import declarations".
+pub fn parts_show_their_types()
+    ensures { PartsShowTheirTypes }
+{
+    check_is_local();
+    imports_bind_theirs();
+}
+
+/// So each part of a workspace stands among the others as the laws on functions ask.
+///
+/// The Go specification, "Packages".
+pub fn parts_are_among()
+    ensures { PartsAreAmong }
+{
+    parts_are_fit();
+    parts_are_read();
+    parts_are_seen_alike();
+    parts_show_their_types();
+}
+
+/// Integer literals have values in the functions of a workspace.
+///
+/// The Go specification, "Integer literals".
+pub fn integers_are_given()
+    ensures { IntegersAreGiven }
+{
+    integers_have_values();
+    parts_are_read();
+}
+
+/// The constants that names stand for in the functions of a workspace are of types over what their values are.
+///
+/// The Go specification, "Constants".
+pub fn constants_are_served()
+    ensures { ConstantsAreServed }
+{
+    parts_are_fit();
+    functions_keep_types();
+    parts_tell_kept();
+}
+
+/// Where a package knows no methods, of its own types or of those of packages that it reaches, each name of its functions is in code what it is to the check.
+///
+/// The Go specification, "Declarations and scope", "Selectors".
+pub fn names_are_read()
+    ensures { NamesAreRead }
+{
+    bodies_are_between_braces();
+    functions_are_placed();
+    functions_have_one_table();
+    imports_bind_theirs();
+    locals_are_declarations();
+    objects_are_of_faultless();
+}
+
+/// The calls of a function lead to functions that take their arguments, where the functions to which it refers are there, and take and give words of the
+/// signatures by which its calls were checked.
+///
+/// The Go specification, "Calls", "Function declarations".
+pub fn calls_are_served()
+    ensures { CallsAreServed }
+{
+    bodies_are_between_braces();
+    functions_are_placed();
+    functions_have_one_table();
+    imports_bind_theirs();
+    locals_are_declarations();
+    objects_are_of_faultless();
+    calls_refer_to_theirs();
+    names_are_read();
+    constants_are_served();
+}
+
+/// So all that the laws on functions ask beside the check is so of these functions, where their calls lead to functions that take their arguments.
+///
+/// The Go specification, "Packages", "Constants", "Integer literals".
+pub fn functions_are_served()
+    ensures { FunctionsAreServed }
+{
+    integers_are_given();
+    constants_are_served();
+    names_are_read();
+}
+
+/// A program that can be run, and whose functions are the code of sources, of which those that are reached have no faults, comes to what they mean. A source
+/// that no reference reaches may be as it will.
+///
+/// The Go specification, "Program execution".
+pub fn reached_programs_run()
+    ensures { ReachedProgramsRun }
+{
+    fitting_means_something();
+    programs_run_as_meant();
+}
+
+/// A program of a snapshot that can be run comes to what its sources mean, where the packages of the functions that are reached know no methods, and the functions
+/// to which these refer are there, and take and give words of the signatures by which their calls were checked.
+///
+/// The Go specification, "Packages", "Program initialization and execution".
+pub fn faultless_programs_run()
+    ensures { FaultlessProgramsRun }
+{
+    parts_are_among();
+    functions_are_served();
+    calls_are_served();
+    functions_fit();
+    functions_have_one_table();
+    functions_are_placed();
+    starts_take_nothing();
+    objects_are_code_of_sources();
+    reached_programs_run();
+}

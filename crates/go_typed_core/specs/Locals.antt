@@ -1,0 +1,26 @@
+-- A variable is over what its declaration gives it.
+--
+-- docs/RULES.md, "Bodies of functions", "Stack code". The Go specification, "Variable declarations", "Short variable declarations".
+use Rattle.std.specs.Prelude.{◌≡◌, ℕ, true, false, List, [], ◌∷◌, Some, None, Contains}
+use Rattle.go_text_core.specs.Text.{is_blank}
+use Rattle.go_tree_nodes.specs.declared.names.Ident.{Ident}
+use Rattle.go_tree_nodes.specs.Trees.{FileTree, FuncTree}
+use Rattle.go_local_core.specs.Binding.{Local}
+use Rattle.go_local_core.specs.Pieces.{piece_declares}
+use Rattle.go_local_core.specs.Steps.{Piece}
+use Rattle.go_piece_core.specs.Pieces.{piece_values}
+use Rattle.go_env_core.specs.declared.meaning.Meaning.{Meaning as NameMeaning}
+use Rattle.go_instruction_core.specs.declared.letters.Word.{Word}
+use Rattle.go_part_core.specs.Inputs.{InputModel}
+use Rattle.go_part_core.specs.Parts.{ContentOf, FileOf}
+use Rattle.go_laws_core.specs.Standing.{pieces_of}
+use Rattle.go_clear_core.specs.Statements.{StandsOver}
+use Rattle.go_typed_core.specs.Functions.{IsFunction, function_looks, typing_in}
+
+-- of a piece that declares one name, which is not blank, the name is the first of its block; and where it is a variable over this, the variable at its
+-- identifier is over the same in code
+abbrev pub LocalsAreTyped : Type 0
+LocalsAreTyped =
+    (i : InputModel) (c : ContentOf) (n : ℕ) (t : FileTree) (f : FileOf) (g : FuncTree) (all : List (Local NameMeaning)) → IsFunction i c n t f g all
+    → (p : Piece) → Contains (pieces_of g) p → (x : Ident) → piece_declares p ≡ x ∷ [] → is_blank x.name ≡ false
+    → (w : Word) (s : StandsOver (function_looks i c n t all).types (piece_values (function_looks i c n t all) (true ∷ []) p) w) → s.operand.constant ≡ None → typing_in i c f x.span.start ≡ Some w

@@ -1,0 +1,70 @@
+-- Types that are written are over what code takes them for.
+--
+-- docs/RULES.md, "Types inside functions", "Stack code". The Go specification, "Types", "Function types", "Declarations and scope".
+use Rattle.std.specs.Prelude.{◌≡◌, ℕ, true, List, [], Option, Some, Contains}
+use Rattle.go_decl_core.specs.declared.keys.DeclKey.{DeclKey}
+use Rattle.go_decl_core.specs.declared.keys.DeclRef.{DeclRef}
+use Rattle.go_block_core.specs.declared.binding.Binding.{Binding}
+use Rattle.go_block_core.specs.declared.binding.Target.TheVariants as targets
+use Rattle.go_block_core.specs.Blocks.{file_binding}
+use Rattle.go_tree_nodes.specs.declared.files.Receiver.{Receiver}
+use Rattle.go_tree_nodes.specs.Trees.{FileTree, FuncTree, TypeTree}
+use Rattle.go_tree_nodes.specs.WrittenTypes.{signature_types, some_type}
+use Rattle.go_local_core.specs.Binding.{Local}
+use Rattle.go_local_core.specs.Steps.{Piece, Header, Spec, Act, Condition, Given}
+use Rattle.go_term_core.specs.Terms.{Term}
+use Rattle.go_settle_core.specs.Settled.{settled}
+use Rattle.go_table_core.specs.Entries.{Entry, find_entry, kinds_in}
+use Rattle.go_decide_core.specs.Rules.{typed}
+use Rattle.go_entry_core.specs.Meanings.{shown_type, type_of_key}
+use Rattle.go_entry_core.specs.Showing.{shown_in}
+use Rattle.go_expr_core.specs.Denoting.{named_type, written_type}
+use Rattle.go_piece_core.specs.Headers.{returned_types}
+use Rattle.go_face_core.specs.declared.face.Face.TheVariants as faces
+use Rattle.go_face_core.specs.declared.shown.ShownFace.TheVariants as shown_faces
+use Rattle.go_face_core.specs.Packages.{exported_in, face_in}
+use Rattle.go_env_core.specs.declared.meaning.Meaning.{Meaning as NameMeaning}
+use Rattle.go_instruction_core.specs.declared.letters.Word.{Word}
+use Rattle.go_fragment_core.specs.declared.names.Gives.TheVariants as gives
+use Rattle.go_fragment_core.specs.Fragment.{type_name_word, type_word}
+use Rattle.go_fragment_core.specs.Inside.{signature_inside}
+use Rattle.go_fold_core.specs.Reading.{IsOneOver, IsOver}
+use Rattle.go_fit_core.specs.Fitting.{signature_gives}
+use Rattle.go_func_core.specs.Stands.{outer_looks}
+use Rattle.go_summary_core.specs.Views.{exports_told, faces_told}
+use Rattle.go_part_core.specs.Inputs.{InputModel}
+use Rattle.go_part_core.specs.Parts.{ContentOf, FileOf}
+use Rattle.go_laws_core.specs.ConstantLaws.{code_names_of}
+use Rattle.go_laws_core.specs.Standing.{pieces_of, stand_in_part}
+use Rattle.go_typed_core.specs.Functions.{IsFunction, function_looks, known_types}
+
+-- what a term is among the types of a table, where it is a type
+abbrev pub typed_in : List Entry → Term → Option Term
+typed_in es u = typed (find_entry es) (settled (kinds_in es) u)
+
+-- what the packages that are reached show as a type is what its name means where a type is written: behind a dot, and by itself, where an import binds it
+pub record ShowTheirTypes (i : InputModel) (c : ContentOf) : Type 0 where
+  pub named : (file : ℕ) (name : List ℕ) (b : Binding) (k : DeclKey) (t : Option Term) → file_binding c.blocks file name ≡ Some b → b.target ≡ targets.Exported k
+      → face_in (faces_told i.reached) k.path k.decl ≡ Some (faces.«Type» t) → typed_in (known_types i c) (type_of_key k) ≡ t
+  pub shown : (path name : List ℕ) (d : DeclRef) (t : Option Term) → exported_in (faces_told i.reached) path name ≡ shown_faces.Shown d (Some (faces.«Type» t))
+      → typed_in (known_types i c) (shown_type path (shown_in (exports_told i.reached) path name)) ≡ t
+
+-- the types of a header, and that of a specification
+abbrev pub own_types : Piece → List TypeTree
+own_types (Header r s) = signature_types s
+own_types (Spec kind v) = some_type v.type_expr
+own_types (Act s) = []
+own_types (Condition e) = []
+own_types (Given place es) = []
+
+-- a type that is written in a header or a specification is over what code takes it for, and so are the type of a receiver and the result of a function
+pub record TypesAreOver : Type 0 where
+  pub written : (i : InputModel) (c : ContentOf) (n : ℕ) (t : FileTree) (f : FileOf) (g : FuncTree) (all : List (Local NameMeaning)) → IsFunction i c n t f g all → ShowTheirTypes i c
+      → (p : Piece) → Contains (pieces_of g) p → (u : TypeTree) → Contains (own_types p) u → (w : Word) → type_word (code_names_of i c n f g) u ≡ Some w
+      → IsOver (function_looks i c n t all).types w (written_type (function_looks i c n t all) u)
+  pub received : (i : InputModel) (c : ContentOf) (n : ℕ) (t : FileTree) (f : FileOf) (g : FuncTree) (all : List (Local NameMeaning)) → IsFunction i c n t f g all → ShowTheirTypes i c
+      → (r : Receiver) → g.receiver ≡ Some r → (w : Word) → type_name_word (code_names_of i c n f g) r.base ≡ Some w
+      → IsOver (function_looks i c n t all).types w (named_type (function_looks i c n t all) r.base)
+  pub returned : (i : InputModel) (c : ContentOf) (n : ℕ) (t : FileTree) (f : FileOf) (g : FuncTree) (all : List (Local NameMeaning)) → IsFunction i c n t f g all → ShowTheirTypes i c
+      → signature_inside (code_names_of i c n f g) g.signature ≡ true → (w : Word) → signature_gives (code_names_of i c n f g) g.signature ≡ gives.One w
+      → IsOneOver (function_looks i c n t all).types w (returned_types (outer_looks (stand_in_part i c n t)) g.signature)
