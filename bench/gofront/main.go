@@ -1,8 +1,7 @@
 // Gofront reads one Go file on standard input and tells by go/types what each identifier that is used
 // denotes: the peer of `govisd resolve`, in its format as far as go/types answers. With the argument `parse` it
 // only parses the file, by go/parser: the peer of `govisd_cases parse`. With `sources FILE` it parses all files of an
-// archive, holds their trees, and counts them: the peer of `govisd_cases sources`. With `names FILE` it tells by go/types
-// what each identifier that a function of an archive uses denotes: the peer of `govisd_cases names` (names.go). With `check FILE` it parses and checks
+// archive, holds their trees, and counts them: the peer of `govisd_cases sources`. With `check FILE` it parses and checks
 // the packages of an archive, and counts what it finds: the peer of `govisd_cases counts` (checked.go).
 //
 // Each line is OFFSET ROLE TEXT ANSWER. ROLE is type or value. ANSWER is universe.NAME,
@@ -235,7 +234,7 @@ func sources(name string) error {
 }
 
 func run() int {
-	modes := map[string]func(string) error{"sources": sources, "names": names, "check": checkAll, "compile": compileAll}
+	modes := map[string]func(string) error{"sources": sources, "check": checkAll, "compile": compileAll}
 	if len(os.Args) == 3 && modes[os.Args[1]] != nil {
 		if err := modes[os.Args[1]](os.Args[2]); err != nil {
 			fmt.Fprintln(os.Stderr, err)

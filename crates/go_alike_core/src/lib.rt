@@ -17,7 +17,7 @@ pub use names::{same_exports, same_names};
 pub mod block_core {
     pub use go_face_core::block_core::{
         Binding, BlockFault, Blocks, DeclKind, DeclRef, Exports, Imported, NamedDecl, Target,
-        blocks, import_names, import_specs, one_blocks_alone, workspace_blocks,
+        blocks, import_names, import_specs, one_blocks_alone,
     };
 }
 

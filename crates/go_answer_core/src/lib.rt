@@ -30,7 +30,7 @@ pub mod alike_core {
 pub mod block_core {
     pub use go_fault_core::block_core::{
         Binding, Blocks, DeclKind, DeclRef, Imported, Target, blocks, import_names, import_specs,
-        one_blocks_alone, workspace_blocks,
+        one_blocks_alone,
     };
 }
 

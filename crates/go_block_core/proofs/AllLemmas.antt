@@ -229,7 +229,3 @@ entry ps plan bs es i p (Some b) planned made at has =
 
 pub all_made : (ps : List PackageModel) (plan : PlanModel) (bs : List (Option BlocksModel)) (es : List (Option ExportsModel)) → IsPlan ps plan → AreMade ps plan.order bs es → AreAllBlocks ps bs
 all_made ps plan bs es planned made = numbered_from (λ number p b. AreBlocksOrNone ps bs number p b) 0 ps bs made.count (λ i p o at has. (let n : i ≡ 0 + i = omega arith in subst (λ m. AreBlocksOrNone ps bs m p o) n (entry ps plan bs es i p o planned made at has)))
-
--- the package that is read at the number of an assembled one
-pub read_at : (ps packages : List PackageModel) (i : ℕ) (p : PackageModel) (h : IsAssembledAt ps i) → packages ≡ ps → p ≡ get_or packages i p → ◌≡◌ {A = PackageModel} (h.0, h.1) p
-read_at ps packages i p h same is = sym (get_or_from_slice_get ps i (h.0, h.1) p h.2) ∙ sym (is ∙ ap (λ l. get_or l i p) same)

@@ -1,5 +1,4 @@
-//! The package block and the file blocks of a package, and of the assembled packages of a workspace: which names they
-//! bind, and the faults in them.
+//! The package block and the file blocks of a package: which names they bind, and the faults in them.
 //!
 //! "The package block contains all Go source text for that package", and each file "has a file block that
 //! contains all Go source text in that file" (the Go specification, "Blocks"). Constants, types, variables and
@@ -10,7 +9,6 @@
 //! imported package shows ([`Exports`]): its path, its name, and its exported names with their declarations.
 #![tactic(auto)]
 
-mod all;
 mod binding;
 mod block;
 mod decls;
@@ -24,7 +22,6 @@ mod package_block;
 mod table;
 mod word;
 
-pub use all::workspace_blocks;
 pub use binding::{Binding, Target};
 pub use block::Blocks;
 pub use exports::{Exports, NamedDecl};

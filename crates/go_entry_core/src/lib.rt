@@ -23,7 +23,7 @@ pub use shown_packages::ShownPackages;
 pub mod block_core {
     pub use go_scope_core::block_core::{
         Binding, BlockFault, Blocks, DeclKind, DeclRef, Exports, Imported, NamedDecl, Target,
-        blocks, import_names, import_specs, one_blocks_alone, workspace_blocks,
+        blocks, import_names, import_specs, one_blocks_alone,
     };
 }
 

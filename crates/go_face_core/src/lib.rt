@@ -31,7 +31,7 @@ pub use written::WrittenFaces;
 pub mod block_core {
     pub use go_entry_core::block_core::{
         Binding, BlockFault, Blocks, DeclKind, DeclRef, Exports, Imported, NamedDecl, Target,
-        blocks, import_names, import_specs, one_blocks_alone, workspace_blocks,
+        blocks, import_names, import_specs, one_blocks_alone,
     };
 }
 

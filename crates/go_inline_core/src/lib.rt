@@ -24,7 +24,6 @@ pub use types::{InlineType, InlineTypes};
 /// What the crates above name of `go_names_core`.
 pub mod names_core {
     pub use go_names_core::{
-        Checker, Denoted, Meant, OpenNames, Outside, check_function, function_names, header_idents,
-        listed_idents,
+        Checker, Meant, OpenNames, Outside, check_function, header_idents, listed_idents,
     };
 }

@@ -28,7 +28,7 @@ pub mod inline_core {
 
 /// What the crates above name of `go_names_core`.
 pub mod names_core {
-    pub use go_value_core::names_core::{Denoted, Outside, function_names};
+    pub use go_value_core::names_core::Outside;
 }
 
 /// What the crates above name of `go_operand_core`.

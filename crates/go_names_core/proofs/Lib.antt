@@ -1,8 +1,6 @@
 pub mod BodyLemmas
 pub mod DeclareLemmas
 pub mod FaultLemmas
-pub mod MeansLemmas
-pub mod NoteLemmas
 pub mod OccurrenceLemmas
 pub mod Runs
 pub mod SceneLemmas

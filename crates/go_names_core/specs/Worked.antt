@@ -16,11 +16,8 @@ use Rattle.go_scope_core.specs.block_core.Blocks.{BlocksModel, blocks_model}
 use Rattle.go_walk_core.specs.local_core.declared.Fault.{Fault}
 use Rattle.go_walk_core.specs.local_core.Tables.{walked, out_by_intervals}
 use Rattle.go_names_core.specs.declared.meaning.Outside.TheVariants as outside
-use Rattle.go_names_core.specs.declared.names.Denoted.{Denoted}
-use Rattle.go_names_core.specs.declared.names.Denoted.TheVariants as denoted
-use Rattle.go_names_core.specs.declared.names.NameUse.{NameUse}
 use Rattle.go_names_core.specs.Scope.{beyond_in}
-use Rattle.go_names_core.specs.Uses.{name_use_rules, denoted_outside}
+use Rattle.go_names_core.specs.Uses.{NameMeaning, LocalAt, Beyond, NameUse, name_use_rules, denoted_outside}
 
 -- the package declares f, g, len and the type T, and its file imports p
 abbrev pub decl : ℕ → decl_kind.the_data → DeclRef
@@ -56,28 +53,28 @@ names_sample_function = record {
   close_brace = at 72;
 }
 
-abbrev pub names_sample_use : ℕ → Denoted → NameUse
+abbrev pub names_sample_use : ℕ → NameMeaning → NameUse
 names_sample_use n d = record { offset = n; denoted = Some d }
 
 abbrev pub names_sample_uses : List NameUse
 names_sample_uses =
-    names_sample_use 6 (denoted.Outside (outside.Package (decl 0 decl_kind.«Type»)))
-    ∷ names_sample_use 13 (denoted.Local 3)
-    ∷ names_sample_use 17 (denoted.Outside (outside.File 91))
-    ∷ names_sample_use 27 (denoted.Local 5)
-    ∷ names_sample_use 29 (denoted.Local 11)
-    ∷ names_sample_use 31 (denoted.Local 23)
-    ∷ names_sample_use 33 (denoted.Local 25)
-    ∷ names_sample_use 36 (denoted.Local 15)
-    ∷ names_sample_use 40 (denoted.Outside (outside.Package (decl 9 decl_kind.Func)))
-    ∷ names_sample_use 42 (denoted.Local 23)
-    ∷ names_sample_use 44 (denoted.Outside (outside.Package (decl 10 decl_kind.Func)))
-    ∷ names_sample_use 49 (denoted.Local 25)
+    names_sample_use 6 (Beyond (outside.Package (decl 0 decl_kind.«Type»)))
+    ∷ names_sample_use 13 (LocalAt 3)
+    ∷ names_sample_use 17 (Beyond (outside.File 91))
+    ∷ names_sample_use 27 (LocalAt 5)
+    ∷ names_sample_use 29 (LocalAt 11)
+    ∷ names_sample_use 31 (LocalAt 23)
+    ∷ names_sample_use 33 (LocalAt 25)
+    ∷ names_sample_use 36 (LocalAt 15)
+    ∷ names_sample_use 40 (Beyond (outside.Package (decl 9 decl_kind.Func)))
+    ∷ names_sample_use 42 (LocalAt 23)
+    ∷ names_sample_use 44 (Beyond (outside.Package (decl 10 decl_kind.Func)))
+    ∷ names_sample_use 49 (LocalAt 25)
     ∷ record { offset = 56; denoted = None }
-    ∷ names_sample_use 58 (denoted.Local 5)
-    ∷ names_sample_use 64 (denoted.Outside (outside.Package (decl 0 decl_kind.«Type»)))
-    ∷ names_sample_use 68 (denoted.Local 54)
-    ∷ names_sample_use 71 (denoted.Outside (outside.Universe predeclared.Int))
+    ∷ names_sample_use 58 (LocalAt 5)
+    ∷ names_sample_use 64 (Beyond (outside.Package (decl 0 decl_kind.«Type»)))
+    ∷ names_sample_use 68 (LocalAt 54)
+    ∷ names_sample_use 71 (Beyond (outside.Universe predeclared.Int))
     ∷ []
 
 -- no name before the last `:=` is new
@@ -85,7 +82,7 @@ abbrev pub names_sample_faults : List Fault
 names_sample_faults = record { offset = 60; rule = B4 } ∷ []
 
 -- what a name denotes outside the function
-abbrev pub sample_beyond : List ℕ → Option Denoted
+abbrev pub sample_beyond : List ℕ → Option NameMeaning
 sample_beyond = beyond_in denoted_outside names_sample_blocks 0
 
 -- each name that is used has the declaration that is written here, and the faults are these: on the way through the function, and by the

@@ -1,7 +1,5 @@
 -- Definitions that follow the code step by step, for its proof. No statement that a caller rests on needs them.
 pub mod Declaring
-pub mod NameLaws
-pub mod Noting
 pub mod Run
 pub mod States
 pub mod StateLaws

@@ -1,9 +1,8 @@
-//! The names of a function: a walk that checks its pieces with the names that are open there, and what each name denotes.
+//! The names of a function: a walk that checks its pieces with the names that are open there.
 //!
 //! The Go specification, "Blocks" and "Declarations and scope".
 #![tactic(auto)]
 
-mod alone;
 mod checker;
 mod declaring;
 mod function;
@@ -11,8 +10,6 @@ mod idents;
 mod laws;
 mod look;
 mod meaning;
-mod names;
-mod noting;
 mod walker;
 
 pub use checker::Checker;
@@ -21,7 +18,6 @@ pub use idents::{header_idents, listed_idents, signature_idents};
 pub use laws::{open_names_are_bound, uses_are_occurrences, worked_names};
 pub use look::OpenNames;
 pub use meaning::{Meant, Outside};
-pub use names::{Denoted, FuncNames, NameUse, function_names};
 
 /// What the crates above name of `go_block_core`.
 pub mod block_core {

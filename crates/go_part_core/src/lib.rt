@@ -30,7 +30,6 @@ pub mod answer_core {
 pub mod block_core {
     pub use go_package_core::block_core::{
         Blocks, DeclKind, DeclRef, Imported, Target, import_specs, one_blocks_alone,
-        workspace_blocks,
     };
 }
 
@@ -74,7 +73,7 @@ pub mod handle_core {
 
 /// What the crates above name of `go_names_core`.
 pub mod names_core {
-    pub use go_package_core::names_core::{Denoted, Outside, function_names};
+    pub use go_package_core::names_core::Outside;
 }
 
 /// What the crates above name of `go_operand_core`.

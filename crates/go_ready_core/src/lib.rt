@@ -33,7 +33,7 @@ pub mod answer_core {
 pub mod block_core {
     pub use go_used_core::block_core::{
         Blocks, DeclKind, DeclRef, Imported, Target, blocks, import_names, import_specs,
-        one_blocks_alone, workspace_blocks,
+        one_blocks_alone,
     };
 }
 
@@ -102,7 +102,7 @@ pub mod known_core {
 
 /// What the crates above name of `go_names_core`.
 pub mod names_core {
-    pub use go_known_core::names_core::{Denoted, Outside, function_names};
+    pub use go_known_core::names_core::Outside;
 }
 
 /// What the crates above name of `go_operand_core`.

@@ -21,7 +21,7 @@ pub use scope::{InScope, Scopes};
 pub mod block_core {
     pub use go_block_core::{
         Binding, BlockFault, Blocks, DeclKey, DeclKind, DeclRef, Exports, Imported, NamedDecl,
-        Target, blocks, import_names, import_specs, one_blocks_alone, workspace_blocks,
+        Target, blocks, import_names, import_specs, one_blocks_alone,
     };
 }
 

@@ -30,7 +30,7 @@ pub mod alike_core {
 pub mod block_core {
     pub use go_alike_core::block_core::{
         Binding, BlockFault, Blocks, DeclKind, DeclRef, Imported, NamedDecl, Target, blocks,
-        import_names, import_specs, one_blocks_alone, workspace_blocks,
+        import_names, import_specs, one_blocks_alone,
     };
 }
 

@@ -30,7 +30,7 @@ pub mod answer_core {
 pub mod block_core {
     pub use go_answer_core::block_core::{
         Blocks, DeclKind, DeclRef, Imported, Target, blocks, import_names, import_specs,
-        one_blocks_alone, workspace_blocks,
+        one_blocks_alone,
     };
 }
 

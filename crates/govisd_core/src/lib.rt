@@ -14,7 +14,7 @@ pub use run::{ResolveEnd, run_resolve};
 
 /// What the crates above name of `go_block_core`.
 pub mod block_core {
-    pub use go_part_core::block_core::{Blocks, DeclKind, DeclRef, Target, workspace_blocks};
+    pub use go_part_core::block_core::{Blocks, DeclKind, DeclRef, Target};
 }
 
 /// What the crates above name of `go_file_core`.
@@ -29,7 +29,7 @@ pub mod func_core {
 
 /// What the crates above name of `go_names_core`.
 pub mod names_core {
-    pub use go_part_core::names_core::{Denoted, Outside, function_names};
+    pub use go_part_core::names_core::Outside;
 }
 
 /// What the crates above name of `go_parse_core`.

@@ -13,7 +13,7 @@ fn add_text_answer(out: &mut Lines, alloc: Global, kind: &str, text: &str) {
             trees::add_answer(out, alloc, kind, text);
         }
         "chain" | "ring" | "complete" => shapes::add_answer(out, alloc, kind, text),
-        "sources" | "replaced" | "copied" | "packages" | "plan" | "scope" | "names" | "keys" => {
+        "sources" | "replaced" | "copied" | "packages" | "plan" | "scope" | "keys" => {
             workspaces::add_answer(out, alloc, kind, text);
         }
         _ => words::add_answer(out, alloc, kind, text),

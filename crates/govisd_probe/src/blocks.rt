@@ -1,4 +1,5 @@
 //! What the imports, the blocks and the faults of the packages of a workspace are.
+use go_snap_core::part_core::Part;
 use go_tree_core::{Role, occurrences};
 use go_tree_nodes::File;
 use govisd_core::block_core::{Blocks, DeclKind, DeclRef, Target};
@@ -17,14 +18,14 @@ pub struct PackageBlocks<'a> {
 /// The package of a number, where it has blocks.
 pub fn place_of<'a>(
     packages: &'a [Named],
-    all: &'a [Option<Blocks>],
+    parts: &'a [Option<Part>],
     number: usize,
 ) -> Option<PackageBlocks<'a>> {
-    match (packages.get(number), all.get(number)) {
-        (Some(package), Some(Some(blocks))) => Some(PackageBlocks {
+    match (packages.get(number), parts.get(number)) {
+        (Some(package), Some(Some(part))) => Some(PackageBlocks {
             packages,
             package,
-            blocks,
+            blocks: &part.content().blocks,
         }),
         _ => None,
     }

@@ -5,7 +5,7 @@
 
 mod answers;
 mod blocks;
-mod names;
+mod keys;
 mod plans;
 mod runs;
 mod scopes;

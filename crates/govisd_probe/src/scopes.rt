@@ -3,8 +3,8 @@ ghost use Rattle.std.specs.Prelude.{◌<◌, length};
 
 use crate::blocks::{PackageBlocks, add_decl, add_target, place_of};
 use crate::words::pair;
+use go_snap_core::part_core::Part;
 use go_text_core::{Rule, add};
-use govisd_core::block_core::Blocks;
 use govisd_core::scope_core::{DeclId, InScope, Scopes, ShortDecl, ShortName};
 use govisd_show::{Lines, Named, member_place};
 use std::alloc::{AllocError, Global};
@@ -203,14 +203,14 @@ fn add_query(
     out: &mut Lines,
     alloc: Global,
     packages: &[Named],
-    all: &[Option<Blocks>],
+    parts: &[Option<Part>],
     query: &str,
 ) {
     let (file, asked) = pair(query);
     out.pieces(&[file, " "]);
     let (path, name) = file.rsplit_once('/').unwrap_or(("", file));
     for number in 0..packages.len() {
-        if let Some(place) = place_of(packages, all, number) {
+        if let Some(place) = place_of(packages, parts, number) {
             if place.package.path.as_str() == path {
                 return add_in_package(out, alloc, place, name, asked);
             }
@@ -225,7 +225,7 @@ pub fn add_scope(
     out: &mut Lines,
     alloc: Global,
     packages: &[Named],
-    all: &[Option<Blocks>],
+    parts: &[Option<Part>],
     text: &str,
 ) {
     for line in text.lines() {
@@ -234,7 +234,7 @@ pub fn add_scope(
         }
         let query = line.trim();
         if !query.is_empty() {
-            add_query(out, alloc, packages, all, query);
+            add_query(out, alloc, packages, parts, query);
         }
     }
 }

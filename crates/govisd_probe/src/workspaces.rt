@@ -1,13 +1,11 @@
 //! What is answered of workspaces.
-ghost use Rattle.govisd_show.specs.graph_core.Plans.{IsPlan};
-
 use crate::blocks::{add_blocks, add_imports, add_order, place_of};
-use crate::names::{add_keys, add_names};
+use crate::keys::add_keys;
 use crate::plans::add_plan;
 use crate::scopes::add_scope;
 use go_path_core::Module;
+use go_snap_core::compile;
 use go_text_core::Rule;
-use govisd_core::block_core::workspace_blocks;
 use govisd_show::graph_core::{ImportAt, Plan, Workspace, plan_imports};
 use govisd_show::{Lines, Named, add_counts, add_files, add_package, name_packages, put_archive};
 use std::alloc::Global;
@@ -42,8 +40,8 @@ fn add_packages(
     add_order(out, packages, plan.order());
 }
 
-/// Adds what is asked of a workspace whose imports are planned: of the names in its files, and else of the blocks of its packages, the names of their
-/// functions, or what their files declare. The text is that of its archive.
+/// Adds what is asked of a workspace whose imports are planned: of the names in its files, and else of the blocks of its packages, or what their
+/// files declare. The blocks are those of its snapshot, and the text is that of its archive.
 fn add_planned(
     out: &mut Lines,
     alloc: Global,
@@ -52,24 +50,21 @@ fn add_planned(
     packages: &[Named],
     plan: &Plan,
     text: &str,
-)
-    requires { IsPlan workspace.now plan.now }
-{
-    let Ok(blocks) = workspace_blocks(alloc, workspace, plan) else {
+) {
+    let Ok(snapshot) = compile(alloc, workspace) else {
         return out.cut();
     };
-    let all = blocks.as_slice();
+    let parts = snapshot.parts();
     if kind == "scope" {
-        add_scope(out, alloc, packages, all, text);
+        add_scope(out, alloc, packages, parts, text);
     } else {
         if kind == "packages" {
             add_packages(out, alloc, workspace, packages, plan);
         }
         let mut number = 0usize;
         for source in workspace.packages() {
-            if let Some(place) = place_of(packages, all, number) {
+            if let Some(place) = place_of(packages, parts, number) {
                 match kind {
-                    "names" => add_names(out, alloc, place, source),
                     "keys" => add_keys(out, place.package, source),
                     _ => add_blocks(out, alloc, place),
                 }
@@ -77,7 +72,7 @@ fn add_planned(
             number = number.saturating_add(1);
         }
     }
-    drop(blocks);
+    drop(snapshot);
 }
 
 /// Adds what is asked of the imports of a workspace, or of what stands on them.
@@ -114,7 +109,7 @@ fn put_replaced(workspace: &mut Workspace, alloc: Global, text: &str) -> Result<
     workspace.replace(&module, &from)
 }
 
-/// Puts the files into a workspace that an archive writes, of the kinds `names` and `keys` with a file in front.
+/// Puts the files into a workspace that an archive writes, of the kind `keys` with a file in front.
 fn put_archive_of(
     workspace: &mut Workspace,
     alloc: Global,
@@ -123,7 +118,7 @@ fn put_archive_of(
 ) -> Result<(), Rule> {
     match kind {
         "replaced" => put_replaced(workspace, alloc, text),
-        "names" | "keys" => {
+        "keys" => {
             let mut archive = Lines::new(alloc);
             archive.pieces(&["-- local/in.go --\n", text]);
             match archive.finish() {

@@ -1,2 +1,1 @@
 mod FileNames
-pub mod Placed

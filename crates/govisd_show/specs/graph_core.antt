@@ -1,4 +1,3 @@
 -- What the crates above name of go_graph_core.
-pub use Rattle.go_graph_core.specs.Plans as Plans
 pub use Rattle.go_graph_core.specs.Workspaces as Workspaces
 pub use Rattle.go_graph_core.proofs.Zips as Zips

@@ -1,9 +1,0 @@
-use Rattle.std.proofs.Common.{take}
-use Rattle.go_tree_nodes.specs.Shapes.{file_of}
-use Rattle.go_graph_core.specs.Lists.{AllNumbered}
-use Rattle.go_block_core.specs.Naming.{file_specs, import_at}
-use Rattle.go_block_core.specs.mirrors.Steps.{IsPlanned}
-use Rattle.go_block_core.proofs.all.file_imported.Given as goal
-
-abbrev pub invariant-loop-import : goal.invariant-loop-import
-invariant-loop-import l = AllNumbered (λ n spec i. IsPlanned l.plan.outcomes l.exports (import_at l.«package» l.file n) i) 0 (take l.import (file_specs (file_of l.tree))) l.imported.items

@@ -1,8 +1,0 @@
-use Rattle.std.proofs.Common.{take, map}
-use Rattle.go_graph_core.specs.Packages.{trees_of}
-use Rattle.go_block_core.specs.Naming.{AreInPackage, imported_in}
-use Rattle.go_block_core.specs.mirrors.Steps.{IsPlanned}
-use Rattle.go_block_core.proofs.all.package_imported.Given as goal
-
-abbrev pub invariant-loop-file : goal.invariant-loop-file
-invariant-loop-file l = AreInPackage (IsPlanned l.plan.outcomes l.exports) l.number (take l.file (trees_of l.«package».1)) (map imported_in l.imported.items)
