@@ -88,7 +88,7 @@ class Proof:
 
     def stands(self, key):
         """Whether what was kept under the key stands in the crate's out/."""
-        with contextlib.suppress(OSError, ValueError, KeyError):
+        with contextlib.suppress(OSError, ValueError, KeyError, TypeError):
             made = json.loads(rtlib.text_of(f"{self.kept.place(self.crate, False, key)}/made.json"))
             names = [it for it, _ in made["files"]]
             return names == self.kept.made(self.crate, False) and all(rtlib.sum_of(f"{self.crate.folder}/out/{it}") == sum for it, sum in made["files"])
@@ -125,7 +125,7 @@ class Proof:
 
 class Base:
     def __init__(self, lanes, wanted=None):
-        self.lanes, self.wanted, self.took, self.sums = lanes, wanted, seconds(), {}
+        self.lanes, self.wanted, self.took, self.sums, self.stamps = lanes, wanted, seconds(), {}, {}
         self.running, self.failed, self.proved, self.lock = {}, {}, {}, threading.Lock()
 
     def behind(self, there):
@@ -153,6 +153,11 @@ class Base:
         if self.wanted:
             there = {it.name: it for it in [*there[self.wanted].below(), there[self.wanted]]}
         now = stamps(there)
+        if now != self.stamps:
+            # what `rt` holds is of the texts that stood there before
+            rtlib.blanked.cache_clear()
+            rtlib.code_of.cache_clear()
+            self.stamps = now
         with self.lock:
             proved, running = {it for it, of in self.proved.items() if now.get(it) == of}, {*self.running}
         behind, left = self.behind(there), [it for it in there.values() if it.name not in proved]
