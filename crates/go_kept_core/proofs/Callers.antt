@@ -1,0 +1,73 @@
+-- The signature by which a package checks calls of its own functions is the one that is written there.
+use Rattle.std.proofs.Common.{◌≡◌, inl, inr, ℕ, suc, ◌&&◌, List, [], ◌∷◌, map, Option, Some, None, nat_eq, refl, sym, ap, subst, ◌∙◌, if◌then◌else◌}
+use Rattle.std.specs.Prelude.{option_map, slice_get, slice_index_or}
+use Rattle.std.proofs.lemmas.Option.{slice_get-map}
+use Rattle.go_decl_core.specs.declared.keys.DeclRef.{DeclRef}
+use Rattle.go_tree_nodes.specs.Trees.{FileTree}
+use Rattle.go_term_core.specs.Terms.{Sign}
+use Rattle.go_entry_core.specs.Entries.{file_at}
+use Rattle.go_entry_core.specs.Meanings.{file_meaning}
+use Rattle.go_entry_core.specs.Outlines.{FileOutline, IsOutline, outline_of}
+use Rattle.go_face_core.specs.declared.face.Face.TheVariants as faces
+use Rattle.go_face_core.specs.Faces.{TheFace}
+use Rattle.go_face_core.specs.Laws.{PositionsAreExact}
+use Rattle.go_face_core.specs.Written.{WrittenOf, face_found, form_as_written, position_of, same_decl_place}
+use Rattle.go_env_core.specs.Found.{face_at}
+use Rattle.go_ready_core.specs.Laws.{package_placed}
+use Rattle.go_ready_core.specs.Packages.{PackageIn, outlines_in, scene_in, trees_in}
+use Rattle.go_part_core.specs.Parts.{package_seen, seen_by}
+use Rattle.go_part_core.specs.Slots.{somes}
+use Rattle.go_clear_core.specs.Statements.{AreOverEach}
+use Rattle.go_laws_core.specs.ConstantLaws.{code_names_of}
+use Rattle.go_snap_core.specs.entry_core.Among.{Among}
+use Rattle.go_snap_core.specs.whole_core.Lists.{all_from_among}
+use Rattle.go_launch_core.specs.Located.{place_declared}
+use Rattle.go_typed_core.specs.Functions.{function_looks, known_types, source_with}
+use Rattle.go_faultless_core.specs.Parts.{PartsAreAmong}
+use Rattle.go_faultless_core.specs.Runs.{callees_of}
+use Rattle.go_kept_core.specs.Callees.{FunctionsTakeWords, ReachedAreInside}
+use Rattle.go_kept_core.specs.Headers.{HeadersAreOfSignatures, signature_in}
+use Rattle.go_kept_core.specs.Callers.{OwnCalleesTakeWords, OwnSignaturesAreTheirs}
+use Rattle.go_kept_core.proofs.Own.{right, some_func}
+
+position_same : (ws : List WrittenOf) (a b : DeclRef) → a.file ≡ b.file → a.number ≡ b.number → position_of ws a ≡ position_of ws b
+position_same [] a b f n = refl
+position_same (w ∷ ws) a b f n =
+    let first : same_decl_place w.decl a ≡ same_decl_place w.decl b =
+    ap (λ m. nat_eq w.decl.file m && nat_eq w.decl.number a.number) f ∙ ap (λ m. nat_eq w.decl.file b.file && nat_eq w.decl.number m) n in
+    ap (λ t. if t then Some 0 else option_map suc (position_of ws a)) first ∙ ap (λ o. if same_decl_place w.decl b then Some 0 else option_map suc o) (position_same ws a b f n)
+
+outlined : (ts : List FileTree) (o : FileOutline) → Among (map outline_of ts) o → IsOutline o
+outlined [] o h = absurd h
+outlined (t ∷ ts) o (inl e) = (t, sym e)
+outlined (t ∷ ts) o (inr h) = outlined ts o h
+
+pub own_signatures : PositionsAreExact → OwnSignaturesAreTheirs
+own_signatures exact i c part placed d s is t tree decl among number g form =
+    let p : PackageIn = package_seen i c.blocks (seen_by i) in
+    let es = known_types i c in
+    let ws : List WrittenOf = (scene_in p es).written in
+    let os : List FileOutline = outlines_in p in
+    let there : slice_get os d.file ≡ Some (outline_of t) = slice_get-map outline_of (trees_in i.source) d.file ∙ ap (option_map outline_of) tree in
+    let stands = exact.declared p.shows p.path p.blocks es os d.file (outline_of t) decl (all_from_among IsOutline os (λ o h. outlined (trees_in i.source) o h)) (there, among) in
+    let place : position_of ws d ≡ Some stands.place = sym (position_same ws _ d refl number) ∙ stands.found in
+    let face : slice_index_or c.declared stands.place None ≡ Some (faces.Func s) = subst (λ o. face_at c.declared o ≡ Some (faces.Func s)) place is in
+    let known : ℕ → Option TheFace = λ a. slice_index_or c.declared a None in
+    let at = some_func s (scene_in p es) known stands.place (slice_get (package_placed p es) stands.place) (sym ((right i c part placed).values stands.place (faces.Func s) face)) in
+    let written = sym (ap face_found stands.there) ∙ at in
+    let mean = file_meaning p.shows p.path p.blocks d.file in
+    let same : Some (faces.Func (signature_in i c d.file t g)) ≡ Some (faces.Func s) = sym (ap (form_as_written mean (file_at p.path d.file (outline_of t)) es decl.number) form) ∙ written in
+    let signs : signature_in i c d.file t g ≡ s = cc same in
+    sym signs
+
+pub own_callees : PartsAreAmong → FunctionsTakeWords → ReachedAreInside → HeadersAreOfSignatures → OwnSignaturesAreTheirs → OwnCalleesTakeWords
+own_callees among words inside headers own ws parts well made main r runnable path d number reached at none s is n t all =
+    let ps = somes parts in
+    let p = at.part in
+    let fits = among ws parts well made p at.there in
+    let callees = callees_of place_declared ps at.file at.func in
+    let source = source_with (code_names_of p.input p.content d.file at.file at.func) callees at.func in
+    let w = words p.input p.content d.file at.tree at.file at.func at.all at.checked fits.shows (inside ps main r runnable number source reached at.is) none callees in
+    let written = own p.input p.content fits.part fits.files.placed d s is at.tree at.checked.tree at.decl at.among at.declared at.func at.form in
+    let taken = ap (λ (x : Sign). (function_looks p.input p.content d.file at.tree at.all).params x) written ∙ headers p.input p.content d.file at.tree at.file at.func at.all at.checked in
+    (w.words, record { source = source; is_source = at.is; given = refl; takes = w.takes }, subst (λ us. AreOverEach (function_looks p.input p.content n t all).types w.words us) (sym taken) w.over)

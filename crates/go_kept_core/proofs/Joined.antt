@@ -1,0 +1,42 @@
+-- The functions to which a part's references to its own lead are its own.
+use Rattle.std.proofs.Common.{◌≡◌, Some, refl, sym, ap, subst, ◌∙◌}
+use Rattle.std.specs.Prelude.{slice_get}
+use Rattle.go_part_core.specs.Inputs.{path_in}
+use Rattle.go_part_core.specs.Parts.{PartModel}
+use Rattle.go_part_core.specs.Slots.{somes}
+use Rattle.go_snap_core.specs.entry_core.Among.{among_from}
+use Rattle.go_snap_core.specs.whole_core.Inputs.{Tells}
+use Rattle.go_snap_core.specs.whole_core.Parts.{path_told, told_apart}
+use Rattle.go_snap_core.specs.whole_core.PartsWhole.{all_right}
+use Rattle.go_clear_core.specs.Statements.{AreOverEach}
+use Rattle.go_typed_core.specs.Functions.{function_looks}
+use Rattle.go_faultless_core.proofs.Alike.{numbered_in}
+use Rattle.go_kept_core.specs.Callees.{ReferencesLeadToFunctions}
+use Rattle.go_kept_core.specs.Callers.{IsOwnFunction, OwnCalleesTakeWords, OwnReferencesTakeWords, PartsOfAPathAreOne}
+
+pub one_part : PartsOfAPathAreOne
+one_part ws parts well made p q hp hq e =
+    let right = all_right ws parts made in
+    let a = numbered_in parts p (among_from (somes parts) p hp) in
+    let b = numbered_in parts q (among_from (somes parts) q hq) in
+    let first : Tells parts a.number p.content.summary = record { of_part = p; there = a.there; is = refl } in
+    let other : Tells parts b.number q.content.summary = record { of_part = q; there = b.there; is = refl } in
+    let number : a.number ≡ b.number =
+    told_apart ws parts well right a.number b.number p.content.summary q.content.summary first other
+    (path_told ws parts well right a.number p.content.summary first ∙ (e ∙ sym (path_told ws parts well right b.number q.content.summary other))) in
+    let both : Some (Some p) ≡ Some (Some q) = sym a.there ∙ (ap (λ n. slice_get parts n) number ∙ b.there) in
+    let same : p ≡ q = cc both in
+    same
+
+pub own_references : PartsOfAPathAreOne → ReferencesLeadToFunctions → OwnCalleesTakeWords → OwnReferencesTakeWords
+own_references one leads callees ws parts well made main r runnable p there d s own number is reached =
+    let at = leads ws parts well made (path_in p.input) d number is in
+    let same = one ws parts well made at.part p at.there there at.of_path in
+    record {
+      at = at;
+      same = same;
+      taken = λ none n t all. (
+          let w = callees ws parts well made main r runnable (path_in p.input) d number reached at none s (subst (λ (x : PartModel). IsOwnFunction x.input x.content d s) (sym same) own) n t all in
+          (w.0, w.1, subst (λ (x : PartModel). AreOverEach (function_looks x.input x.content n t all).types w.0 ((function_looks x.input x.content n t all).params s)) same w.2)
+          );
+    }

@@ -1,0 +1,72 @@
+-- What is reached and outside the run fragment leads outside.
+use Rattle.std.proofs.Common.{◌≡◌, inl, inr, ℕ, zero, suc, ◌+◌, false, List, [], ◌∷◌, ◌++◌, map, Contains, Option, Some, None, refl, sym, ap, ◌∙◌, subst, arith, if◌then◌else◌}
+use Rattle.std.specs.Prelude.{option_map, slice_get}
+use Rattle.std.specs.List.{flat_map}
+use Rattle.std.proofs.lemmas.Option.{slice_get-map}
+use Rattle.go_cycle_core.specs.declared.edge.Edge.{Edge}
+use Rattle.go_cycle_core.specs.Cycle.{Leads, Reaches}
+use Rattle.go_machine_core.specs.Programs.{LinkedOf}
+use Rattle.go_instruction_core.specs.declared.instruction.Instruction.TheVariants as instructions
+use Rattle.go_fragment_core.specs.Inside.{in_fragment}
+use Rattle.go_code_core.specs.Code.{body_code, frame_in}
+use Rattle.go_link_core.specs.Reaching.{edge, edge_if, edges_from, call_edges, is_outside, ReachesOutside}
+use Rattle.go_means_core.specs.Meaning.{SourceOf}
+use Rattle.go_means_core.specs.Whole.{linked_source, code_of_program}
+use Rattle.go_fit_core.specs.Laws.{IsReached, Begins, IsCalled}
+use Rattle.go_laws_core.proofs.ConstantLists.{HasItem, contained, has, has_left, has_right}
+
+-- edges from functions to those that they refer to
+
+row_has : (n : ℕ) (row : List (Option ℕ)) (to : ℕ) → HasItem row (Some to) → HasItem (flat_map (edge_if n) row) (edge n to)
+row_has n [] to h = absurd h
+row_has n (None ∷ row) to (inl e) = absurd (cc e)
+row_has n (None ∷ row) to (inr h) = row_has n row to h
+row_has n (Some m ∷ row) to (inl e) = let same : m ≡ to = cc e in inl (ap (edge n) same)
+row_has n (Some m ∷ row) to (inr h) = inr (row_has n row to h)
+
+edges_have : (rows : List (List (Option ℕ))) (n k : ℕ) (row : List (Option ℕ)) (to : ℕ) → slice_get rows k ≡ Some row → HasItem row (Some to) → HasItem (edges_from n rows) (edge (n + k) to)
+edges_have [] n k row to is h = absurd cc
+edges_have (r ∷ rows) n zero row to is h =
+    let same : r ≡ row = cc is in
+    let sum : n ≡ n + 0 = omega arith in
+    has_left (flat_map (edge_if n) r) (edges_from (n + 1) rows) (edge (n + 0) to) (subst (λ m. HasItem (flat_map (edge_if n) r) (edge m to)) sum (row_has n r to (subst (λ l. HasItem l (Some to)) (sym same) h)))
+edges_have (r ∷ rows) n (suc k) row to is h =
+    let sum : n + 1 + k ≡ n + suc k = omega arith in
+    has_right (flat_map (edge_if n) r) (edges_from (n + 1) rows) (edge (n + suc k) to) (subst (λ m. HasItem (edges_from (n + 1) rows) (edge m to)) sum (edges_have rows (n + 1) k row to is h))
+
+leads_further : (edges es : List Edge) (a b c : ℕ) → Leads edges es a b → Contains edges (edge b c) → Leads edges (es ++ edge b c ∷ []) a c
+leads_further edges [] a b c h k = (k, sym h, refl)
+leads_further edges (e ∷ es) a b c h k = (h.0, h.1, leads_further edges es e.to b c h.2 k)
+
+module _ (sources : List SourceOf) (starts : List ℕ) where
+  abbrev edges : List Edge
+  edges = call_edges (code_of_program sources)
+
+  called_by : (number : ℕ) (s : SourceOf) (callee : ℕ) → slice_get sources number ≡ Some s → Contains s.callees (Some callee) → Contains edges (edge number callee)
+  called_by number s callee is c =
+      let row : slice_get (map (λ (f : LinkedOf). f.callees) (code_of_program sources)) number ≡ Some s.callees =
+      slice_get-map (λ (f : LinkedOf). f.callees) (code_of_program sources) number
+      ∙ ap (option_map (λ (f : LinkedOf). f.callees)) (slice_get-map linked_source sources number ∙ ap (option_map linked_source) is) in
+      let sum : 0 + number ≡ number = omega arith in
+      contained edges (edge number callee)
+      (subst (λ n. HasItem edges (edge n callee)) sum (edges_have (map (λ (f : LinkedOf). f.callees) (code_of_program sources)) 0 number s.callees callee row (has s.callees (Some callee) c)))
+
+  reached_by : {number : ℕ} → IsReached sources starts number → (start : ℕ) × Contains starts start × Reaches edges start number
+  reached_by {number} (Begins c) = (number, c, ([], refl))
+  reached_by (IsCalled {number} {callee} {s} reached is c) =
+      let r = reached_by reached in
+      (r.0, r.1, (r.2.0 ++ edge number callee ∷ [], leads_further edges r.2.0 r.0 number callee r.2.1 (called_by number s callee is c)))
+
+  -- what is reached and outside the fragment leads outside
+  pub leads_outside : (number : ℕ) (s : SourceOf) → IsReached sources starts number → slice_get sources number ≡ Some s → in_fragment (frame_in s.looks s.tree) s.tree ≡ false → ReachesOutside (code_of_program sources) starts
+  leads_outside number s reached is out =
+      let r = reached_by reached in
+      record {
+        start = r.0;
+        number = number;
+        function = linked_source s;
+        begins = r.1;
+        reached = r.2;
+        is = slice_get-map linked_source sources number ∙ ap (option_map linked_source) is;
+        outside = ap (λ t. is_outside (if t then body_code (frame_in s.looks s.tree) s.tree else instructions.Outside ∷ [])) out;
+      }

@@ -1,0 +1,4 @@
+pub mod Callees
+pub mod Headers
+pub mod Own
+pub mod Callers
