@@ -6,10 +6,12 @@
     python3 tools/base.py check NAME ..    `rt check` of a crate over what is built so, with rattle's flags, as --only F and --allow-holes
     python3 tools/base.py status           the crates that are proved as they stand
 
-It calls the kit's own `rt` for each step of the gate, and keeps what passes where `rt ci` keeps it: a gate on this machine takes it from there. It gives no
-verdict: `rt ci` is the judge. Crates on the longest chain get three jobs and a better priority. Logs lie in .git/base.
+It calls the kit's own `rt` for each step of the gate, and keeps what passes where `rt ci` keeps it: a gate on this machine takes it from there. Of a kit that
+keeps nothing (rattle-kit-13b) the libraries that pass are kept for this script alone, in ~/.cache/govisd/base, so that a new work tree on the same machine
+has them. It gives no verdict: `rt ci` is the judge. Crates on the longest chain get three jobs and a better priority. Logs lie in .git/base.
 """
 import contextlib
+import hashlib
 import importlib.machinery
 import importlib.util
 import json
@@ -57,10 +59,27 @@ def crates():
     return {it.name: it for it in sorted(rtlib.crates_below(ROOT), key=lambda it: len(it.below()))}
 
 
+# Whether the kit keeps what passes.
+KEEPS = hasattr(rt, "Kept")
+
+
 def stamps(there):
     """Of each crate the sum of its sources and of those below it."""
     seen = {}
-    return {name: rt.stamp_of(crate, seen) for name, crate in there.items()}
+    return {name: rt.stamp_of(crate, seen) if KEEPS else stamp_of(crate, seen) for name, crate in there.items()}
+
+
+def stamp_of(crate, seen):
+    """The sum of a crate's sources and of those below it, found once for each crate."""
+    if crate.name not in seen:
+        found = hashlib.sha256(repr(crate.said).encode())
+        for file in rtlib.files_of(crate.folder):
+            with open(file, "rb") as it:
+                found.update(file.removeprefix(crate.folder).encode() + it.read())
+        for dep in crate.deps:
+            found.update(stamp_of(dep, seen).encode())
+        seen[crate.name] = found.hexdigest()
+    return seen[crate.name]
 
 
 def seconds():
@@ -123,6 +142,60 @@ class Proof:
         return True
 
 
+class MarkedProof:
+    """The same by a kit that keeps nothing: a library that is built has a mark beside it with the sum of what it was made from, and stands under that sum
+    in a folder of this script, as links to the same files."""
+
+    STORE, MOST = os.path.expanduser("~/.cache/govisd/base"), 400
+
+    def __init__(self, crate, stamp):
+        self.crate, self.stamp, self.mark = crate, stamp, f"{crate.folder}/out/rlib/built"
+        self.kept = f"{self.STORE}/{crate.name}-{stamp[:32]}"
+
+    def is_there(self):
+        return not self.crate.is_program and os.path.isdir(self.crate.rlib) and rtlib.text_of(self.mark) == self.stamp
+
+    def is_given(self):
+        """Whether the library was kept: it is put into out/."""
+        if self.crate.is_program or rtlib.text_of(f"{self.kept}/built") != self.stamp:
+            return False
+        os.utime(self.kept)
+        linked(self.kept, os.path.dirname(self.mark))
+        return True
+
+    def keep(self):
+        """Keeps the library, and drops those that were not used for the longest time."""
+        linked(os.path.dirname(self.mark), self.kept)
+        kept = sorted((it.path for it in os.scandir(self.STORE)), key=os.path.getmtime)
+        for path in kept[: -self.MOST]:
+            shutil.rmtree(path, ignore_errors=True)
+
+    def run(self, jobs):
+        os.makedirs(f"{self.crate.folder}/out", exist_ok=True)
+        flags = ["--jobs", str(jobs)]
+        if self.is_there() or self.is_given():
+            return True
+        if self.crate.is_program:
+            return not self.crate.ci(flags, False)
+        shutil.rmtree(os.path.dirname(self.mark), ignore_errors=True)
+        os.makedirs(os.path.dirname(self.mark))
+        is_proved = not self.crate.prove(["build", *self.crate.words(flags, keeps=False), "--statements", "-o", self.crate.rlib])
+        if is_proved and stamp_of(crates()[self.crate.name], {}) == self.stamp:
+            with open(self.mark, "w", encoding="utf-8") as file:
+                file.write(self.stamp)
+            with contextlib.suppress(OSError):
+                self.keep()
+        return is_proved
+
+
+def linked(folder, to):
+    """Puts links to a folder's files into another, in place of what is there."""
+    shutil.rmtree(to, ignore_errors=True)
+    os.makedirs(os.path.dirname(to), exist_ok=True)
+    shutil.copytree(folder, f"{to}.new", copy_function=os.link, dirs_exist_ok=True)
+    os.rename(f"{to}.new", to)
+
+
 class Base:
     def __init__(self, lanes, wanted=None):
         self.lanes, self.wanted, self.took, self.sums, self.stamps = lanes, wanted, seconds(), {}, {}
@@ -142,7 +215,7 @@ class Base:
         os.setpriority(os.PRIO_PROCESS, threading.get_native_id(), max(priority, -20) if os.geteuid() == 0 else 0)
         with open(f"{LOGS}/{crate.name}", "w+", encoding="utf-8", errors="replace") as crate.out:
             with contextlib.suppress(SystemExit):
-                is_proved = Proof(crate, self.sums).run(jobs)
+                is_proved = (Proof(crate, self.sums) if KEEPS else MarkedProof(crate, stamp)).run(jobs)
         with self.lock:
             del self.running[crate.name]
             (self.proved if is_proved else self.failed)[crate.name] = stamp
@@ -211,6 +284,8 @@ def program(name, lanes="4"):
 def is_built(crate):
     """Whether the crate's library is there, and none of its sources is newer."""
     made = f"{crate.rlib}/format"
+    if not KEEPS:
+        return MarkedProof(crate, stamp_of(crate, {})).is_there()
     return os.path.exists(made) and all(os.stat(it).st_ctime <= os.stat(made).st_mtime for it in rtlib.files_of(crate.folder))
 
 
@@ -226,6 +301,10 @@ def check(name, *flags):
 
 def status():
     there, sums, proved = crates(), {}, set()
+    if not KEEPS:
+        now = stamps(there)
+        print("\n".join(it.name for it in there.values() if MarkedProof(it, now[it.name]).is_there()))
+        return
     for crate in there.values():
         if not crate.is_program and all(it.name in proved for it in crate.below()) and is_built(crate):
             proof = Proof(crate, sums)
