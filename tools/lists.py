@@ -32,6 +32,13 @@ SHARE = 0.005
 BESIDE = {"go_tree_nodes", "go_term_core"}
 # Crates of laws that list what their line has, high up too: what they name is then passed on by no crate between for them alone, and all below stays as it is.
 AS_LISTED = {"go_called_core", "go_faultless_core", "go_head_core", "go_kept_core", "go_typed_core", "go_respelled_core", "go_fit_core", "go_clear_core", "go_found_core"}
+# Crates of laws that have what these list through them: each stands on the one before, and what all of them listed would be counted twice at each step.
+THROUGH = {
+    "go_called_core": ["go_clear_core"],
+    "go_typed_core": ["go_clear_core"],
+    "go_faultless_core": ["go_typed_core", "go_called_core"],
+    "go_kept_core": ["go_faultless_core"],
+}
 # Modules that are named as a word of the library, which a reader would take them for: what they are passed on as.
 PASSED_AS = {"All": "AllPackages"}
 PASSED = re.compile(r"(?m)\n?/// What the crates above name of `\w+`\.\npub mod \w+ \{\n.*?\n\}\n", re.S)
@@ -178,7 +185,8 @@ def files_of(repository):
 def lists_of(repository, names, named):
     """Lists by names, less what each crate has through another that it lists, and what each crate reaches by them. rattle-kit-13b reads the sources of
     a crate anew at the end of each path of crates.txt, twice a gate, which was half an hour of the longest chain of crates."""
-    edges = {k: {*v, *repository.kept(k), *SERIAL.get(k, ())} for k, v in named.items()}
+    own = {k: {it for it in repository.lists[k] if it in repository.lists} if k in AS_LISTED else set() for k in named}
+    edges = {k: {*v, *own[k], *repository.kept(k), *SERIAL.get(k, ())} for k, v in named.items()}
     reach, files, cost = {}, files_of(repository), {}
 
     def reached(k):
@@ -190,7 +198,15 @@ def lists_of(repository, names, named):
         """Whether what the toolchain makes of the other's code is named: that stands in no file, and is not passed on."""
         return any(part == "proofs" and not os.path.exists(f"{repository.root}/crates/{b}/proofs/{module}.antt") for part, module in names.logic[a].get(b, ()))
 
+    def listed(a):
+        return {*repository.lists[a]}.union(*[listed(b) for b in THROUGH.get(a, ())])
+
+    def is_through(a, b):
+        return any(b in listed(c) for c in THROUGH.get(a, ())) and b not in THROUGH[a]
+
     def is_kept(a, b):
+        if is_through(a, b):
+            return b in BESIDE or is_made(a, b)
         return b in repository.kept(a) or b in BESIDE and (b in named[a] or b in repository.lists[a]) or a in AS_LISTED and b in repository.lists[a] or is_made(a, b)
 
     def read(k):
@@ -198,12 +214,12 @@ def lists_of(repository, names, named):
             cost[k] = files[k] + sum(read(d) for d in lists[k])
         return cost[k]
 
-    lists = {a: {b for b in edges[a] if is_kept(a, b) or not any(b in reached(c) for c in edges[a] if c != b)} for a in edges}
+    lists = {a: {b for b in edges[a] if is_kept(a, b) or not is_through(a, b) and not any(b in reached(c) for c in edges[a] if c != b)} for a in edges}
     least = {k: read(k) for k in lists}
-    lists = {a: lists[a] | {b for b in named[a] if least[b] <= SHARE * least[a]} for a in lists}
+    lists = {a: lists[a] | {b for b in named[a] if a not in THROUGH and least[b] <= SHARE * least[a]} for a in lists}
     cost.clear()
     print(f"{sum(read(k) for k in lists):,} files are read, twice")
-    return lists, {k: reached(k) - {k} for k in edges}
+    return lists, {k: reached(k) - {k} for k in edges}, {k: listed(k) for k in lists}
 
 
 class Ways:
@@ -214,7 +230,7 @@ class Ways:
         self.heights, self.under = {}, {}
         self.there = repository.there
         self.lists, self.through = {}, {}
-        self.kept_edges, self.reaches = lists_of(repository, names, self.named)
+        self.kept_edges, self.reaches, self.listed = lists_of(repository, names, self.named)
         self.logic, self.code = defaultdict(lambda: defaultdict(set)), defaultdict(lambda: defaultdict(set))
         for crate in sorted(repository.lists, key=lambda it: (-self.height(it), it)):
             wanted = {*self.named[crate], *self.logic[crate], *self.code[crate]} - {crate}
@@ -241,6 +257,8 @@ class Ways:
         if other in self.lists[crate]:
             return
         above = [it for it in self.lists[crate] if self.gives(it, other)]
+        # what a crate of laws below lists is had through it, and all else by the ways that are there
+        above = [it for it in above if it in THROUGH.get(crate, ()) and other in self.listed[it]] or above
         if not above:
             self.lists[crate].add(other)
             return

@@ -6,19 +6,19 @@ use Rattle.std.proofs.lemmas.Bool.{and_parts}
 use Rattle.std.proofs.lemmas.Option.{none-some}
 use Rattle.go_tree_nodes.specs.declared.files.Receiver.{Receiver}
 use Rattle.go_tree_nodes.specs.Trees.{NoParams, NoResult, OneResult, Param, ParamTrees, ResultTree, Results, SignatureTree, Signed}
-use Rattle.go_emit_core.specs.decl_core.TopDecls.{FormTree, FuncForm, TopDeclTree, TypeForm, ValueForm}
-use Rattle.go_block_core.specs.Declarations.{has_receiver, is_procedure, without_params, without_results}
-use Rattle.go_fragment_core.specs.declared.names.Gives.TheVariants as gives
-use Rattle.go_fragment_core.specs.Names.{CodeLooks}
-use Rattle.go_means_core.specs.Meaning.{SourceOf}
-use Rattle.go_fit_core.specs.Fitting.{given_by, listed_gives, params_over, receiver_over, result_gives, signature_gives, signature_over, taken_by}
+use Rattle.go_clear_core.specs.decl_core.TopDecls.{FormTree, FuncForm, TopDeclTree, TypeForm, ValueForm}
+use Rattle.go_clear_core.specs.block_core.Declarations.{has_receiver, is_procedure, without_params, without_results}
+use Rattle.go_clear_core.specs.fragment_core.declared.names.Gives.TheVariants as gives
+use Rattle.go_clear_core.specs.fragment_core.Names.{CodeLooks}
+use Rattle.go_clear_core.specs.means_core.Meaning.{SourceOf}
+use Rattle.go_clear_core.specs.fit_core.Fitting.{given_by, listed_gives, params_over, receiver_over, result_gives, signature_gives, signature_over, taken_by}
 use Rattle.go_object_core.specs.Objects.{FunctionOf}
-use Rattle.go_link_core.specs.Functions.{is_called, number_if, numbers_called}
-use Rattle.go_body_core.specs.handle_core.Declarations.{Declaration}
-use Rattle.go_body_core.specs.Notes.{TheUse}
-use Rattle.go_emit_core.specs.Emitted.{form_function, functions_of}
-use Rattle.go_laws_core.proofs.ConstantLists.{HasItem, has_either}
-use Rattle.go_sources_core.specs.Sources.{form_source, source_in, sources_in}
+use Rattle.go_clear_core.specs.link_core.Functions.{is_called, number_if, numbers_called}
+use Rattle.go_func_core.specs.handle_core.Declarations.{Declaration}
+use Rattle.go_clear_core.specs.body_core.Notes.{TheUse}
+use Rattle.go_clear_core.specs.emit_core.Emitted.{form_function, functions_of}
+use Rattle.go_clear_core.specs.laws_core.ConstantLists.{HasItem, has_either}
+use Rattle.go_clear_core.specs.sources_core.Sources.{form_source, source_in, sources_in}
 use Rattle.go_called_core.proofs.Procedures.{IsRightDecl}
 
 -- a function without parameters and results

@@ -4,23 +4,23 @@ use Rattle.std.specs.Prelude.{if◌then◌else◌, slice_get}
 use Rattle.std.specs.List.{AllZip, enumerate_from, list_any}
 use Rattle.std.proofs.lemmas.Option.{none-some}
 use Rattle.go_tree_nodes.specs.Trees.{FileTree}
-use Rattle.go_emit_core.specs.graph_core.Lists.{AllNumbered}
-use Rattle.go_denote_core.specs.declared.things.Outcome.TheVariants as outcomes
-use Rattle.go_local_core.specs.declared.Fault.{Fault}
-use Rattle.go_body_core.specs.handle_core.Declarations.{Declaration}
-use Rattle.go_body_core.specs.Notes.{TheUse}
-use Rattle.go_emit_core.specs.answer_core.Outer.{block_faults_in}
-use Rattle.go_emit_core.specs.report_core.Faults.{IsSaid, IsSettled}
-use Rattle.go_emit_core.specs.used_core.Used.{TheOutcome, is_declared, is_import, judged_import, refused_use, unused_outcome}
-use Rattle.go_emit_core.specs.ready_core.Packages.{trees_in}
-use Rattle.go_emit_core.specs.package_core.Checked.{IsFileChecked}
-use Rattle.go_emit_core.specs.summary_core.Views.{types_told}
-use Rattle.go_emit_core.specs.part_core.Inputs.{InputModel}
-use Rattle.go_emit_core.specs.part_core.Parts.{ContentOf, FileOf, IsFileMadeIn, IsPart, package_seen, seen_by}
-use Rattle.go_emit_core.specs.Emitted.{are_clean, code_scene_over, told_to, whole_object}
-use Rattle.go_emit_core.specs.Laws.{HasNoFault, ObjectsAreOfFaultless}
-use Rattle.go_fold_core.proofs.Inside.{none_left, none_right}
-use Rattle.go_laws_core.proofs.ConstantLists.{HasItem, contained, has, has_get, has_of_all}
+use Rattle.go_ready_core.specs.graph_core.Lists.{AllNumbered}
+use Rattle.go_clear_core.specs.denote_core.declared.things.Outcome.TheVariants as outcomes
+use Rattle.go_clear_core.specs.local_core.declared.Fault.{Fault}
+use Rattle.go_func_core.specs.handle_core.Declarations.{Declaration}
+use Rattle.go_clear_core.specs.body_core.Notes.{TheUse}
+use Rattle.go_snap_core.specs.answer_core.Outer.{block_faults_in}
+use Rattle.go_snap_core.specs.report_core.Faults.{IsSaid, IsSettled}
+use Rattle.go_snap_core.specs.used_core.Used.{TheOutcome, is_declared, is_import, judged_import, refused_use, unused_outcome}
+use Rattle.go_ready_core.specs.Packages.{trees_in}
+use Rattle.go_clear_core.specs.package_core.Checked.{IsFileChecked}
+use Rattle.go_snap_core.specs.summary_core.Views.{types_told}
+use Rattle.go_snap_core.specs.part_core.Inputs.{InputModel}
+use Rattle.go_snap_core.specs.part_core.Parts.{ContentOf, FileOf, IsFileMadeIn, IsPart, package_seen, seen_by}
+use Rattle.go_clear_core.specs.emit_core.Emitted.{are_clean, code_scene_over, told_to, whole_object}
+use Rattle.go_clear_core.specs.emit_core.Laws.{HasNoFault, ObjectsAreOfFaultless}
+use Rattle.go_clear_core.specs.fold_core.Inside.{none_left, none_right}
+use Rattle.go_clear_core.specs.laws_core.ConstantLists.{HasItem, contained, has, has_get, has_of_all}
 
 -- lists
 

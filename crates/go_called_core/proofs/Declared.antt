@@ -9,50 +9,50 @@ use Rattle.go_tree_nodes.specs.declared.decls.ValueKind.{ValueKind}
 use Rattle.go_tree_nodes.specs.declared.decls.ValueKind.TheVariants as kinds
 use Rattle.go_tree_nodes.specs.Spelling.{IsPlaced}
 use Rattle.go_tree_nodes.specs.Trees.{TypeTree, ValueSpecTree}
-use Rattle.go_decl_core.specs.TopDecls.{FormTree, FuncForm, TopDeclTree, TypeForm, ValueForm}
-use Rattle.go_decl_core.specs.declared.keys.DeclRef.{DeclRef}
+use Rattle.go_clear_core.specs.decl_core.TopDecls.{FormTree, FuncForm, TopDeclTree, TypeForm, ValueForm}
+use Rattle.go_clear_core.specs.decl_core.declared.keys.DeclRef.{DeclRef}
 use Rattle.go_needs_core.specs.Needs.{EndsWithin, known_in, needed}
 use Rattle.go_term_core.specs.Terms.{Term, Sign}
-use Rattle.go_operand_core.specs.declared.types.Operand.{Operand}
-use Rattle.go_operand_core.specs.TypeRules.{TypeRules}
-use Rattle.go_decide_core.specs.Rules.{term_rules}
-use Rattle.go_statement_core.specs.Declarations.{initial_types}
-use Rattle.go_body_core.specs.env_core.Looks.{inline_rules}
-use Rattle.go_body_core.specs.env_core.Scenes.{SceneModel}
-use Rattle.go_body_core.specs.env_core.declared.meaning.Meaning.{Meaning as NameMeaning}
-use Rattle.go_body_core.specs.env_core.declared.meaning.Meaning.TheVariants as means
-use Rattle.go_body_core.specs.face_core.Faces.{TheFace, variable_face}
-use Rattle.go_body_core.specs.face_core.Packages.{PackageFacesModel, face_by, package_in}
-use Rattle.go_body_core.specs.face_core.Written.{WrittenOf, face_found, file_written, form_as_written, type_written, value_as_written, written_at}
-use Rattle.go_body_core.specs.handle_core.Declarations.{Declaration}
-use Rattle.go_body_core.specs.names_core.declared.meaning.Outside.{Outside}
-use Rattle.go_emit_core.specs.written_core.Written.{InFile as WrittenFile, Meaning as WrittenMeaning}
-use Rattle.go_emit_core.specs.entry_core.Entries.{file_at, package_meanings}
-use Rattle.go_emit_core.specs.entry_core.Outlines.{FileOutline}
-use Rattle.go_emit_core.specs.func_core.Types.{is_local_meaning}
-use Rattle.go_body_core.specs.inline_core.Types.{InlineOf}
-use Rattle.go_emit_core.specs.part_core.Inputs.{InputModel}
-use Rattle.go_emit_core.specs.part_core.Parts.{ContentOf, IsPart, package_seen, seen_by}
-use Rattle.go_emit_core.specs.piece_core.Specifications.{values_given}
-use Rattle.go_emit_core.specs.ready_core.Laws.{package_placed}
-use Rattle.go_emit_core.specs.ready_core.Packages.{PackageIn, outlines_in, scene_in, trees_in}
-use Rattle.go_emit_core.specs.ready_core.Values.{AreDeclared}
-use Rattle.go_emit_core.specs.summary_core.Summaries.{SummaryModel}
-use Rattle.go_emit_core.specs.summary_core.Views.{faces_told, types_told}
-use Rattle.go_emit_core.specs.table_core.Entries.{Entry}
-use Rattle.go_emit_core.specs.value_core.Initial.{initialiser_values, some_written_type, spec_name_count}
-use Rattle.go_emit_core.specs.value_core.Laws.{AreFaces}
-use Rattle.go_emit_core.specs.value_core.Package.{PlacedOf, first_values, form_face, package_needs, some_face, top_look, top_looks, value_face, written_face}
-use Rattle.go_emit_core.specs.value_core.Seeing.{looks_at_needs}
-use Rattle.go_emit_core.specs.Emitted.{told_to}
+use Rattle.go_clear_core.specs.operand_core.declared.types.Operand.{Operand}
+use Rattle.go_clear_core.specs.operand_core.TypeRules.{TypeRules}
+use Rattle.go_clear_core.specs.decide_core.Rules.{term_rules}
+use Rattle.go_clear_core.specs.statement_core.Declarations.{initial_types}
+use Rattle.go_func_core.specs.env_core.Looks.{inline_rules}
+use Rattle.go_func_core.specs.env_core.Scenes.{SceneModel}
+use Rattle.go_func_core.specs.env_core.declared.meaning.Meaning.{Meaning as NameMeaning}
+use Rattle.go_func_core.specs.env_core.declared.meaning.Meaning.TheVariants as means
+use Rattle.go_func_core.specs.face_core.Faces.{TheFace, variable_face}
+use Rattle.go_func_core.specs.face_core.Packages.{PackageFacesModel, face_by, package_in}
+use Rattle.go_func_core.specs.face_core.Written.{WrittenOf, face_found, file_written, form_as_written, type_written, value_as_written, written_at}
+use Rattle.go_func_core.specs.handle_core.Declarations.{Declaration}
+use Rattle.go_func_core.specs.names_core.declared.meaning.Outside.{Outside}
+use Rattle.go_func_core.specs.written_core.Written.{InFile as WrittenFile, Meaning as WrittenMeaning}
+use Rattle.go_func_core.specs.entry_core.Entries.{file_at, package_meanings}
+use Rattle.go_func_core.specs.entry_core.Outlines.{FileOutline}
+use Rattle.go_func_core.specs.Types.{is_local_meaning}
+use Rattle.go_func_core.specs.inline_core.Types.{InlineOf}
+use Rattle.go_snap_core.specs.part_core.Inputs.{InputModel}
+use Rattle.go_snap_core.specs.part_core.Parts.{ContentOf, IsPart, package_seen, seen_by}
+use Rattle.go_clear_core.specs.piece_core.Specifications.{values_given}
+use Rattle.go_ready_core.specs.Laws.{package_placed}
+use Rattle.go_ready_core.specs.Packages.{PackageIn, outlines_in, scene_in, trees_in}
+use Rattle.go_ready_core.specs.Values.{AreDeclared}
+use Rattle.go_snap_core.specs.summary_core.Summaries.{SummaryModel}
+use Rattle.go_snap_core.specs.summary_core.Views.{faces_told, types_told}
+use Rattle.go_clear_core.specs.table_core.Entries.{Entry}
+use Rattle.go_ready_core.specs.value_core.Initial.{initialiser_values, some_written_type, spec_name_count}
+use Rattle.go_ready_core.specs.value_core.Laws.{AreFaces}
+use Rattle.go_ready_core.specs.value_core.Package.{PlacedOf, first_values, form_face, package_needs, some_face, top_look, top_looks, value_face, written_face}
+use Rattle.go_ready_core.specs.value_core.Seeing.{looks_at_needs}
+use Rattle.go_clear_core.specs.emit_core.Emitted.{told_to}
 use Rattle.go_func_core.proofs.Regions.{none_outside}
 use Rattle.go_ready_core.proofs.Tables.{values_as_written}
-use Rattle.go_laws_core.specs.file_core.Laws.{FunctionsArePlaced}
-use Rattle.go_laws_core.specs.func_core.Laws.{FunctionsHaveOneTable}
-use Rattle.go_laws_core.specs.func_core.Locals.{LocalsAreDeclarations}
-use Rattle.go_laws_core.specs.func_core.Stands.{FileStand, outer_meanings}
-use Rattle.go_laws_core.specs.Standing.{stand_in_part}
-use Rattle.go_laws_core.proofs.ConstantLists.{HasItem, contained, from_flat, has, has_get, has_of_all}
+use Rattle.go_clear_core.specs.file_core.Laws.{FunctionsArePlaced}
+use Rattle.go_func_core.specs.Laws.{FunctionsHaveOneTable}
+use Rattle.go_func_core.specs.Locals.{LocalsAreDeclarations}
+use Rattle.go_func_core.specs.Stands.{FileStand, outer_meanings}
+use Rattle.go_clear_core.specs.laws_core.Standing.{stand_in_part}
+use Rattle.go_clear_core.specs.laws_core.ConstantLists.{HasItem, contained, from_flat, has, has_get, has_of_all}
 use Rattle.go_called_core.specs.Constants.{IsValueOver, NamesAreOver}
 use Rattle.go_called_core.specs.Packages.{AreToldOver, DeclarationsKeepTypes, FunctionsKeepTypes, IsFaceOver, IsSomeFaceOver, rules_in}
 use Rattle.go_called_core.proofs.Denoting.{all_constants_over, given_over, variables_over}

@@ -2,60 +2,60 @@
 use Rattle.std.proofs.Common.{◌≡◌, ℕ, Bool, true, false, List, [], ◌∷◌, length, map, replicate, Option, Some, None, Ok, Err, refl, ◌==◌, if◌then◌else◌}
 use Rattle.std.specs.Prelude.{Result, zero, suc}
 use Rattle.std.specs.List.{AllByRecursion, list_all}
-use Rattle.go_text_core.specs.Text.{is_blank}
-use Rattle.go_text_core.specs.declared.rule.Rule.{Rule}
-use Rattle.go_text_core.specs.declared.rule.Rule.TheVariants.{C2, C3, N8, S8}
-use Rattle.go_text_core.specs.declared.span.Span.{Span}
-use Rattle.go_token_core.specs.declared.kind.Operator.{Operator}
+use Rattle.go_clear_core.specs.text_core.Text.{is_blank}
+use Rattle.go_clear_core.specs.text_core.declared.rule.Rule.{Rule}
+use Rattle.go_clear_core.specs.text_core.declared.rule.Rule.TheVariants.{C2, C3, N8, S8}
+use Rattle.go_clear_core.specs.text_core.declared.span.Span.{Span}
+use Rattle.go_clear_core.specs.token_core.declared.kind.Operator.{Operator}
 use Rattle.go_tree_nodes.specs.declared.decls.ValueKind.TheVariants as kinds
 use Rattle.go_tree_nodes.specs.declared.usage.Usage.{Usage}
 use Rattle.go_tree_nodes.specs.declared.usage.Usage.TheVariants as usages
 use Rattle.go_tree_nodes.specs.Trees.{Separated, One, Then, ExprTree, ItemTrees, Integer, Text, Named, Paren, Unary, Binary, Select, Call, Literal, StructLiteral, NoItems, Item, ValueSpecTree, Alone, Step, Assign, Update, Define}
-use Rattle.go_local_core.specs.Outline.{idents}
-use Rattle.go_local_core.specs.Steps.{Piece, Header, Spec, Act, Condition, Given}
+use Rattle.go_clear_core.specs.local_core.Outline.{idents}
+use Rattle.go_clear_core.specs.local_core.Steps.{Piece, Header, Spec, Act, Condition, Given}
 use Rattle.go_term_core.specs.declared.term.Basic.{Basic}
 use Rattle.go_term_core.specs.declared.term.Basic.TheVariants as basics
-use Rattle.go_constant_core.specs.declared.values.Constant.{Constant}
-use Rattle.go_operand_core.specs.declared.types.Operand.{Operand}
-use Rattle.go_operand_core.specs.declared.types.ValueType.{ValueType}
-use Rattle.go_operand_core.specs.Assign.{assignable_to}
-use Rattle.go_operand_core.specs.Conversions.{kept, length_of}
-use Rattle.go_operand_core.specs.Prefixes.{refused_unary}
-use Rattle.go_operand_core.specs.Values.{basic_under, default_type, form_basic}
-use Rattle.go_denote_core.specs.declared.things.Argument.{Argument}
-use Rattle.go_denote_core.specs.declared.things.Argument.TheVariants as arguments
-use Rattle.go_denote_core.specs.declared.things.Builtin.{Builtin}
-use Rattle.go_denote_core.specs.declared.things.Builtin.TheVariants as builtins
-use Rattle.go_denote_core.specs.declared.things.Denoted.{Denoted}
-use Rattle.go_denote_core.specs.declared.things.Denoted.TheVariants as denotes
-use Rattle.go_denote_core.specs.declared.things.Dot.{Dot}
-use Rattle.go_denote_core.specs.declared.things.Dot.TheVariants as dots
-use Rattle.go_denote_core.specs.declared.things.Exported.{Exported}
-use Rattle.go_denote_core.specs.declared.things.Exported.TheVariants as exporteds
-use Rattle.go_denote_core.specs.declared.things.Found.{Found}
-use Rattle.go_denote_core.specs.declared.things.Found.TheVariants as founds
-use Rattle.go_denote_core.specs.declared.things.Selection.{Selection}
-use Rattle.go_denote_core.specs.declared.things.Selection.TheVariants as selections
-use Rattle.go_denote_core.specs.declared.things.Stand.{Stand}
-use Rattle.go_denote_core.specs.declared.things.Stand.TheVariants as stands
-use Rattle.go_denote_core.specs.Answers.{declared, found_answer, refused, value_answer, value_of_type}
-use Rattle.go_denote_core.specs.Arguments.{argument_of, argument_of_result, arguments_alone, arguments_of, fits_type, is_free}
-use Rattle.go_denote_core.specs.Calls.{all_fit, builtin_call, call_answer, conversion, convert_argument, free_call, func_call, is_printable, judged_call, length_argument, of_conversion, of_length, of_results}
-use Rattle.go_denote_core.specs.Selectors.{dot_of, exported_answer, field_answer, member_answer, method_answer, selector_answer, usage_place, value_selector}
-use Rattle.go_expr_core.specs.Denoting.{denoted, denoted_items, named_type, written_type}
-use Rattle.go_expr_core.specs.Lists.{denoted_exprs}
-use Rattle.go_expr_core.specs.Looks.{Looks, look_of_place}
-use Rattle.go_expr_core.specs.Operators.{binary_operands, is_star, of_operand, operand_of, passed, pointer_type, unary_of, unary_type}
-use Rattle.go_expr_core.specs.declared.things.Judged.{Judged}
-use Rattle.go_expr_core.specs.Places.{inside, is_literal, is_lone_call, is_name, left_place, under_place, whole}
+use Rattle.go_clear_core.specs.constant_core.declared.values.Constant.{Constant}
+use Rattle.go_clear_core.specs.operand_core.declared.types.Operand.{Operand}
+use Rattle.go_clear_core.specs.operand_core.declared.types.ValueType.{ValueType}
+use Rattle.go_clear_core.specs.operand_core.Assign.{assignable_to}
+use Rattle.go_clear_core.specs.operand_core.Conversions.{kept, length_of}
+use Rattle.go_clear_core.specs.operand_core.Prefixes.{refused_unary}
+use Rattle.go_clear_core.specs.operand_core.Values.{basic_under, default_type, form_basic}
+use Rattle.go_clear_core.specs.denote_core.declared.things.Argument.{Argument}
+use Rattle.go_clear_core.specs.denote_core.declared.things.Argument.TheVariants as arguments
+use Rattle.go_clear_core.specs.denote_core.declared.things.Builtin.{Builtin}
+use Rattle.go_clear_core.specs.denote_core.declared.things.Builtin.TheVariants as builtins
+use Rattle.go_clear_core.specs.denote_core.declared.things.Denoted.{Denoted}
+use Rattle.go_clear_core.specs.denote_core.declared.things.Denoted.TheVariants as denotes
+use Rattle.go_clear_core.specs.denote_core.declared.things.Dot.{Dot}
+use Rattle.go_clear_core.specs.denote_core.declared.things.Dot.TheVariants as dots
+use Rattle.go_clear_core.specs.denote_core.declared.things.Exported.{Exported}
+use Rattle.go_clear_core.specs.denote_core.declared.things.Exported.TheVariants as exporteds
+use Rattle.go_clear_core.specs.denote_core.declared.things.Found.{Found}
+use Rattle.go_clear_core.specs.denote_core.declared.things.Found.TheVariants as founds
+use Rattle.go_clear_core.specs.denote_core.declared.things.Selection.{Selection}
+use Rattle.go_clear_core.specs.denote_core.declared.things.Selection.TheVariants as selections
+use Rattle.go_clear_core.specs.denote_core.declared.things.Stand.{Stand}
+use Rattle.go_clear_core.specs.denote_core.declared.things.Stand.TheVariants as stands
+use Rattle.go_clear_core.specs.denote_core.Answers.{declared, found_answer, refused, value_answer, value_of_type}
+use Rattle.go_clear_core.specs.denote_core.Arguments.{argument_of, argument_of_result, arguments_alone, arguments_of, fits_type, is_free}
+use Rattle.go_clear_core.specs.denote_core.Calls.{all_fit, builtin_call, call_answer, conversion, convert_argument, free_call, func_call, is_printable, judged_call, length_argument, of_conversion, of_length, of_results}
+use Rattle.go_clear_core.specs.denote_core.Selectors.{dot_of, exported_answer, field_answer, member_answer, method_answer, selector_answer, usage_place, value_selector}
+use Rattle.go_clear_core.specs.expr_core.Denoting.{denoted, denoted_items, named_type, written_type}
+use Rattle.go_clear_core.specs.expr_core.Lists.{denoted_exprs}
+use Rattle.go_clear_core.specs.expr_core.Looks.{Looks, look_of_place}
+use Rattle.go_clear_core.specs.expr_core.Operators.{binary_operands, is_star, of_operand, operand_of, passed, pointer_type, unary_of, unary_type}
+use Rattle.go_clear_core.specs.expr_core.declared.things.Judged.{Judged}
+use Rattle.go_clear_core.specs.expr_core.Places.{inside, is_literal, is_lone_call, is_name, left_place, under_place, whole}
 use Rattle.go_literal_core.specs.Literals.{literal_denotes}
-use Rattle.go_piece_core.specs.Headers.{header_types}
-use Rattle.go_piece_core.specs.Pieces.{piece_values}
-use Rattle.go_piece_core.specs.Specifications.{constant_value, constant_values, names_values, values_given, variable_types}
-use Rattle.go_piece_core.specs.Statements.{short_name_types}
-use Rattle.go_piece_core.specs.Types.{some_written_type}
-use Rattle.go_piece_core.specs.Values.{list_start, variable}
-use Rattle.go_statement_core.specs.Constants.{answer_of_value, constant_answer, of_basic_type, of_own_type, of_type, operand_constant, own_value}
+use Rattle.go_clear_core.specs.piece_core.Headers.{header_types}
+use Rattle.go_clear_core.specs.piece_core.Pieces.{piece_values}
+use Rattle.go_clear_core.specs.piece_core.Specifications.{constant_value, constant_values, names_values, values_given, variable_types}
+use Rattle.go_clear_core.specs.piece_core.Statements.{short_name_types}
+use Rattle.go_clear_core.specs.piece_core.Types.{some_written_type}
+use Rattle.go_clear_core.specs.piece_core.Values.{list_start, variable}
+use Rattle.go_clear_core.specs.statement_core.Constants.{answer_of_value, constant_answer, of_basic_type, of_own_type, of_type, operand_constant, own_value}
 use Rattle.go_called_core.specs.Constants.{AreKept, ConstantsKeepTypes, IsConstantOver, IsDenotedOver, IsExportedOver, IsFoundOver, IsOperandOver, IsValueOver, NamesAreOver}
 use Rattle.go_called_core.proofs.Over.{IsResultOver, assigned_same, binary_operand_over, convert_over, length_of_over, natural_over, same_over, unary_operand_over}
 

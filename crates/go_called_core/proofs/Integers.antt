@@ -4,28 +4,28 @@ use Rattle.std.specs.Prelude.{Result, Ok, Err, slice_get}
 use Rattle.std.specs.List.{AllByRecursion}
 use Rattle.std.proofs.lemmas.List.Elements.{recursion_from_All}
 use Rattle.std.proofs.lemmas.Option.{none-some}
-use Rattle.go_token_core.specs.declared.kind.Operator.TheVariants as operator
+use Rattle.go_clear_core.specs.token_core.declared.kind.Operator.TheVariants as operator
 use Rattle.go_tree_nodes.specs.Spelling.{mark, spell_decl, spell_file, spell_func, spell_imports, spell_tops}
 use Rattle.go_tree_nodes.specs.Terminals.{Terminal, terminal, Number}
 use Rattle.go_tree_nodes.specs.Trees.{FileTree, FuncTree, Integer, TopTree}
-use Rattle.go_denote_core.specs.declared.things.Stand.TheVariants as stands
-use Rattle.go_fragment_core.specs.Names.{CodeLooks}
-use Rattle.go_means_core.specs.Meaning.{SourceOf}
-use Rattle.go_emit_core.specs.parse_core.Correct.{HasTree}
-use Rattle.go_emit_core.specs.parse_core.declared.error.SynFault.{SynFault}
-use Rattle.go_emit_core.specs.graph_core.Lists.{AllNumbered}
-use Rattle.go_emit_core.specs.graph_core.Packages.{tree_shown, trees_of}
-use Rattle.go_emit_core.specs.graph_core.Sources.{IsContent, IsRead, SourceModel, source}
-use Rattle.go_emit_core.specs.graph_core.Workspaces.{AreAllRead, PackageModel}
-use Rattle.go_emit_core.specs.ready_core.Packages.{trees_in}
-use Rattle.go_emit_core.specs.part_core.Parts.{PartModel}
-use Rattle.go_emit_core.specs.Emitted.{body_first, code_scene_over, told_by}
-use Rattle.go_emit_core.specs.meaning_core.Looking.{looks_of}
+use Rattle.go_clear_core.specs.denote_core.declared.things.Stand.TheVariants as stands
+use Rattle.go_clear_core.specs.fragment_core.Names.{CodeLooks}
+use Rattle.go_clear_core.specs.means_core.Meaning.{SourceOf}
+use Rattle.go_ready_core.specs.parse_core.Correct.{HasTree}
+use Rattle.go_ready_core.specs.parse_core.declared.error.SynFault.{SynFault}
+use Rattle.go_ready_core.specs.graph_core.Lists.{AllNumbered}
+use Rattle.go_ready_core.specs.graph_core.Packages.{tree_shown, trees_of}
+use Rattle.go_ready_core.specs.graph_core.Sources.{IsContent, IsRead, SourceModel, source}
+use Rattle.go_ready_core.specs.graph_core.Workspaces.{AreAllRead, PackageModel}
+use Rattle.go_ready_core.specs.Packages.{trees_in}
+use Rattle.go_snap_core.specs.part_core.Parts.{PartModel}
+use Rattle.go_clear_core.specs.emit_core.Emitted.{body_first, code_scene_over, told_by}
+use Rattle.go_clear_core.specs.meaning_core.Looking.{looks_of}
 use Rattle.go_snap_core.specs.whole_core.Inputs.{IsPartOf}
-use Rattle.go_laws_core.specs.Standing.{piece_exprs, pieces_of}
-use Rattle.go_laws_core.proofs.ConstantLists.{HasItem, contained, has, has_get, has_left, has_of_all, has_right}
-use Rattle.go_laws_core.proofs.Declaring.{Declares}
-use Rattle.go_fold_core.specs.Parts.{parts}
+use Rattle.go_clear_core.specs.laws_core.Standing.{piece_exprs, pieces_of}
+use Rattle.go_clear_core.specs.laws_core.ConstantLists.{HasItem, contained, has, has_get, has_left, has_of_all, has_right}
+use Rattle.go_clear_core.specs.laws_core.Declaring.{Declares}
+use Rattle.go_clear_core.specs.fold_core.Parts.{parts}
 use Rattle.go_called_core.specs.Integers.{HaveValues, PartsAreRead, PiecesHaveValues, SourcesHaveValues, TextsHaveValues}
 use Rattle.go_called_core.proofs.Numbers.{given, terminals_low}
 use Rattle.go_called_core.proofs.Sourced.{source_among}

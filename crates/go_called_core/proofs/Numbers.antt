@@ -1,17 +1,17 @@
 -- The integer literals of a tree of a text have values.
 use Rattle.std.proofs.Common.{◌≡◌, inl, inr, ℕ, suc, ◌≤◌, ◌<◌, ◌^◌, Bool, true, false, List, [], ◌∷◌, Option, Some, None, refl, sym, ap, subst, arith, nat_le, nat_lt, pos, if◌then◌else◌}
 use Rattle.std.proofs.lemmas.Bool.{leb-true, lt-ltb}
-use Rattle.go_text_core.specs.declared.span.Span.{Span}
-use Rattle.go_text_core.specs.Slices.{slice_of}
-use Rattle.go_token_core.specs.declared.kind.TokenKind.{TokenKind}
-use Rattle.go_token_core.specs.declared.kind.TokenKind.TheVariants as tokens
-use Rattle.go_token_core.specs.declared.token.Token.{Token}
-use Rattle.go_token_core.specs.Numbers.{integer_value_of}
+use Rattle.go_clear_core.specs.text_core.declared.span.Span.{Span}
+use Rattle.go_clear_core.specs.text_core.Slices.{slice_of}
+use Rattle.go_clear_core.specs.token_core.declared.kind.TokenKind.{TokenKind}
+use Rattle.go_clear_core.specs.token_core.declared.kind.TokenKind.TheVariants as tokens
+use Rattle.go_clear_core.specs.token_core.declared.token.Token.{Token}
+use Rattle.go_clear_core.specs.token_core.Numbers.{integer_value_of}
 use Rattle.go_tree_nodes.specs.Terminals.{Terminal, Number, Stray, kind_at, name_kind, number_kind, terminal, terminals, text_kind}
-use Rattle.go_constant_core.specs.declared.values.Constant.TheVariants as values
-use Rattle.go_fragment_core.specs.Constants.{held}
-use Rattle.go_fit_core.specs.Fitting.{IsGiven}
-use Rattle.go_laws_core.proofs.ConstantLists.{HasItem}
+use Rattle.go_clear_core.specs.constant_core.declared.values.Constant.TheVariants as values
+use Rattle.go_clear_core.specs.fragment_core.Constants.{held}
+use Rattle.go_clear_core.specs.fit_core.Fitting.{IsGiven}
+use Rattle.go_clear_core.specs.laws_core.ConstantLists.{HasItem}
 
 abbrev greatest : ℕ
 greatest = 9223372036854775807

@@ -1,26 +1,26 @@
 -- Operators, conversions and calls make constants of types over what their values are.
 use Rattle.std.proofs.Common.{◌≡◌, ℕ, ℤ, pos, Bool, true, false, ◌&&◌, ◌||◌, List, length, Option, Some, None, Ok, Err, refl, sym, ap, ◌∙◌, subst, nat_lt, if◌then◌else◌}
 use Rattle.std.specs.Prelude.{◌^◌, ◌+ℤ◌, ◌-ℤ◌, ◌*ℤ◌, neg_ℤ, int_div, int_rem, Result}
-use Rattle.go_text_core.specs.declared.rule.Rule.{Rule}
-use Rattle.go_text_core.specs.declared.rule.Rule.TheVariants.{C4, X1, Y3, Y7}
-use Rattle.go_token_core.specs.declared.kind.Operator.{Operator}
-use Rattle.go_token_core.specs.declared.kind.Operator.TheVariants as operators
+use Rattle.go_clear_core.specs.text_core.declared.rule.Rule.{Rule}
+use Rattle.go_clear_core.specs.text_core.declared.rule.Rule.TheVariants.{C4, X1, Y3, Y7}
+use Rattle.go_clear_core.specs.token_core.declared.kind.Operator.{Operator}
+use Rattle.go_clear_core.specs.token_core.declared.kind.Operator.TheVariants as operators
 use Rattle.go_term_core.specs.declared.term.Basic.{Basic}
 use Rattle.go_term_core.specs.declared.term.Basic.TheVariants as basics
-use Rattle.go_constant_core.specs.declared.values.Constant.{Constant}
-use Rattle.go_constant_core.specs.declared.values.Constant.TheVariants as values
-use Rattle.go_constant_core.specs.Values.{binary, divided, fits_64_bits, int_same, natural, of_int, ranged, unary}
-use Rattle.go_operand_core.specs.declared.types.Operand.{Operand}
-use Rattle.go_operand_core.specs.declared.types.TypeForm.{TypeForm}
-use Rattle.go_operand_core.specs.declared.types.TypeForm.TheVariants as forms
-use Rattle.go_operand_core.specs.declared.types.ValueType.{ValueType}
-use Rattle.go_operand_core.specs.declared.types.ValueType.TheVariants as types
-use Rattle.go_operand_core.specs.TypeRules.{TypeRules}
-use Rattle.go_operand_core.specs.Assign.{assignable, common, common_kind, common_typed, common_untyped, comparable, taken, takes_untyped}
-use Rattle.go_operand_core.specs.Conversions.{convert, convertible, fits, kept, length_constant, length_of, makes_text}
-use Rattle.go_operand_core.specs.Operators.{arithmetic, binary_operand, computed, divides, equated, group, is_some_zero, ordered, takes, value, with_constants}
-use Rattle.go_operand_core.specs.Prefixes.{address, indirection, pointed, signed, signed_over, unary_operand}
-use Rattle.go_operand_core.specs.Values.{basic_under, form_basic, is_basic, is_over, untyped}
+use Rattle.go_clear_core.specs.constant_core.declared.values.Constant.{Constant}
+use Rattle.go_clear_core.specs.constant_core.declared.values.Constant.TheVariants as values
+use Rattle.go_clear_core.specs.constant_core.Values.{binary, divided, fits_64_bits, int_same, natural, of_int, ranged, unary}
+use Rattle.go_clear_core.specs.operand_core.declared.types.Operand.{Operand}
+use Rattle.go_clear_core.specs.operand_core.declared.types.TypeForm.{TypeForm}
+use Rattle.go_clear_core.specs.operand_core.declared.types.TypeForm.TheVariants as forms
+use Rattle.go_clear_core.specs.operand_core.declared.types.ValueType.{ValueType}
+use Rattle.go_clear_core.specs.operand_core.declared.types.ValueType.TheVariants as types
+use Rattle.go_clear_core.specs.operand_core.TypeRules.{TypeRules}
+use Rattle.go_clear_core.specs.operand_core.Assign.{assignable, common, common_kind, common_typed, common_untyped, comparable, taken, takes_untyped}
+use Rattle.go_clear_core.specs.operand_core.Conversions.{convert, convertible, fits, kept, length_constant, length_of, makes_text}
+use Rattle.go_clear_core.specs.operand_core.Operators.{arithmetic, binary_operand, computed, divides, equated, group, is_some_zero, ordered, takes, value, with_constants}
+use Rattle.go_clear_core.specs.operand_core.Prefixes.{address, indirection, pointed, signed, signed_over, unary_operand}
+use Rattle.go_clear_core.specs.operand_core.Values.{basic_under, form_basic, is_basic, is_over, untyped}
 use Rattle.go_called_core.specs.Constants.{AreKept, IsConstantOver, IsOperandOver, IsValueOver}
 
 -- what is not known of a constant is asked of none

@@ -2,12 +2,12 @@
 use Rattle.std.proofs.Common.{All}
 use Rattle.go_tree_nodes.specs.Rules.{Wf_file}
 use Rattle.go_tree_nodes.specs.Spelling.{IsPlaced}
-use Rattle.go_emit_core.specs.ready_core.Packages.{trees_in}
+use Rattle.go_ready_core.specs.Packages.{trees_in}
 use Rattle.go_snap_core.specs.whole_core.Checks.{trees_are_placed}
 use Rattle.go_snap_core.specs.whole_core.PartsWhole.{all_right}
-use Rattle.go_laws_core.specs.ConstantLaws.{PartsAreFit}
-use Rattle.go_laws_core.proofs.ConstantLists.{has_get, has_of_all}
-use Rattle.go_laws_core.proofs.Grammar.{all_keep_rules}
+use Rattle.go_clear_core.specs.laws_core.ConstantLaws.{PartsAreFit}
+use Rattle.go_clear_core.specs.laws_core.ConstantLists.{has_get, has_of_all}
+use Rattle.go_clear_core.specs.laws_core.Grammar.{all_keep_rules}
 use Rattle.go_clear_core.specs.Pieces.{PiecesAreClear}
 use Rattle.go_called_core.specs.Clear.{PartsAreClear}
 use Rattle.go_called_core.specs.Integers.{PartsAreRead}

@@ -7,23 +7,23 @@ use Rattle.std.proofs.lemmas.Bool.{and_parts, eqb-true}
 use Rattle.std.proofs.lemmas.Option.{none-some}
 use Rattle.std.proofs.lemmas.Slice.Eq.{bytes_eq-Decides}
 use Rattle.go_tree_nodes.specs.Trees.{FileTree, FuncTree}
-use Rattle.go_decl_core.specs.TopDecls.{FormTree, FuncForm, TopDeclTree, TypeForm, ValueForm, top_decls}
+use Rattle.go_clear_core.specs.decl_core.TopDecls.{FormTree, FuncForm, TopDeclTree, TypeForm, ValueForm, top_decls}
 use Rattle.go_term_core.specs.declared.term.MemberPlace.TheVariants as places
 use Rattle.go_object_core.specs.Objects.{FunctionOf}
-use Rattle.go_means_core.specs.Meaning.{SourceOf}
-use Rattle.go_link_core.specs.Functions.{PlaceModel, all_functions, is_at, number_at, number_of, same_place}
-use Rattle.go_body_core.specs.handle_core.Declarations.{Declaration, InFile}
-use Rattle.go_fragment_core.specs.Names.{CodeLooks}
-use Rattle.go_emit_core.specs.ready_core.Packages.{trees_in}
-use Rattle.go_emit_core.specs.summary_core.Summaries.{SummaryModel}
-use Rattle.go_emit_core.specs.part_core.Inputs.{path_in}
-use Rattle.go_emit_core.specs.part_core.Parts.{FileOf, PartModel}
-use Rattle.go_emit_core.specs.part_core.Slots.{if_there}
-use Rattle.go_emit_core.specs.Emitted.{are_clean, code_scene_over, file_functions, form_function, functions_of, objects_of, objects_over, package_functions, told_by, whole_object}
-use Rattle.go_emit_core.specs.meaning_core.Looking.{looks_of}
-use Rattle.go_emit_core.specs.meaning_core.Scenes.{CodeScene, decl_at}
-use Rattle.go_laws_core.proofs.ConstantLists.{HasItem, contained}
-use Rattle.go_sources_core.specs.Sources.{file_sources, form_source, package_sources, source_in, sources_in, sources_of, sources_over}
+use Rattle.go_clear_core.specs.means_core.Meaning.{SourceOf}
+use Rattle.go_clear_core.specs.link_core.Functions.{PlaceModel, all_functions, is_at, number_at, number_of, same_place}
+use Rattle.go_func_core.specs.handle_core.Declarations.{Declaration, InFile}
+use Rattle.go_clear_core.specs.fragment_core.Names.{CodeLooks}
+use Rattle.go_ready_core.specs.Packages.{trees_in}
+use Rattle.go_snap_core.specs.summary_core.Summaries.{SummaryModel}
+use Rattle.go_snap_core.specs.part_core.Inputs.{path_in}
+use Rattle.go_snap_core.specs.part_core.Parts.{FileOf, PartModel}
+use Rattle.go_snap_core.specs.part_core.Slots.{if_there}
+use Rattle.go_clear_core.specs.emit_core.Emitted.{are_clean, code_scene_over, file_functions, form_function, functions_of, objects_of, objects_over, package_functions, told_by, whole_object}
+use Rattle.go_clear_core.specs.meaning_core.Looking.{looks_of}
+use Rattle.go_clear_core.specs.meaning_core.Scenes.{CodeScene, decl_at}
+use Rattle.go_clear_core.specs.laws_core.ConstantLists.{HasItem, contained}
+use Rattle.go_clear_core.specs.sources_core.Sources.{file_sources, form_source, package_sources, source_in, sources_in, sources_of, sources_over}
 use Rattle.go_called_core.specs.Places.{ReferencesLeadToTheirs}
 
 -- functions and sources, each beside the other

@@ -5,24 +5,24 @@ use Rattle.std.specs.Str.{bytes_eq}
 use Rattle.std.proofs.lemmas.Bool.{eq-eqb}
 use Rattle.std.proofs.lemmas.Option.{none-some}
 use Rattle.go_tree_nodes.specs.Trees.{FileTree, FuncTree}
-use Rattle.go_decl_core.specs.declared.keys.DeclRef.{DeclRef}
-use Rattle.go_emit_core.specs.decl_core.TopDecls.{FuncForm, TopDeclTree, top_decls}
-use Rattle.go_block_core.specs.declared.fault.BlockFault.{BlockFault}
-use Rattle.go_block_core.specs.declared.fault.BlockRule.TheVariants.{B3}
-use Rattle.go_block_core.specs.Declarations.{PackageDeclaration, declaration, file_declared, files_declared, has_fixed_form, has_receiver, is_main_package, is_method_form, is_procedure, is_procedure_form, package_declared, top_declared, unless_method}
-use Rattle.go_block_core.specs.Exports.{clause_name}
-use Rattle.go_block_core.specs.Faults.{all_block_faults, block_decl_faults, block_fault, block_file_faults, decl_faults_at, fault_if}
-use Rattle.go_block_core.specs.Holding.{package_block, with_declared}
-use Rattle.go_block_core.specs.Naming.{package_named}
-use Rattle.go_emit_core.specs.answer_core.Outer.{block_faults_in}
-use Rattle.go_emit_core.specs.graph_core.Imports.{main}
-use Rattle.go_emit_core.specs.graph_core.Packages.{Trees, tree_shown, trees_of}
-use Rattle.go_emit_core.specs.ready_core.Packages.{trees_in}
-use Rattle.go_emit_core.specs.part_core.Inputs.{InputModel}
-use Rattle.go_emit_core.specs.part_core.Parts.{ContentOf, FileOf, IsPart}
-use Rattle.go_emit_core.specs.Emitted.{are_clean}
-use Rattle.go_emit_core.specs.Laws.{ObjectsAreOfFaultless}
-use Rattle.go_laws_core.proofs.ConstantLists.{HasItem, contained, has, has_flat, has_left, has_right}
+use Rattle.go_clear_core.specs.decl_core.declared.keys.DeclRef.{DeclRef}
+use Rattle.go_clear_core.specs.decl_core.TopDecls.{FuncForm, TopDeclTree, top_decls}
+use Rattle.go_clear_core.specs.block_core.declared.fault.BlockFault.{BlockFault}
+use Rattle.go_clear_core.specs.block_core.declared.fault.BlockRule.TheVariants.{B3}
+use Rattle.go_clear_core.specs.block_core.Declarations.{PackageDeclaration, declaration, file_declared, files_declared, has_fixed_form, has_receiver, is_main_package, is_method_form, is_procedure, is_procedure_form, package_declared, top_declared, unless_method}
+use Rattle.go_clear_core.specs.block_core.Exports.{clause_name}
+use Rattle.go_clear_core.specs.block_core.Faults.{all_block_faults, block_decl_faults, block_fault, block_file_faults, decl_faults_at, fault_if}
+use Rattle.go_clear_core.specs.block_core.Holding.{package_block, with_declared}
+use Rattle.go_clear_core.specs.block_core.Naming.{package_named}
+use Rattle.go_snap_core.specs.answer_core.Outer.{block_faults_in}
+use Rattle.go_ready_core.specs.graph_core.Imports.{main}
+use Rattle.go_ready_core.specs.graph_core.Packages.{Trees, tree_shown, trees_of}
+use Rattle.go_ready_core.specs.Packages.{trees_in}
+use Rattle.go_snap_core.specs.part_core.Inputs.{InputModel}
+use Rattle.go_snap_core.specs.part_core.Parts.{ContentOf, FileOf, IsPart}
+use Rattle.go_clear_core.specs.emit_core.Emitted.{are_clean}
+use Rattle.go_clear_core.specs.emit_core.Laws.{ObjectsAreOfFaultless}
+use Rattle.go_clear_core.specs.laws_core.ConstantLists.{HasItem, contained, has, has_flat, has_left, has_right}
 use Rattle.go_called_core.proofs.Beside.{no_block_fault}
 
 -- faults in blocks

@@ -2,39 +2,39 @@
 use Rattle.std.proofs.Common.{◌≡◌, inl, inr, cond, ◌+◌, ◌≤◌, ℕ, suc, Bool, true, false, List, [], ◌∷◌, ◌++◌, filter, Option, Some, None, is_some, nat_le, nat_lt, refl, sym, ap, subst, ◌∙◌, arith, if◌then◌else◌}
 use Rattle.std.specs.Prelude.{slice_get}
 use Rattle.std.proofs.lemmas.Bool.{and_from, le-leb, lt-ltb}
-use Rattle.go_token_core.specs.declared.kind.Operator.TheVariants as operator
+use Rattle.go_clear_core.specs.token_core.declared.kind.Operator.TheVariants as operator
 use Rattle.go_tree_core.specs.declared.occurrence.Role.TheVariants as roles
 use Rattle.go_tree_nodes.proofs.InOrder.{in_order_ends, in_order_split}
 use Rattle.go_tree_nodes.specs.Spelling.{mark, spell, spell_ident, spell_items, spell_lines, spell_receiver, spell_signature}
 use Rattle.go_tree_nodes.specs.Terminals.{InOrder, Terminal, least_width}
 use Rattle.go_tree_nodes.specs.Trees.{ExprTree, ItemTrees, Integer, Text, Named, Paren, Unary, Binary, Select, Call, Literal, StructLiteral, NoItems, Item, FuncTree}
-use Rattle.go_local_core.specs.Outline.{lines_steps}
-use Rattle.go_local_core.specs.Steps.{Done, Header, Piece}
-use Rattle.go_local_core.specs.Tables.{IsFuncPlaced}
-use Rattle.go_block_core.specs.Naming.{file_specs}
-use Rattle.go_denote_core.specs.declared.things.Stand.{Stand}
-use Rattle.go_denote_core.specs.declared.things.Stand.TheVariants as stands
-use Rattle.go_expr_core.specs.Denoting.{called_answer, named_type, written_type}
-use Rattle.go_expr_core.specs.Looks.{Looks}
-use Rattle.go_expr_core.specs.Places.{inside, left_place, under_place}
-use Rattle.go_expr_core.specs.Elements.{all_keys, is_mixed, key_names, keys_of}
-use Rattle.go_expr_core.specs.Uses.{CallAt, Spot, args_spots, items_spots, key_spots, made_use, spots, type_name_spots, type_spots, use_of, uses}
-use Rattle.go_fold_core.specs.Parts.{item_parts, parts}
-use Rattle.go_body_core.specs.Notes.{TheUse}
-use Rattle.go_body_core.specs.env_core.Looks.{TheLooks}
-use Rattle.go_emit_core.specs.package_core.Checked.{imports_at}
-use Rattle.go_emit_core.specs.part_core.Parts.{package_seen, seen_by}
-use Rattle.go_emit_core.specs.Emitted.{body_uses, code_scene_over, object_over, whole_object}
-use Rattle.go_emit_core.specs.Laws.{BodiesAreBetweenBraces, CallsNameTheirOwn, ObjectsAreOfFaultless, is_between}
-use Rattle.go_laws_core.specs.file_core.Files.{decl_uses, tops_uses}
-use Rattle.go_laws_core.specs.file_core.Imports.{imports_uses}
-use Rattle.go_laws_core.specs.file_core.Laws.{FunctionsArePlaced}
-use Rattle.go_laws_core.specs.file_core.Stands.{file_funcs}
-use Rattle.go_laws_core.specs.func_core.Laws.{FunctionsHaveOneTable}
-use Rattle.go_laws_core.specs.Standing.{looks_among, piece_exprs, pieces_in, pieces_of, stand_in_part}
-use Rattle.go_laws_core.proofs.Clean.{is_clean_file}
-use Rattle.go_laws_core.proofs.ConstantLists.{HasItem, has, has_either, has_left, has_map, has_right}
-use Rattle.go_laws_core.proofs.Pieces.{expr_has, file_has}
+use Rattle.go_clear_core.specs.local_core.Outline.{lines_steps}
+use Rattle.go_clear_core.specs.local_core.Steps.{Done, Header, Piece}
+use Rattle.go_clear_core.specs.local_core.Tables.{IsFuncPlaced}
+use Rattle.go_clear_core.specs.block_core.Naming.{file_specs}
+use Rattle.go_clear_core.specs.denote_core.declared.things.Stand.{Stand}
+use Rattle.go_clear_core.specs.denote_core.declared.things.Stand.TheVariants as stands
+use Rattle.go_clear_core.specs.expr_core.Denoting.{called_answer, named_type, written_type}
+use Rattle.go_clear_core.specs.expr_core.Looks.{Looks}
+use Rattle.go_clear_core.specs.expr_core.Places.{inside, left_place, under_place}
+use Rattle.go_clear_core.specs.expr_core.Elements.{all_keys, is_mixed, key_names, keys_of}
+use Rattle.go_clear_core.specs.expr_core.Uses.{CallAt, Spot, args_spots, items_spots, key_spots, made_use, spots, type_name_spots, type_spots, use_of, uses}
+use Rattle.go_clear_core.specs.fold_core.Parts.{item_parts, parts}
+use Rattle.go_clear_core.specs.body_core.Notes.{TheUse}
+use Rattle.go_func_core.specs.env_core.Looks.{TheLooks}
+use Rattle.go_clear_core.specs.package_core.Checked.{imports_at}
+use Rattle.go_snap_core.specs.part_core.Parts.{package_seen, seen_by}
+use Rattle.go_clear_core.specs.emit_core.Emitted.{body_uses, code_scene_over, object_over, whole_object}
+use Rattle.go_clear_core.specs.emit_core.Laws.{BodiesAreBetweenBraces, CallsNameTheirOwn, ObjectsAreOfFaultless, is_between}
+use Rattle.go_clear_core.specs.file_core.Files.{decl_uses, tops_uses}
+use Rattle.go_clear_core.specs.file_core.Imports.{imports_uses}
+use Rattle.go_clear_core.specs.file_core.Laws.{FunctionsArePlaced}
+use Rattle.go_clear_core.specs.file_core.Stands.{file_funcs}
+use Rattle.go_func_core.specs.Laws.{FunctionsHaveOneTable}
+use Rattle.go_clear_core.specs.laws_core.Standing.{looks_among, piece_exprs, pieces_in, pieces_of, stand_in_part}
+use Rattle.go_clear_core.specs.laws_core.Clean.{is_clean_file}
+use Rattle.go_clear_core.specs.laws_core.ConstantLists.{HasItem, has, has_either, has_left, has_map, has_right}
+use Rattle.go_clear_core.specs.laws_core.Pieces.{expr_has, file_has}
 use Rattle.go_called_core.specs.References.{CallsReferToTheirs}
 use Rattle.go_called_core.proofs.Spelled.{body_has, part_spelled, piece_has}
 

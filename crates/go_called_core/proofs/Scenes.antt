@@ -2,57 +2,57 @@
 use Rattle.std.proofs.Common.{◌≡◌, inl, inr, ℕ, zero, suc, Bool, true, false, not, List, [], ◌∷◌, Option, Some, None, refl, ap, subst, ◌∙◌}
 use Rattle.std.specs.Prelude.{slice_index_or}
 use Rattle.std.specs.List.{AllByRecursion}
-use Rattle.go_universe_core.specs.declared.Predeclared.{Predeclared}
-use Rattle.go_universe_core.specs.declared.Predeclared.TheVariants as universe
+use Rattle.go_clear_core.specs.universe_core.declared.Predeclared.{Predeclared}
+use Rattle.go_clear_core.specs.universe_core.declared.Predeclared.TheVariants as universe
 use Rattle.go_tree_nodes.specs.Trees.{FuncTree}
-use Rattle.go_block_core.specs.Blocks.{file_binding}
-use Rattle.go_block_core.specs.Tables.{in_block}
-use Rattle.go_block_core.specs.declared.binding.Binding.{Binding}
-use Rattle.go_block_core.specs.declared.binding.Target.{Target}
-use Rattle.go_block_core.specs.declared.binding.Target.TheVariants as targets
-use Rattle.go_decl_core.specs.declared.keys.DeclRef.{DeclRef}
-use Rattle.go_local_core.specs.Binding.{Local, NameLook, bound, is_second}
-use Rattle.go_local_core.specs.Outline.{func_closes, func_opens, func_steps}
-use Rattle.go_local_core.specs.Steps.{Piece}
-use Rattle.go_local_core.specs.Tables.{IsFuncPlaced}
+use Rattle.go_clear_core.specs.block_core.Blocks.{file_binding}
+use Rattle.go_clear_core.specs.block_core.Tables.{in_block}
+use Rattle.go_clear_core.specs.block_core.declared.binding.Binding.{Binding}
+use Rattle.go_clear_core.specs.block_core.declared.binding.Target.{Target}
+use Rattle.go_clear_core.specs.block_core.declared.binding.Target.TheVariants as targets
+use Rattle.go_clear_core.specs.decl_core.declared.keys.DeclRef.{DeclRef}
+use Rattle.go_clear_core.specs.local_core.Binding.{Local, NameLook, bound, is_second}
+use Rattle.go_clear_core.specs.local_core.Outline.{func_closes, func_opens, func_steps}
+use Rattle.go_clear_core.specs.local_core.Steps.{Piece}
+use Rattle.go_clear_core.specs.local_core.Tables.{IsFuncPlaced}
 use Rattle.go_term_core.specs.Terms.{Term, Sign}
 use Rattle.go_term_core.specs.declared.term.Basic.{Basic}
 use Rattle.go_term_core.specs.declared.term.MemberPlace.TheVariants as places
-use Rattle.go_constant_core.specs.declared.values.Constant.{Constant}
-use Rattle.go_constant_core.specs.declared.values.Constant.TheVariants as values
-use Rattle.go_operand_core.specs.declared.types.Operand.{Operand}
-use Rattle.go_operand_core.specs.TypeRules.{TypeRules}
-use Rattle.go_operand_core.specs.Values.{basic_under}
-use Rattle.go_decide_core.specs.Rules.{term_rules}
-use Rattle.go_denote_core.specs.declared.things.Exported.TheVariants as exporteds
-use Rattle.go_denote_core.specs.declared.things.Found.TheVariants as founds
-use Rattle.go_expr_core.specs.Looks.{WrittenRules}
-use Rattle.go_piece_core.specs.Pieces.{piece_values}
-use Rattle.go_fragment_core.specs.Constants.{held}
-use Rattle.go_fragment_core.specs.Names.{word_of}
-use Rattle.go_fragment_core.specs.declared.names.ConstantWord.{ConstantWord}
-use Rattle.go_fragment_core.specs.declared.names.ConstantWord.TheVariants as held_words
-use Rattle.go_fold_core.specs.Reading.{basic_of}
-use Rattle.go_body_core.specs.Notes.{TheLocal, TheValue}
-use Rattle.go_body_core.specs.Rules.{local_if, value_at}
-use Rattle.go_body_core.specs.env_core.Found.{TheExported, TheFound, exported_face, exported_shown, face_at, found_binding, found_exported, found_face, found_of, found_outside, found_target, found_universe, own_face}
-use Rattle.go_body_core.specs.env_core.Looks.{looks_in}
-use Rattle.go_body_core.specs.env_core.Scenes.{SceneModel}
-use Rattle.go_body_core.specs.env_core.declared.meaning.Meaning.{Meaning as NameMeaning}
-use Rattle.go_body_core.specs.env_core.declared.meaning.Meaning.TheVariants as means
-use Rattle.go_body_core.specs.face_core.Faces.{TheFace}
-use Rattle.go_body_core.specs.face_core.Packages.{PackageFacesModel, face_by, face_in, face_in_some, package_in, shown_in_some, shown_name}
-use Rattle.go_body_core.specs.face_core.Written.{position_of}
-use Rattle.go_body_core.specs.face_core.declared.face.Face.TheVariants as faces
-use Rattle.go_body_core.specs.handle_core.Declarations.{Declaration, Universe, OfError, Package, InFile}
-use Rattle.go_body_core.specs.names_core.declared.meaning.Outside.{Outside}
-use Rattle.go_body_core.specs.names_core.declared.meaning.Outside.TheVariants as outsides
-use Rattle.go_laws_core.specs.func_core.Functions.{AreFuncDeclarations, func_rules}
-use Rattle.go_laws_core.specs.func_core.Laws.{FunctionsHaveOneTable}
-use Rattle.go_laws_core.specs.func_core.Locals.{LocalsAreDeclarations}
-use Rattle.go_laws_core.specs.func_core.Stands.{FileStand, looks_where, outer_meanings}
-use Rattle.go_laws_core.specs.Standing.{looks_among}
-use Rattle.go_laws_core.proofs.ConstantLists.{HasItem, from_flat, has}
+use Rattle.go_clear_core.specs.constant_core.declared.values.Constant.{Constant}
+use Rattle.go_clear_core.specs.constant_core.declared.values.Constant.TheVariants as values
+use Rattle.go_clear_core.specs.operand_core.declared.types.Operand.{Operand}
+use Rattle.go_clear_core.specs.operand_core.TypeRules.{TypeRules}
+use Rattle.go_clear_core.specs.operand_core.Values.{basic_under}
+use Rattle.go_clear_core.specs.decide_core.Rules.{term_rules}
+use Rattle.go_clear_core.specs.denote_core.declared.things.Exported.TheVariants as exporteds
+use Rattle.go_clear_core.specs.denote_core.declared.things.Found.TheVariants as founds
+use Rattle.go_clear_core.specs.expr_core.Looks.{WrittenRules}
+use Rattle.go_clear_core.specs.piece_core.Pieces.{piece_values}
+use Rattle.go_clear_core.specs.fragment_core.Constants.{held}
+use Rattle.go_clear_core.specs.fragment_core.Names.{word_of}
+use Rattle.go_clear_core.specs.fragment_core.declared.names.ConstantWord.{ConstantWord}
+use Rattle.go_clear_core.specs.fragment_core.declared.names.ConstantWord.TheVariants as held_words
+use Rattle.go_clear_core.specs.fold_core.Reading.{basic_of}
+use Rattle.go_clear_core.specs.body_core.Notes.{TheLocal, TheValue}
+use Rattle.go_clear_core.specs.body_core.Rules.{local_if, value_at}
+use Rattle.go_func_core.specs.env_core.Found.{TheExported, TheFound, exported_face, exported_shown, face_at, found_binding, found_exported, found_face, found_of, found_outside, found_target, found_universe, own_face}
+use Rattle.go_func_core.specs.env_core.Looks.{looks_in}
+use Rattle.go_func_core.specs.env_core.Scenes.{SceneModel}
+use Rattle.go_func_core.specs.env_core.declared.meaning.Meaning.{Meaning as NameMeaning}
+use Rattle.go_func_core.specs.env_core.declared.meaning.Meaning.TheVariants as means
+use Rattle.go_func_core.specs.face_core.Faces.{TheFace}
+use Rattle.go_func_core.specs.face_core.Packages.{PackageFacesModel, face_by, face_in, face_in_some, package_in, shown_in_some, shown_name}
+use Rattle.go_func_core.specs.face_core.Written.{position_of}
+use Rattle.go_func_core.specs.face_core.declared.face.Face.TheVariants as faces
+use Rattle.go_func_core.specs.handle_core.Declarations.{Declaration, Universe, OfError, Package, InFile}
+use Rattle.go_func_core.specs.names_core.declared.meaning.Outside.{Outside}
+use Rattle.go_func_core.specs.names_core.declared.meaning.Outside.TheVariants as outsides
+use Rattle.go_func_core.specs.Functions.{AreFuncDeclarations, func_rules}
+use Rattle.go_func_core.specs.Laws.{FunctionsHaveOneTable}
+use Rattle.go_func_core.specs.Locals.{LocalsAreDeclarations}
+use Rattle.go_func_core.specs.Stands.{FileStand, looks_where, outer_meanings}
+use Rattle.go_clear_core.specs.laws_core.Standing.{looks_among}
+use Rattle.go_clear_core.specs.laws_core.ConstantLists.{HasItem, from_flat, has}
 use Rattle.go_clear_core.specs.Pieces.{ConstantsAreTyped, IsExportedConstant, IsFoundConstant, IsConstantTyped}
 use Rattle.go_clear_core.proofs.Types.{types_keep_basics}
 use Rattle.go_called_core.specs.Constants.{AreKept, IsConstantOver, IsExportedOver, IsFoundOver, IsValueOver, NamesAreOver}

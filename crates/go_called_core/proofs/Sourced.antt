@@ -3,19 +3,19 @@ use Rattle.std.proofs.Common.{◌≡◌, inl, inr, ℕ, ◌+◌, Bool, true, fal
 use Rattle.std.specs.Prelude.{slice_get}
 use Rattle.std.specs.List.{flat_map}
 use Rattle.go_tree_nodes.specs.Trees.{FileTree, FuncTree, TopTree}
-use Rattle.go_emit_core.specs.decl_core.TopDecls.{top_decls}
-use Rattle.go_link_core.specs.Functions.{PlaceModel, all_functions, number_of}
-use Rattle.go_means_core.specs.Meaning.{SourceOf}
-use Rattle.go_body_core.specs.handle_core.Declarations.{Declaration}
-use Rattle.go_laws_core.specs.file_core.Stands.{decl_funcs}
-use Rattle.go_emit_core.specs.ready_core.Packages.{trees_in}
-use Rattle.go_emit_core.specs.summary_core.Summaries.{SummaryModel}
-use Rattle.go_emit_core.specs.part_core.Parts.{FileOf, PartModel}
-use Rattle.go_emit_core.specs.Emitted.{are_clean, code_scene_over, objects_of, told_by}
-use Rattle.go_emit_core.specs.meaning_core.Looking.{looks_of}
-use Rattle.go_laws_core.proofs.ConstantLists.{HasItem, from_flat, has_get, has_left, has_right}
-use Rattle.go_laws_core.proofs.Declaring.{Declares, declared_in}
-use Rattle.go_sources_core.specs.Sources.{file_sources, package_sources, part_sources, source_in, sources_of}
+use Rattle.go_clear_core.specs.decl_core.TopDecls.{top_decls}
+use Rattle.go_clear_core.specs.link_core.Functions.{PlaceModel, all_functions, number_of}
+use Rattle.go_clear_core.specs.means_core.Meaning.{SourceOf}
+use Rattle.go_func_core.specs.handle_core.Declarations.{Declaration}
+use Rattle.go_clear_core.specs.file_core.Stands.{decl_funcs}
+use Rattle.go_ready_core.specs.Packages.{trees_in}
+use Rattle.go_snap_core.specs.summary_core.Summaries.{SummaryModel}
+use Rattle.go_snap_core.specs.part_core.Parts.{FileOf, PartModel}
+use Rattle.go_clear_core.specs.emit_core.Emitted.{are_clean, code_scene_over, objects_of, told_by}
+use Rattle.go_clear_core.specs.meaning_core.Looking.{looks_of}
+use Rattle.go_clear_core.specs.laws_core.ConstantLists.{HasItem, from_flat, has_get, has_left, has_right}
+use Rattle.go_clear_core.specs.laws_core.Declaring.{Declares, declared_in}
+use Rattle.go_clear_core.specs.sources_core.Sources.{file_sources, package_sources, part_sources, source_in, sources_of}
 use Rattle.go_clear_core.proofs.Sources.{IsAt, at_file, of_decls}
 
 -- a source of a part, where a declaration is the function of a number and packages tell this

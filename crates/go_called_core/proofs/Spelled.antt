@@ -1,23 +1,23 @@
 -- What an expression of a piece of a function writes is among what the function writes.
 use Rattle.std.proofs.Common.{◌≡◌, ◌⊎◌, inl, inr, Bool, true, false, List, [], ◌∷◌, ◌++◌, Option, Some, None, sym, ap, subst, if◌then◌else◌}
-use Rattle.go_text_core.specs.declared.span.Span.{Span}
-use Rattle.go_token_core.specs.declared.kind.Keyword.TheVariants as keyword
-use Rattle.go_token_core.specs.declared.kind.Operator.TheVariants as operator
+use Rattle.go_clear_core.specs.text_core.declared.span.Span.{Span}
+use Rattle.go_clear_core.specs.token_core.declared.kind.Keyword.TheVariants as keyword
+use Rattle.go_clear_core.specs.token_core.declared.kind.Operator.TheVariants as operator
 use Rattle.go_tree_nodes.specs.declared.decls.ValueKind.{ValueKind}
 use Rattle.go_tree_nodes.specs.Spelling.{mark, spell, spell_branch, spell_else, spell_exprs, spell_for, spell_func, spell_ident, spell_idents, spell_if, spell_init, spell_items, spell_key, spell_lines, spell_receiver, spell_signature, spell_simple, spell_some, spell_some_expr, spell_some_exprs, spell_some_simple, spell_some_type, spell_specs, spell_specs_of, spell_stmt, spell_type, spell_type_name, spell_value_spec, spell_values, word}
 use Rattle.go_tree_nodes.specs.Terminals.{Terminal}
 use Rattle.go_tree_nodes.specs.Trees as tree
 use Rattle.go_tree_nodes.specs.Trees.{Separated, One, Then, ExprTree, ItemTrees, Integer, Text, Named, Paren, Unary, Binary, Select, Call, Literal, StructLiteral, NoItems, Item, ValueSpecTree, Specs, Single, Group, SimpleTree, Alone, Step, Assign, Update, Define, IfTree, ForTree, Forever, While, Clauses, StmtTree, BranchTree, ElseTree, Lines, Empty, Simple, Return, Break, Continue, Block, If, For, Branch, NoElse, ElseBlock, ElseIf, NoLines, Line, FuncTree}
-use Rattle.go_local_core.specs.Outline.{branch_steps, else_steps, for_steps, group_steps, if_steps, init_steps, lines_steps, simple_steps, some_condition_steps, some_simple_steps, spec_steps, specs_steps, stmt_steps}
-use Rattle.go_local_core.specs.Steps.{Piece, Header, Spec, Act, Condition, Given, Steps, Done, Check, Inner, spell_piece}
-use Rattle.go_walk_core.specs.Ends.{is_blank_target}
-use Rattle.go_denote_core.specs.declared.things.Stand.{Stand}
-use Rattle.go_denote_core.specs.declared.things.Stand.TheVariants as stands
-use Rattle.go_expr_core.specs.Places.{inside, left_place, under_place}
-use Rattle.go_fold_core.specs.Parts.{item_parts, parts}
-use Rattle.go_emit_core.specs.value_core.Initial.{exprs}
-use Rattle.go_laws_core.specs.Standing.{piece_exprs, pieces_in, pieces_of, some_listed, target_listed, targets_listed, values_listed}
-use Rattle.go_laws_core.proofs.ConstantLists.{HasItem, has_either, has_left, has_right}
+use Rattle.go_clear_core.specs.local_core.Outline.{branch_steps, else_steps, for_steps, group_steps, if_steps, init_steps, lines_steps, simple_steps, some_condition_steps, some_simple_steps, spec_steps, specs_steps, stmt_steps}
+use Rattle.go_clear_core.specs.local_core.Steps.{Piece, Header, Spec, Act, Condition, Given, Steps, Done, Check, Inner, spell_piece}
+use Rattle.go_clear_core.specs.walk_core.Ends.{is_blank_target}
+use Rattle.go_clear_core.specs.denote_core.declared.things.Stand.{Stand}
+use Rattle.go_clear_core.specs.denote_core.declared.things.Stand.TheVariants as stands
+use Rattle.go_clear_core.specs.expr_core.Places.{inside, left_place, under_place}
+use Rattle.go_clear_core.specs.fold_core.Parts.{item_parts, parts}
+use Rattle.go_ready_core.specs.value_core.Initial.{exprs}
+use Rattle.go_clear_core.specs.laws_core.Standing.{piece_exprs, pieces_in, pieces_of, some_listed, target_listed, targets_listed, values_listed}
+use Rattle.go_clear_core.specs.laws_core.ConstantLists.{HasItem, has_either, has_left, has_right}
 
 -- expressions
 

@@ -5,28 +5,28 @@ use Rattle.std.specs.List.{flat_map}
 use Rattle.std.specs.Str.{bytes_eq}
 use Rattle.std.proofs.lemmas.Option.{none-some}
 use Rattle.go_tree_nodes.specs.Trees.{FileTree}
-use Rattle.go_emit_core.specs.decl_core.TopDecls.{TopDeclTree, top_decls}
-use Rattle.go_block_core.specs.Declarations.{is_main_package}
-use Rattle.go_fragment_core.specs.declared.names.Gives.TheVariants as gives
+use Rattle.go_clear_core.specs.decl_core.TopDecls.{TopDeclTree, top_decls}
+use Rattle.go_clear_core.specs.block_core.Declarations.{is_main_package}
+use Rattle.go_clear_core.specs.fragment_core.declared.names.Gives.TheVariants as gives
 use Rattle.go_object_core.specs.Objects.{ObjectOf}
-use Rattle.go_link_core.specs.Functions.{PlaceModel, all_functions, number_of}
-use Rattle.go_link_core.specs.Linked.{IsBegun, RunnableOf, program_of}
-use Rattle.go_link_core.specs.Order.{initialised, inits_in}
-use Rattle.go_link_core.specs.Packages.{PackageOf, entry_if, entry_in, entry_of, package_number, package_of, packages_from}
-use Rattle.go_means_core.specs.Meaning.{SourceOf}
-use Rattle.go_fit_core.specs.Fitting.{IsDeclared}
-use Rattle.go_body_core.specs.handle_core.Declarations.{Declaration}
-use Rattle.go_emit_core.specs.graph_core.Packages.{trees_of}
-use Rattle.go_emit_core.specs.ready_core.Packages.{trees_in}
-use Rattle.go_emit_core.specs.summary_core.Summaries.{SummaryModel}
-use Rattle.go_emit_core.specs.part_core.Parts.{FileOf, PartModel}
-use Rattle.go_emit_core.specs.part_core.Slots.{if_there}
-use Rattle.go_emit_core.specs.meaning_core.Looking.{looks_of}
-use Rattle.go_emit_core.specs.meaning_core.Scenes.{CodeScene}
-use Rattle.go_emit_core.specs.Emitted.{are_clean, code_scene_over, file_functions, objects_of, objects_over, package_functions, told_by, whole_object}
-use Rattle.go_emit_core.specs.Laws.{ObjectsAreOfFaultless}
-use Rattle.go_laws_core.proofs.ConstantLists.{HasItem, contained, from_flat, has, has_either}
-use Rattle.go_sources_core.specs.Sources.{file_sources, package_sources, sources_of, sources_over}
+use Rattle.go_clear_core.specs.link_core.Functions.{PlaceModel, all_functions, number_of}
+use Rattle.go_clear_core.specs.link_core.Linked.{IsBegun, RunnableOf, program_of}
+use Rattle.go_clear_core.specs.link_core.Order.{initialised, inits_in}
+use Rattle.go_clear_core.specs.link_core.Packages.{PackageOf, entry_if, entry_in, entry_of, package_number, package_of, packages_from}
+use Rattle.go_clear_core.specs.means_core.Meaning.{SourceOf}
+use Rattle.go_clear_core.specs.fit_core.Fitting.{IsDeclared}
+use Rattle.go_func_core.specs.handle_core.Declarations.{Declaration}
+use Rattle.go_ready_core.specs.graph_core.Packages.{trees_of}
+use Rattle.go_ready_core.specs.Packages.{trees_in}
+use Rattle.go_snap_core.specs.summary_core.Summaries.{SummaryModel}
+use Rattle.go_snap_core.specs.part_core.Parts.{FileOf, PartModel}
+use Rattle.go_snap_core.specs.part_core.Slots.{if_there}
+use Rattle.go_clear_core.specs.meaning_core.Looking.{looks_of}
+use Rattle.go_clear_core.specs.meaning_core.Scenes.{CodeScene}
+use Rattle.go_clear_core.specs.emit_core.Emitted.{are_clean, code_scene_over, file_functions, objects_of, objects_over, package_functions, told_by, whole_object}
+use Rattle.go_clear_core.specs.emit_core.Laws.{ObjectsAreOfFaultless}
+use Rattle.go_clear_core.specs.laws_core.ConstantLists.{HasItem, contained, from_flat, has, has_either}
+use Rattle.go_clear_core.specs.sources_core.Sources.{file_sources, package_sources, sources_of, sources_over}
 use Rattle.go_clear_core.specs.Laws.{IsOfGrammar}
 use Rattle.go_clear_core.specs.RunLaws.{ObjectsRunAsTyped}
 use Rattle.go_called_core.specs.Starts.{StartsTakeNothing, TypedObjectsRun}

@@ -2,30 +2,30 @@
 use Rattle.std.proofs.Common.{◌≡◌, inl, inr, ◌⊎◌, ℕ, Bool, true, false, List, [], ◌∷◌, ◌++◌, Contains, Option, Some, None, refl, sym, ap, subst, ◌∙◌, if◌then◌else◌}
 use Rattle.std.specs.Prelude.{AllPairs, slice_get, slice_index_or, suc}
 use Rattle.std.proofs.lemmas.List.Kept.{AllPairs-cons}
-use Rattle.go_decl_core.specs.declared.keys.DeclKey.{DeclKey}
-use Rattle.go_decl_core.specs.declared.keys.DeclRef.{DeclRef}
+use Rattle.go_clear_core.specs.decl_core.declared.keys.DeclKey.{DeclKey}
+use Rattle.go_clear_core.specs.decl_core.declared.keys.DeclRef.{DeclRef}
 use Rattle.go_term_core.specs.Terms.{Term, NoType, Predeclared, ErrorType, Defined, PointerTo, StructOf, InterfaceOf, term_keys}
-use Rattle.go_constant_core.specs.declared.values.Constant.{Constant}
-use Rattle.go_operand_core.specs.declared.types.ValueType.{ValueType}
-use Rattle.go_operand_core.specs.declared.types.ValueType.TheVariants as types
-use Rattle.go_operand_core.specs.TypeRules.{TypeRules}
-use Rattle.go_operand_core.specs.Values.{basic_under, form_basic}
-use Rattle.go_decide_core.specs.Rules.{form_of, form_under, term_rules}
-use Rattle.go_body_core.specs.face_core.Faces.{TheFace}
-use Rattle.go_body_core.specs.face_core.Packages.{DeclaredOf, face_among, face_by}
-use Rattle.go_body_core.specs.face_core.Written.{same_decl_place}
-use Rattle.go_body_core.specs.face_core.declared.face.Face.TheVariants as faces
-use Rattle.go_emit_core.specs.answer_core.Shown.{is_decl_listed, shown_among, shown_if}
-use Rattle.go_emit_core.specs.entry_core.Among.{Among, among_cases, among_from, among_left, among_map, among_right, among_to}
-use Rattle.go_emit_core.specs.graph_core.PlanLaws.{has_plan}
-use Rattle.go_emit_core.specs.graph_core.Plans.{IsPlan, PlanModel}
-use Rattle.go_emit_core.specs.graph_core.Workspaces.{IsWorkspace, PackageModel}
-use Rattle.go_emit_core.specs.summary_core.Summaries.{IsOfOne, SummaryModel, path_of}
-use Rattle.go_emit_core.specs.summary_core.Views.{types_told}
-use Rattle.go_emit_core.specs.part_core.Inputs.{InputModel, path_in}
-use Rattle.go_emit_core.specs.part_core.Parts.{ContentOf, IsPart, PartModel}
-use Rattle.go_emit_core.specs.Emitted.{told_to}
-use Rattle.go_table_core.specs.Entries.{Entry, find_entry, term_in}
+use Rattle.go_clear_core.specs.constant_core.declared.values.Constant.{Constant}
+use Rattle.go_clear_core.specs.operand_core.declared.types.ValueType.{ValueType}
+use Rattle.go_clear_core.specs.operand_core.declared.types.ValueType.TheVariants as types
+use Rattle.go_clear_core.specs.operand_core.TypeRules.{TypeRules}
+use Rattle.go_clear_core.specs.operand_core.Values.{basic_under, form_basic}
+use Rattle.go_clear_core.specs.decide_core.Rules.{form_of, form_under, term_rules}
+use Rattle.go_func_core.specs.face_core.Faces.{TheFace}
+use Rattle.go_func_core.specs.face_core.Packages.{DeclaredOf, face_among, face_by}
+use Rattle.go_func_core.specs.face_core.Written.{same_decl_place}
+use Rattle.go_func_core.specs.face_core.declared.face.Face.TheVariants as faces
+use Rattle.go_snap_core.specs.answer_core.Shown.{is_decl_listed, shown_among, shown_if}
+use Rattle.go_func_core.specs.entry_core.Among.{Among, among_cases, among_from, among_left, among_map, among_right, among_to}
+use Rattle.go_ready_core.specs.graph_core.PlanLaws.{has_plan}
+use Rattle.go_ready_core.specs.graph_core.Plans.{IsPlan, PlanModel}
+use Rattle.go_ready_core.specs.graph_core.Workspaces.{IsWorkspace, PackageModel}
+use Rattle.go_snap_core.specs.summary_core.Summaries.{IsOfOne, SummaryModel, path_of}
+use Rattle.go_snap_core.specs.summary_core.Views.{types_told}
+use Rattle.go_snap_core.specs.part_core.Inputs.{InputModel, path_in}
+use Rattle.go_snap_core.specs.part_core.Parts.{ContentOf, IsPart, PartModel}
+use Rattle.go_clear_core.specs.emit_core.Emitted.{told_to}
+use Rattle.go_clear_core.specs.table_core.Entries.{Entry, find_entry, term_in}
 use Rattle.go_snap_core.specs.whole_core.Checks.{trees_are_placed}
 use Rattle.go_snap_core.specs.whole_core.Inputs.{ReachesPackage}
 use Rattle.go_snap_core.specs.whole_core.Known.{KnownAlike, value_type_keys}
@@ -36,7 +36,7 @@ use Rattle.go_snap_core.specs.whole_core.Parts.{all_inside, none_reached, of_one
 use Rattle.go_snap_core.specs.whole_core.PartsWhole.{all_right}
 use Rattle.go_snap_core.specs.whole_core.Told.{AreWell, NoneIsOf, known_alike, known_by}
 use Rattle.go_snap_core.specs.whole_core.mirrors.Steps.{AreRight}
-use Rattle.go_laws_core.proofs.ConstantLists.{contained}
+use Rattle.go_clear_core.specs.laws_core.ConstantLists.{contained}
 use Rattle.go_called_core.specs.Constants.{IsConstantOver}
 use Rattle.go_called_core.specs.Packages.{AreToldOver, DeclarationsKeepTypes, IsFaceOver, IsSomeFaceOver, PartsTellKept, rules_in}
 

@@ -2,13 +2,13 @@
 use Rattle.std.proofs.Common.{◌≡◌, inl, inr, ℕ, suc, Bool, true, false, List, [], ◌∷◌, ◌++◌, Option, Some, None, subst, if◌then◌else◌}
 use Rattle.std.specs.Str.{bytes_eq}
 use Rattle.go_tree_nodes.specs.declared.names.Ident.{Ident}
-use Rattle.go_text_core.specs.Text.{is_blank}
+use Rattle.go_clear_core.specs.text_core.Text.{is_blank}
 use Rattle.go_open_core.specs.Blocks.{or_else}
-use Rattle.go_local_core.specs.Binding.{Local, NameLook}
-use Rattle.go_local_core.specs.Law.{Rules, declared_from, locals_of_names}
-use Rattle.go_local_core.specs.Steps.{Piece, Steps, Done, Check, Declare, Inner}
-use Rattle.go_local_core.specs.mirrors.Walk.{Names, is_new, latest, look_in, names_of, news, walk_out, with_name, with_names}
-use Rattle.go_laws_core.proofs.ConstantLists.{HasItem, has_either}
+use Rattle.go_clear_core.specs.local_core.Binding.{Local, NameLook}
+use Rattle.go_clear_core.specs.local_core.Law.{Rules, declared_from, locals_of_names}
+use Rattle.go_clear_core.specs.local_core.Steps.{Piece, Steps, Done, Check, Declare, Inner}
+use Rattle.go_clear_core.specs.local_core.mirrors.Walk.{Names, is_new, latest, look_in, names_of, news, walk_out, with_name, with_names}
+use Rattle.go_clear_core.specs.laws_core.ConstantLists.{HasItem, has_either}
 
 module _ {X N : Type 0} (rules : Rules X N) (beyond : List ℕ → Option X) (Good : X → Type 0) (outside : (name : List ℕ) (x : X) → beyond name ≡ Some x → Good x)
     (declared : (look : NameLook X) → ((name : List ℕ) (place : ℕ) (x : X) → look name place ≡ Some x → Good x) → (firsts : List Bool) (p : Piece) (n : ℕ) → Good (rules.means look firsts p n)) where

@@ -3,23 +3,23 @@
 -- docs/RULES.md, "Whole workspaces", "Stack code". The Go specification, "Packages", "Constants", "Statements".
 use Rattle.std.specs.Prelude.{◌≡◌, ℕ, Bool, true, List, Option, Some, Contains, slice_get}
 use Rattle.go_tree_nodes.specs.Trees.{FileTree, FuncTree}
-use Rattle.go_local_core.specs.Binding.{Local}
-use Rattle.go_local_core.specs.Steps.{Piece}
+use Rattle.go_clear_core.specs.local_core.Binding.{Local}
+use Rattle.go_clear_core.specs.local_core.Steps.{Piece}
 use Rattle.go_term_core.specs.Terms.{Term, Sign}
-use Rattle.go_piece_core.specs.Headers.{returned_names, returned_types}
-use Rattle.go_body_core.specs.env_core.declared.meaning.Meaning.{Meaning as NameMeaning}
-use Rattle.go_body_core.specs.handle_core.Declarations.{Declaration}
-use Rattle.go_emit_core.specs.graph_core.Workspaces.{IsWorkspace, PackageModel}
-use Rattle.go_emit_core.specs.ready_core.Packages.{trees_in}
-use Rattle.go_emit_core.specs.part_core.Parts.{FileOf, PartModel}
-use Rattle.go_emit_core.specs.Emitted.{are_clean}
+use Rattle.go_clear_core.specs.piece_core.Headers.{returned_names, returned_types}
+use Rattle.go_func_core.specs.env_core.declared.meaning.Meaning.{Meaning as NameMeaning}
+use Rattle.go_func_core.specs.handle_core.Declarations.{Declaration}
+use Rattle.go_ready_core.specs.graph_core.Workspaces.{IsWorkspace, PackageModel}
+use Rattle.go_ready_core.specs.Packages.{trees_in}
+use Rattle.go_snap_core.specs.part_core.Parts.{FileOf, PartModel}
+use Rattle.go_clear_core.specs.emit_core.Emitted.{are_clean}
 use Rattle.go_snap_core.specs.whole_core.Inputs.{AreParts}
-use Rattle.go_laws_core.specs.file_core.Stands.{file_funcs}
-use Rattle.go_laws_core.specs.func_core.Functions.{AreFuncDeclarations}
-use Rattle.go_laws_core.specs.func_core.Stands.{outer_looks}
-use Rattle.go_laws_core.specs.Calling.{without_methods}
-use Rattle.go_laws_core.specs.ConstantLaws.{code_names_of}
-use Rattle.go_laws_core.specs.Standing.{looks_among, pieces_of, stand_in_part}
+use Rattle.go_clear_core.specs.file_core.Stands.{file_funcs}
+use Rattle.go_func_core.specs.Functions.{AreFuncDeclarations}
+use Rattle.go_func_core.specs.Stands.{outer_looks}
+use Rattle.go_clear_core.specs.laws_core.Calling.{without_methods}
+use Rattle.go_clear_core.specs.laws_core.ConstantLaws.{code_names_of}
+use Rattle.go_clear_core.specs.laws_core.Standing.{looks_among, pieces_of, stand_in_part}
 use Rattle.go_clear_core.specs.Pieces.{meaning_in}
 use Rattle.go_clear_core.specs.Statements.{IsClear}
 

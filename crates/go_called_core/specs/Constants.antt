@@ -5,25 +5,25 @@
 use Rattle.std.specs.Prelude.{◌≡◌, ℕ, Bool, List, Option, Some, None}
 use Rattle.std.specs.List.{AllByRecursion}
 use Rattle.go_tree_nodes.specs.Trees.{ExprTree}
-use Rattle.go_local_core.specs.Steps.{Piece}
+use Rattle.go_clear_core.specs.local_core.Steps.{Piece}
 use Rattle.go_term_core.specs.declared.term.Basic.{Basic}
 use Rattle.go_term_core.specs.declared.term.Basic.TheVariants as basics
-use Rattle.go_constant_core.specs.declared.values.Constant.{Constant}
-use Rattle.go_constant_core.specs.declared.values.Constant.TheVariants as values
-use Rattle.go_operand_core.specs.declared.types.Operand.{Operand}
-use Rattle.go_operand_core.specs.TypeRules.{TypeRules}
-use Rattle.go_operand_core.specs.Values.{basic_under}
-use Rattle.go_denote_core.specs.declared.things.Denoted.{Denoted}
-use Rattle.go_denote_core.specs.declared.things.Denoted.TheVariants as denotes
-use Rattle.go_denote_core.specs.declared.things.Exported.{Exported}
-use Rattle.go_denote_core.specs.declared.things.Exported.TheVariants as exporteds
-use Rattle.go_denote_core.specs.declared.things.Found.{Found}
-use Rattle.go_denote_core.specs.declared.things.Found.TheVariants as founds
-use Rattle.go_denote_core.specs.declared.things.Stand.{Stand}
-use Rattle.go_expr_core.specs.Denoting.{denoted}
-use Rattle.go_expr_core.specs.Looks.{Looks}
-use Rattle.go_piece_core.specs.Pieces.{piece_values}
-use Rattle.go_fold_core.specs.Typed.{KeepBasics}
+use Rattle.go_clear_core.specs.constant_core.declared.values.Constant.{Constant}
+use Rattle.go_clear_core.specs.constant_core.declared.values.Constant.TheVariants as values
+use Rattle.go_clear_core.specs.operand_core.declared.types.Operand.{Operand}
+use Rattle.go_clear_core.specs.operand_core.TypeRules.{TypeRules}
+use Rattle.go_clear_core.specs.operand_core.Values.{basic_under}
+use Rattle.go_clear_core.specs.denote_core.declared.things.Denoted.{Denoted}
+use Rattle.go_clear_core.specs.denote_core.declared.things.Denoted.TheVariants as denotes
+use Rattle.go_clear_core.specs.denote_core.declared.things.Exported.{Exported}
+use Rattle.go_clear_core.specs.denote_core.declared.things.Exported.TheVariants as exporteds
+use Rattle.go_clear_core.specs.denote_core.declared.things.Found.{Found}
+use Rattle.go_clear_core.specs.denote_core.declared.things.Found.TheVariants as founds
+use Rattle.go_clear_core.specs.denote_core.declared.things.Stand.{Stand}
+use Rattle.go_clear_core.specs.expr_core.Denoting.{denoted}
+use Rattle.go_clear_core.specs.expr_core.Looks.{Looks}
+use Rattle.go_clear_core.specs.piece_core.Pieces.{piece_values}
+use Rattle.go_clear_core.specs.fold_core.Typed.{KeepBasics}
 use Rattle.go_clear_core.specs.Operators.{KeepIdentity}
 use Rattle.go_clear_core.specs.Statements.{ArePredeclared}
 

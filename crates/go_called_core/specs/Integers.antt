@@ -2,26 +2,26 @@
 --
 -- docs/RULES.md, "Stack code". The Go specification, "Integer literals", "Constants".
 use Rattle.std.specs.Prelude.{◌≡◌, ℕ, List, Option, Some, Contains, slice_get}
-use Rattle.go_text_core.specs.declared.span.Span.{Span}
+use Rattle.go_clear_core.specs.text_core.declared.span.Span.{Span}
 use Rattle.go_tree_nodes.specs.Spelling.{spell_file, spell_func}
 use Rattle.go_tree_nodes.specs.Terminals.{Terminal, terminal, Number}
 use Rattle.go_tree_nodes.specs.Trees.{ExprTree, FileTree, FuncTree, Integer}
-use Rattle.go_emit_core.specs.parse_core.Correct.{HasTree}
-use Rattle.go_local_core.specs.Steps.{Piece}
-use Rattle.go_denote_core.specs.declared.things.Stand.{Stand}
-use Rattle.go_denote_core.specs.declared.things.Stand.TheVariants as stands
-use Rattle.go_fragment_core.specs.Constants.{folded}
-use Rattle.go_fragment_core.specs.Names.{CodeLooks}
-use Rattle.go_fold_core.specs.Parts.{parts}
-use Rattle.go_means_core.specs.Meaning.{SourceOf}
-use Rattle.go_fit_core.specs.Fitting.{IsGiven}
-use Rattle.go_link_core.specs.Functions.{PlaceModel}
-use Rattle.go_body_core.specs.handle_core.Declarations.{Declaration}
-use Rattle.go_emit_core.specs.graph_core.Workspaces.{AreAllRead, IsWorkspace, PackageModel}
-use Rattle.go_emit_core.specs.part_core.Parts.{PartModel}
-use Rattle.go_laws_core.specs.Standing.{piece_exprs, pieces_of}
+use Rattle.go_ready_core.specs.parse_core.Correct.{HasTree}
+use Rattle.go_clear_core.specs.local_core.Steps.{Piece}
+use Rattle.go_clear_core.specs.denote_core.declared.things.Stand.{Stand}
+use Rattle.go_clear_core.specs.denote_core.declared.things.Stand.TheVariants as stands
+use Rattle.go_clear_core.specs.fragment_core.Constants.{folded}
+use Rattle.go_clear_core.specs.fragment_core.Names.{CodeLooks}
+use Rattle.go_clear_core.specs.fold_core.Parts.{parts}
+use Rattle.go_clear_core.specs.means_core.Meaning.{SourceOf}
+use Rattle.go_clear_core.specs.fit_core.Fitting.{IsGiven}
+use Rattle.go_clear_core.specs.link_core.Functions.{PlaceModel}
+use Rattle.go_func_core.specs.handle_core.Declarations.{Declaration}
+use Rattle.go_ready_core.specs.graph_core.Workspaces.{AreAllRead, IsWorkspace, PackageModel}
+use Rattle.go_snap_core.specs.part_core.Parts.{PartModel}
+use Rattle.go_clear_core.specs.laws_core.Standing.{piece_exprs, pieces_of}
 use Rattle.go_snap_core.specs.whole_core.Inputs.{AreParts}
-use Rattle.go_sources_core.specs.Sources.{sources_of}
+use Rattle.go_clear_core.specs.sources_core.Sources.{sources_of}
 
 -- each integer literal among these terminals has a value, where names come to this
 abbrev pub HaveValues : CodeLooks → List Terminal → Type 0

@@ -5,27 +5,27 @@
 use Rattle.std.specs.Prelude.{◌≡◌, ℕ, List, All, Option, Some, None, Contains, slice_get, slice_index_or}
 use Rattle.go_tree_nodes.specs.Spelling.{IsPlaced}
 use Rattle.go_tree_nodes.specs.Trees.{FileTree, FuncTree}
-use Rattle.go_decl_core.specs.declared.keys.DeclRef.{DeclRef}
-use Rattle.go_local_core.specs.Binding.{Local}
+use Rattle.go_clear_core.specs.decl_core.declared.keys.DeclRef.{DeclRef}
+use Rattle.go_clear_core.specs.local_core.Binding.{Local}
 use Rattle.go_term_core.specs.Terms.{Term, Sign}
-use Rattle.go_operand_core.specs.TypeRules.{TypeRules}
-use Rattle.go_decide_core.specs.Rules.{term_rules}
-use Rattle.go_body_core.specs.env_core.declared.meaning.Meaning.{Meaning as NameMeaning}
-use Rattle.go_body_core.specs.face_core.Faces.{TheFace}
-use Rattle.go_body_core.specs.face_core.Packages.{face_by}
-use Rattle.go_body_core.specs.face_core.declared.face.Face.TheVariants as faces
-use Rattle.go_body_core.specs.handle_core.Declarations.{Declaration}
-use Rattle.go_emit_core.specs.graph_core.Workspaces.{IsWorkspace, PackageModel}
-use Rattle.go_emit_core.specs.ready_core.Packages.{trees_in}
-use Rattle.go_emit_core.specs.summary_core.Summaries.{SummaryModel}
-use Rattle.go_emit_core.specs.summary_core.Views.{types_told}
-use Rattle.go_emit_core.specs.part_core.Inputs.{InputModel, path_in}
-use Rattle.go_emit_core.specs.part_core.Parts.{ContentOf, IsPart, PartModel}
-use Rattle.go_emit_core.specs.Emitted.{told_to}
+use Rattle.go_clear_core.specs.operand_core.TypeRules.{TypeRules}
+use Rattle.go_clear_core.specs.decide_core.Rules.{term_rules}
+use Rattle.go_func_core.specs.env_core.declared.meaning.Meaning.{Meaning as NameMeaning}
+use Rattle.go_func_core.specs.face_core.Faces.{TheFace}
+use Rattle.go_func_core.specs.face_core.Packages.{face_by}
+use Rattle.go_func_core.specs.face_core.declared.face.Face.TheVariants as faces
+use Rattle.go_func_core.specs.handle_core.Declarations.{Declaration}
+use Rattle.go_ready_core.specs.graph_core.Workspaces.{IsWorkspace, PackageModel}
+use Rattle.go_ready_core.specs.Packages.{trees_in}
+use Rattle.go_snap_core.specs.summary_core.Summaries.{SummaryModel}
+use Rattle.go_snap_core.specs.summary_core.Views.{types_told}
+use Rattle.go_snap_core.specs.part_core.Inputs.{InputModel, path_in}
+use Rattle.go_snap_core.specs.part_core.Parts.{ContentOf, IsPart, PartModel}
+use Rattle.go_clear_core.specs.emit_core.Emitted.{told_to}
 use Rattle.go_snap_core.specs.whole_core.Inputs.{AreParts}
-use Rattle.go_laws_core.specs.file_core.Stands.{file_funcs}
-use Rattle.go_laws_core.specs.func_core.Functions.{AreFuncDeclarations}
-use Rattle.go_laws_core.specs.Standing.{looks_among, stand_in_part}
+use Rattle.go_clear_core.specs.file_core.Stands.{file_funcs}
+use Rattle.go_func_core.specs.Functions.{AreFuncDeclarations}
+use Rattle.go_clear_core.specs.laws_core.Standing.{looks_among, stand_in_part}
 use Rattle.go_clear_core.specs.Pieces.{ConstantsAreTyped}
 use Rattle.go_called_core.specs.Constants.{IsValueOver}
 

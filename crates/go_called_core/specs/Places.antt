@@ -3,18 +3,18 @@
 -- docs/RULES.md, "Stack code", "Programs". The Go specification, "Calls", "Packages", "Function declarations".
 use Rattle.std.specs.Prelude.{◌≡◌, ℕ, true, List, Option, Some, Contains, slice_get}
 use Rattle.go_tree_nodes.specs.Trees.{FileTree, FuncTree}
-use Rattle.go_decl_core.specs.TopDecls.{FuncForm, TopDeclTree, top_decls}
-use Rattle.go_decl_core.specs.declared.keys.DeclRef.{DeclRef}
+use Rattle.go_clear_core.specs.decl_core.TopDecls.{FuncForm, TopDeclTree, top_decls}
+use Rattle.go_clear_core.specs.decl_core.declared.keys.DeclRef.{DeclRef}
 use Rattle.go_term_core.specs.declared.term.MemberPlace.TheVariants as places
-use Rattle.go_means_core.specs.Meaning.{SourceOf}
-use Rattle.go_link_core.specs.Functions.{PlaceModel, all_functions, number_of}
-use Rattle.go_body_core.specs.handle_core.Declarations.{Declaration, InFile}
-use Rattle.go_emit_core.specs.ready_core.Packages.{trees_in}
-use Rattle.go_emit_core.specs.part_core.Inputs.{path_in}
-use Rattle.go_emit_core.specs.part_core.Parts.{FileOf, PartModel}
-use Rattle.go_emit_core.specs.Emitted.{are_clean, code_scene_over, objects_of, told_by}
-use Rattle.go_emit_core.specs.meaning_core.Looking.{looks_of}
-use Rattle.go_sources_core.specs.Sources.{source_in, sources_of}
+use Rattle.go_clear_core.specs.means_core.Meaning.{SourceOf}
+use Rattle.go_clear_core.specs.link_core.Functions.{PlaceModel, all_functions, number_of}
+use Rattle.go_func_core.specs.handle_core.Declarations.{Declaration, InFile}
+use Rattle.go_ready_core.specs.Packages.{trees_in}
+use Rattle.go_snap_core.specs.part_core.Inputs.{path_in}
+use Rattle.go_snap_core.specs.part_core.Parts.{FileOf, PartModel}
+use Rattle.go_clear_core.specs.emit_core.Emitted.{are_clean, code_scene_over, objects_of, told_by}
+use Rattle.go_clear_core.specs.meaning_core.Looking.{looks_of}
+use Rattle.go_clear_core.specs.sources_core.Sources.{source_in, sources_of}
 
 -- what is declared outside functions is at the place of its identifier
 abbrev pub IsPlacing : (Declaration → Option PlaceModel) → Type 0

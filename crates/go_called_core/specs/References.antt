@@ -2,27 +2,27 @@
 --
 -- docs/RULES.md, "Stack code", "Names, selectors and calls in expressions". The Go specification, "Calls", "Method sets".
 use Rattle.std.specs.Prelude.{◌≡◌, ℕ, true, List, Contains, Some, slice_get}
-use Rattle.go_text_core.specs.declared.span.Span.{Span}
+use Rattle.go_clear_core.specs.text_core.declared.span.Span.{Span}
 use Rattle.go_tree_nodes.specs.Rules.{Wf_file}
 use Rattle.go_tree_nodes.specs.Spelling.{IsPlaced}
 use Rattle.go_tree_nodes.specs.Trees.{Call, ExprTree, FileTree, FuncTree, ItemTrees}
-use Rattle.go_local_core.specs.Binding.{Local}
-use Rattle.go_local_core.specs.Steps.{Piece}
-use Rattle.go_denote_core.specs.declared.things.Stand.{Stand}
-use Rattle.go_denote_core.specs.declared.things.Stand.TheVariants as stands
-use Rattle.go_expr_core.specs.Denoting.{called_answer}
-use Rattle.go_fold_core.specs.Parts.{parts}
-use Rattle.go_body_core.specs.env_core.declared.meaning.Meaning.{Meaning as NameMeaning}
-use Rattle.go_emit_core.specs.ready_core.Packages.{trees_in}
-use Rattle.go_emit_core.specs.summary_core.Summaries.{SummaryModel}
-use Rattle.go_emit_core.specs.part_core.Inputs.{InputModel, IsInput}
-use Rattle.go_emit_core.specs.part_core.Parts.{ContentOf, FileOf, IsPart}
-use Rattle.go_emit_core.specs.Emitted.{are_clean, body_first, body_uses, code_scene_over, declarations_in}
-use Rattle.go_emit_core.specs.Laws.{declaration_of}
-use Rattle.go_emit_core.specs.meaning_core.Looking.{looks_of}
-use Rattle.go_laws_core.specs.file_core.Stands.{file_funcs}
-use Rattle.go_laws_core.specs.func_core.Functions.{AreFuncDeclarations}
-use Rattle.go_laws_core.specs.Standing.{looks_among, piece_exprs, pieces_of, stand_in_part}
+use Rattle.go_clear_core.specs.local_core.Binding.{Local}
+use Rattle.go_clear_core.specs.local_core.Steps.{Piece}
+use Rattle.go_clear_core.specs.denote_core.declared.things.Stand.{Stand}
+use Rattle.go_clear_core.specs.denote_core.declared.things.Stand.TheVariants as stands
+use Rattle.go_clear_core.specs.expr_core.Denoting.{called_answer}
+use Rattle.go_clear_core.specs.fold_core.Parts.{parts}
+use Rattle.go_func_core.specs.env_core.declared.meaning.Meaning.{Meaning as NameMeaning}
+use Rattle.go_ready_core.specs.Packages.{trees_in}
+use Rattle.go_snap_core.specs.summary_core.Summaries.{SummaryModel}
+use Rattle.go_snap_core.specs.part_core.Inputs.{InputModel, IsInput}
+use Rattle.go_snap_core.specs.part_core.Parts.{ContentOf, FileOf, IsPart}
+use Rattle.go_clear_core.specs.emit_core.Emitted.{are_clean, body_first, body_uses, code_scene_over, declarations_in}
+use Rattle.go_clear_core.specs.emit_core.Laws.{declaration_of}
+use Rattle.go_clear_core.specs.meaning_core.Looking.{looks_of}
+use Rattle.go_clear_core.specs.file_core.Stands.{file_funcs}
+use Rattle.go_func_core.specs.Functions.{AreFuncDeclarations}
+use Rattle.go_clear_core.specs.laws_core.Standing.{looks_among, piece_exprs, pieces_of, stand_in_part}
 
 -- where nothing is reported of a package, the reference of each call in the pieces of its functions, whatever packages tell, is what the check says that is
 -- called

@@ -2,18 +2,18 @@
 --
 -- docs/RULES.md, "Package and file blocks", "Programs". The Go specification, "Package initialization", "Program execution".
 use Rattle.std.specs.Prelude.{◌≡◌, ℕ, true, List, [], Option, Some, Contains, slice_get}
-use Rattle.go_fragment_core.specs.declared.names.Gives.TheVariants as gives
-use Rattle.go_fragment_core.specs.Inside.{in_fragment}
-use Rattle.go_code_core.specs.Code.{frame_in}
-use Rattle.go_means_core.specs.Meaning.{SourceOf}
-use Rattle.go_meant_core.specs.Laws.{RunsAsMeant}
-use Rattle.go_fit_core.specs.Fitting.{IsDeclared}
-use Rattle.go_link_core.specs.Functions.{PlaceModel}
-use Rattle.go_link_core.specs.Linked.{IsBegun, IsRunnable, RunnableOf, program_of}
-use Rattle.go_body_core.specs.handle_core.Declarations.{Declaration}
-use Rattle.go_emit_core.specs.part_core.Parts.{PartModel}
-use Rattle.go_emit_core.specs.Emitted.{objects_of}
-use Rattle.go_sources_core.specs.Sources.{sources_of}
+use Rattle.go_clear_core.specs.fragment_core.declared.names.Gives.TheVariants as gives
+use Rattle.go_clear_core.specs.fragment_core.Inside.{in_fragment}
+use Rattle.go_clear_core.specs.code_core.Code.{frame_in}
+use Rattle.go_clear_core.specs.means_core.Meaning.{SourceOf}
+use Rattle.go_clear_core.specs.meant_core.Laws.{RunsAsMeant}
+use Rattle.go_clear_core.specs.fit_core.Fitting.{IsDeclared}
+use Rattle.go_clear_core.specs.link_core.Functions.{PlaceModel}
+use Rattle.go_clear_core.specs.link_core.Linked.{IsBegun, IsRunnable, RunnableOf, program_of}
+use Rattle.go_func_core.specs.handle_core.Declarations.{Declaration}
+use Rattle.go_snap_core.specs.part_core.Parts.{PartModel}
+use Rattle.go_clear_core.specs.emit_core.Emitted.{objects_of}
+use Rattle.go_clear_core.specs.sources_core.Sources.{sources_of}
 use Rattle.go_clear_core.specs.Laws.{IsOfGrammar}
 use Rattle.go_clear_core.specs.RunLaws.{IsTypedBody}
 

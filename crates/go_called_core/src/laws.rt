@@ -7,11 +7,13 @@ ghost use Rattle.go_called_core.specs.Places.{ReferencesLeadToTheirs};
 ghost use Rattle.go_called_core.specs.References.{CallsReferToTheirs};
 ghost use Rattle.go_called_core.specs.Starts.{StartsTakeNothing, TypedObjectsRun};
 
+use go_clear_core::emit_core::{
+    bodies_are_between_braces, calls_name_their_own, objects_are_of_faultless,
+};
+use go_clear_core::file_core::functions_are_placed;
+use go_clear_core::laws_core::parts_are_fit;
 use go_clear_core::{objects_run_as_typed, pieces_are_clear};
-use go_emit_core::{bodies_are_between_braces, calls_name_their_own, objects_are_of_faultless};
-use go_laws_core::file_core::functions_are_placed;
-use go_laws_core::func_core::{functions_have_one_table, locals_are_declarations};
-use go_laws_core::parts_are_fit;
+use go_func_core::{functions_have_one_table, locals_are_declarations};
 use go_snap_core::whole_core::{check_is_local, imports_bind_theirs};
 
 /// Each integer literal of the tree of a text has a value in code, whatever names come to: so it is in each source of the objects of parts whose files are

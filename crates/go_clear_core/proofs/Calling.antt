@@ -1,6 +1,5 @@
 -- Conversions and calls that break no rule have the arguments that they take.
 use Rattle.std.proofs.Common.{◌≡◌, inl, inr, ℕ, suc, Bool, true, false, ◌&&◌, List, [], ◌∷◌, ◌++◌, length, map, Option, Some, None, Ok, Err, refl, sym, ap, ap₂, ◌∙◌, subst, arith, nat_eq, ◌==◌, if◌then◌else◌}
-use Rattle.std.specs.Prelude.{⊤}
 use Rattle.std.proofs.lemmas.Bool.{eqb-true}
 use Rattle.go_text_core.specs.declared.rule.Rule.TheVariants.{C2, C3, C4, X1}
 use Rattle.go_text_core.specs.declared.span.Span.{Span}
@@ -40,7 +39,7 @@ use Rattle.go_fold_core.specs.Parts.{parts}
 use Rattle.go_fold_core.specs.Laws.{HasDeclaration, IsMeant}
 use Rattle.go_fold_core.specs.Typed.{IsTyped}
 use Rattle.go_fold_core.proofs.Calls.{IsCalleeMeant, other_callee, name_callee, selector_callee}
-use Rattle.go_fold_core.proofs.Folding.{expressions_typed, names_read}
+use Rattle.go_fold_core.proofs.Folding.{expressions_typed}
 use Rattle.go_fold_core.proofs.Inside.{IsFine, ItemsAreFine, each_right, fine, fine_callee, fine_arguments, fine_inside}
 use Rattle.go_laws_core.proofs.ConstantLists.{contained}
 use Rattle.go_clear_core.specs.Statements.{AreAlike, AreOverEach, ConversionsKeepWords, ArgumentsAreOverParameters}
@@ -72,19 +71,19 @@ module _ {T S D P : Type 0} (looks : Looks T S D P) (code : code_names.CodeLooks
 
   -- what is called
 
-  callee_meant : (e : ExprTree) → Fine stands.Callee e → IsCalleeMeant looks ⊤ (denoted looks stands.Callee e) (callee_meaning code e)
-  callee_meant (Named x) h = name_callee looks mean ⊤ (code.meaning x.span.start) (names_read looks mean alike.read) (λ s. alike.read) x.name x.span.start h.meant.0.meaning
+  callee_meant : (e : ExprTree) → Fine stands.Callee e → IsCalleeMeant looks ⊥ (denoted looks stands.Callee e) (callee_meaning code e)
+  callee_meant (Named x) h = name_callee looks mean ⊥ (code.meaning x.span.start) alike.read.all x.name x.span.start h.meant.0.meaning
   callee_meant (Select e dot x) h =
-      selector_callee looks mean ⊤ (code.meaning x.span.start) (names_read looks mean alike.read) (λ s. alike.read) x.name x.span.start _
+      selector_callee looks mean ⊥ (code.meaning x.span.start) alike.read.all x.name x.span.start _ (λ never. absurd never)
       (each_right (λ s. IsMeant D P code mean (use_of looks s)) (spots looks (left_place stands.Callee e) e) _ h.meant).0.meaning
   callee_meant (Paren first e last) h = callee_meant e (record { meant = h.meant; sound = h.sound })
-  callee_meant (Integer n span) h = other_callee looks ⊤ (denoted looks stands.Callee (Integer n span))
-  callee_meant (Text t) h = other_callee looks ⊤ (denoted looks stands.Callee (Text t))
-  callee_meant (Unary op span e) h = other_callee looks ⊤ (denoted looks stands.Callee (Unary op span e))
-  callee_meant (Binary a op span b) h = other_callee looks ⊤ (denoted looks stands.Callee (Binary a op span b))
-  callee_meant (Call e first items last) h = other_callee looks ⊤ (denoted looks stands.Callee (Call e first items last))
-  callee_meant (Literal n first items last) h = other_callee looks ⊤ (denoted looks stands.Callee (Literal n first items last))
-  callee_meant (StructLiteral t first items last) h = other_callee looks ⊤ (denoted looks stands.Callee (StructLiteral t first items last))
+  callee_meant (Integer n span) h = other_callee looks ⊥ (denoted looks stands.Callee (Integer n span))
+  callee_meant (Text t) h = other_callee looks ⊥ (denoted looks stands.Callee (Text t))
+  callee_meant (Unary op span e) h = other_callee looks ⊥ (denoted looks stands.Callee (Unary op span e))
+  callee_meant (Binary a op span b) h = other_callee looks ⊥ (denoted looks stands.Callee (Binary a op span b))
+  callee_meant (Call e first items last) h = other_callee looks ⊥ (denoted looks stands.Callee (Call e first items last))
+  callee_meant (Literal n first items last) h = other_callee looks ⊥ (denoted looks stands.Callee (Literal n first items last))
+  callee_meant (StructLiteral t first items last) h = other_callee looks ⊥ (denoted looks stands.Callee (StructLiteral t first items last))
 
   -- what a call has, by the operands that are its arguments
   abbrev HasCall : ℕ → Denoted T S D → Bool → List (Argument T) → Type 0
@@ -164,7 +163,7 @@ module _ {T S D P : Type 0} (looks : Looks T S D P) (code : code_names.CodeLooks
   convertible_over types.UntypedBool t u c hv ht h = absurd (cc h)
   convertible_over types.Nil t u c hv ht h = absurd (cc h)
 
-  converts : (c : Denoted T S D) (n : ℕ) (o : Operand T) (v u : Word) → IsCalleeMeant looks ⊤ c (meanings.«Type» u) → Over o.value_type v → HasCall n c false (arguments.«Value» o ∷ []) → v ≡ u
+  converts : (c : Denoted T S D) (n : ℕ) (o : Operand T) (v u : Word) → IsCalleeMeant looks ⊥ c (meanings.«Type» u) → Over o.value_type v → HasCall n c false (arguments.«Value» o ∷ []) → v ≡ u
   converts (denotes.«Type» d None) n o v u meant over has_it = absurd meant
   converts (denotes.«Type» d (Some t)) n o v u meant over has_it =
       or_cases (assignable looks.types o.value_type t) (conversions.convertible looks.types o.value_type t)
@@ -181,7 +180,7 @@ module _ {T S D P : Type 0} (looks : Looks T S D P) (code : code_names.CodeLooks
   converts (denotes.Several s) n o v u meant over has_it = absurd has_it
   converts denotes.Nothing n o v u meant over has_it = absurd has_it
 
-  alone : (f : ExprTree) (n : ℕ) (os : List (Operand T)) (ws : List Word) (u : Word) → length os ≡ 1 → EachOver os ws → IsCalleeMeant looks ⊤ (denoted looks stands.Callee f) (meanings.«Type» u) → HasCall n (denoted looks stands.Callee f) false (values os) → ws ≡ u ∷ []
+  alone : (f : ExprTree) (n : ℕ) (os : List (Operand T)) (ws : List Word) (u : Word) → length os ≡ 1 → EachOver os ws → IsCalleeMeant looks ⊥ (denoted looks stands.Callee f) (meanings.«Type» u) → HasCall n (denoted looks stands.Callee f) false (values os) → ws ≡ u ∷ []
   alone f n [] ws u one over meant has_it = absurd (omega (arith, one))
   alone f n (o ∷ []) [] u one over meant has_it = absurd over
   alone f n (o ∷ []) (w ∷ []) u one over meant has_it = ap (λ v. v ∷ []) (converts (denoted looks stands.Callee f) n o w u meant over.0 has_it)
@@ -212,7 +211,7 @@ module _ {T S D P : Type 0} (looks : Looks T S D P) (code : code_names.CodeLooks
       let count : nat_eq (item_count items) 1 ≡ true = one_argument (nat_eq (item_count items) 1) u w (subst (λ m. call_gives m (item_count items) ≡ gives.One w) is gave) in
       let a = are_operands items (fine_arguments looks code mean q f first items last h) ones in
       alone f first.start a.operands (letters frame items) u (many items a ∙ eqb-true (item_count items) 1 count) a.over
-      (subst (λ m. IsCalleeMeant looks ⊤ (denoted looks stands.Callee f) m) is (callee_meant f (fine_callee looks code mean q f first items last h))) (judged q f first items last h a)
+      (subst (λ m. IsCalleeMeant looks ⊥ (denoted looks stands.Callee f) m) is (callee_meant f (fine_callee looks code mean q f first items last h))) (judged q f first items last h a)
 
   -- arguments
 

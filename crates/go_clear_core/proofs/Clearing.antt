@@ -15,6 +15,7 @@ use Rattle.go_piece_core.specs.Pieces.{piece_faults, piece_uses}
 use Rattle.go_lookup_core.specs.Looking.{meaning_or_other}
 use Rattle.go_fold_core.specs.Laws.{AreMeant, HasDeclaration}
 use Rattle.go_fold_core.specs.Reading.{AreRead}
+use Rattle.go_fold_core.proofs.Folding.{read_over}
 use Rattle.go_fold_core.proofs.Inside.{none_left}
 use Rattle.go_body_core.specs.Body.{BodyOf}
 use Rattle.go_body_core.specs.Notes.{NoteOf, TheLocal, TheUse, noted_faults}
@@ -129,7 +130,7 @@ module _ (fine : ObjectsAreOfFaultless) (one : FunctionsHaveOneTable) (of_locals
       noted_piece.firsts,
       record {
         alike = record {
-          read = read;
+          read = read_over looks (meaning_in i c n f) read;
           typed = are_typed of_locals i c n t f file rises g g_there placed all right read constants;
           keep = types_keep_basics.keep (types_told (told_to i c)) (path_in i);
           identity = types_keep_basics.identity (types_told (told_to i c)) (path_in i);

@@ -10,7 +10,6 @@ use Rattle.go_tree_nodes.specs.Trees.{FileTree, FuncTree}
 use Rattle.go_local_core.specs.Binding.{Local, bound}
 use Rattle.go_local_core.specs.Tables.{IsFuncPlaced}
 use Rattle.go_term_core.specs.Terms.{Term, Sign}
-use Rattle.go_term_core.specs.declared.term.Basic.{Basic}
 use Rattle.go_term_core.specs.declared.term.Basic.TheVariants as basics
 use Rattle.go_term_core.specs.declared.term.MemberPlace.TheVariants as places
 use Rattle.go_constant_core.specs.declared.values.Constant.{Constant}

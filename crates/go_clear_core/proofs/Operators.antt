@@ -20,7 +20,7 @@ use Rattle.go_operand_core.specs.declared.types.ValueType.TheVariants as types
 use Rattle.go_operand_core.specs.declared.types.Operand.{Operand}
 use Rattle.go_operand_core.specs.TypeRules.{TypeRules}
 use Rattle.go_operand_core.specs.Values.{is_over, basic_under, basic_type}
-use Rattle.go_operand_core.specs.Assign.{untyped_assignable, assignable, common, comparable}
+use Rattle.go_operand_core.specs.Assign.{untyped_assignable, common, comparable}
 use Rattle.go_operand_core.specs.Operators as binaries
 use Rattle.go_operand_core.specs.Prefixes as unaries
 use Rattle.go_denote_core.specs.declared.things.Denoted.TheVariants as denotes
@@ -32,7 +32,7 @@ use Rattle.go_expr_core.specs.Looks.{Looks}
 use Rattle.go_expr_core.specs.Places.{under_place, is_literal}
 use Rattle.go_expr_core.specs.Denoting.{denoted}
 use Rattle.go_expr_core.specs.Uses.{use_of, uses, spots}
-use Rattle.go_fold_core.specs.Reading.{basic_of, AreRead}
+use Rattle.go_fold_core.specs.Reading.{basic_of, AreReadOver}
 use Rattle.go_fold_core.specs.Parts.{parts}
 use Rattle.go_fold_core.specs.Laws.{IsMeant, AreMeant}
 use Rattle.go_fold_core.specs.Typed.{AreTyped, KeepBasics, IsTyped, ExpressionsAreTyped}
@@ -190,7 +190,7 @@ mapped_has P f (x ∷ xs) u all (inr h) = mapped_has P f xs u all.1 h
 pub meant_of : {T S D P : Type 0} (looks : Looks T S D P) (code : code_names.CodeLooks) (mean : Outcome D P → Meaning) (q : Stand) (x : ExprTree) → IsFine T S D P looks code mean q x → AreMeant code mean (uses looks q x)
 meant_of {T} {S} {D} {P} looks code mean q x h u c = mapped_has (IsMeant D P code mean) (use_of looks) (spots looks q x) u h.meant (has (map (use_of looks) (spots looks q x)) u c)
 
-module _ {T S D P : Type 0} (law : ExpressionsAreTyped T S D P) (looks : Looks T S D P) (code : code_names.CodeLooks) (mean : Outcome D P → Meaning) (slots : List (Option ℕ)) (read : AreRead T S D P looks mean) (typed : AreTyped T S D P looks mean) (keep : KeepBasics looks.types)
+module _ {T S D P : Type 0} (law : ExpressionsAreTyped T S D P) (looks : Looks T S D P) (code : code_names.CodeLooks) (mean : Outcome D P → Meaning) (slots : List (Option ℕ)) (read : AreReadOver T S D P looks mean) (typed : AreTyped T S D P looks mean) (keep : KeepBasics looks.types)
     (identity : KeepIdentity looks.types) where
   abbrev Fine : Stand → ExprTree → Type 0
   Fine p e = IsFine T S D P looks code mean p e

@@ -17,7 +17,7 @@ use Rattle.go_denote_core.specs.declared.things.Outcome.{Outcome}
 use Rattle.go_expr_core.specs.Looks.{Looks}
 use Rattle.go_expr_core.specs.Uses.{uses}
 use Rattle.go_expr_core.specs.Faults.{faults}
-use Rattle.go_fold_core.specs.Reading.{AreRead}
+use Rattle.go_fold_core.specs.Reading.{AreReadOver}
 use Rattle.go_fold_core.specs.Parts.{parts}
 use Rattle.go_fold_core.specs.Laws.{AreMeant}
 use Rattle.go_fold_core.specs.Typed.{AreTyped, KeepBasics}
@@ -44,6 +44,6 @@ KeepIdentity {T} rules = (s t : T) → rules.identical s t ≡ true → form_bas
 -- operands give
 abbrev pub OperatorsFit : (T S D P : Type 0) → Type 0
 OperatorsFit T S D P = (looks : Looks T S D P) (code : code_names.CodeLooks) (mean : Outcome D P → Meaning) (slots : List (Option ℕ)) (p : Stand) (e : ExprTree)
-    → AreRead T S D P looks mean → AreTyped T S D P looks mean → KeepBasics looks.types → KeepIdentity looks.types → AreMeant code mean (uses looks p e) → faults looks p e ≡ []
+    → AreReadOver T S D P looks mean → AreTyped T S D P looks mean → KeepBasics looks.types → KeepIdentity looks.types → AreMeant code mean (uses looks p e) → faults looks p e ≡ []
     → (q : Stand) (x : ExprTree) → Contains (parts p e) (q, x) → (w : Word) → expr_gives (frame_of code slots) x ≡ gives.One w
     → OperatorFits (frame_of code slots) x

@@ -35,7 +35,7 @@ use Rattle.go_expr_core.specs.Denoting.{denoted, written_type}
 use Rattle.go_expr_core.specs.Uses.{uses}
 use Rattle.go_expr_core.specs.Faults.{faults}
 use Rattle.go_piece_core.specs.Pieces.{piece_uses, piece_faults, piece_values}
-use Rattle.go_fold_core.specs.Reading.{AreRead, IsOver, IsOneOver, basic_of}
+use Rattle.go_fold_core.specs.Reading.{AreReadOver, IsOver, IsOneOver, basic_of}
 use Rattle.go_fold_core.specs.Parts.{parts}
 use Rattle.go_fold_core.specs.Laws.{AreMeant}
 use Rattle.go_fold_core.specs.Typed.{AreTyped, KeepBasics}
@@ -43,7 +43,7 @@ use Rattle.go_clear_core.specs.Operators.{KeepIdentity}
 
 -- names are in code what they are to the check, and over what their types are over
 pub record AreAlike (T S D P : Type 0) (looks : Looks T S D P) (mean : Outcome D P → Meaning) : Type 0 where
-  pub read : AreRead T S D P looks mean
+  pub read : AreReadOver T S D P looks mean
   pub typed : AreTyped T S D P looks mean
   pub keep : KeepBasics looks.types
   pub identity : KeepIdentity looks.types

@@ -2,37 +2,37 @@
 use Rattle.std.proofs.Common.{◌≡◌, ℕ, zero, suc, ◌⊎◌, inl, inr, List, [], ◌∷◌, ◌++◌, All, refl, sym, ap, subst, ◌∙◌}
 use Rattle.std.specs.Prelude.{Option, Some, None, AllPairs, Contains, slice_get}
 use Rattle.std.proofs.lemmas.List.Kept.{AllPairs-cons}
-use Rattle.go_decl_core.specs.declared.keys.DeclRef.{DeclRef}
-use Rattle.govisd_core.specs.graph_core.Plans.{PlanModel, IsPlan}
-use Rattle.govisd_core.specs.graph_core.PlanLaws.{has_plan}
-use Rattle.govisd_core.specs.graph_core.Workspaces.{PackageModel, IsWorkspace}
-use Rattle.go_snap_core.specs.entry_core.Among.{Among, among_cases, among_from, among_left, among_map, among_right, among_to}
-use Rattle.go_snap_core.specs.whole_core.Known.{KnownAlike}
-use Rattle.go_snap_core.specs.whole_core.LocalLaws.{CheckIsLocal, ImportsBindTheirs}
-use Rattle.govisd_core.specs.ready_core.Packages.{trees_in}
-use Rattle.govisd_core.specs.summary_core.Summaries.{SummaryModel, IsOfOne, path_of}
-use Rattle.govisd_core.specs.summary_core.Views.{PathsAreApart, faces_told, types_told}
-use Rattle.go_snap_core.specs.part_core.Inputs.{InputModel, path_in}
-use Rattle.go_snap_core.specs.part_core.Parts.{ContentOf, FileOf, PartModel}
-use Rattle.go_snap_core.specs.whole_core.Inputs.{AreParts, Tells}
-use Rattle.go_snap_core.specs.whole_core.mirrors.Steps.{AreRight}
-use Rattle.go_snap_core.specs.whole_core.Lists.{all_from_among, among_all, pairs_head, pairs_tail}
-use Rattle.go_snap_core.specs.whole_core.Told.{AreWell, NoneIsOf, known_alike, known_by}
-use Rattle.go_snap_core.specs.whole_core.Parts.{all_inside, none_reached, of_one, path_told, reach_paths, told_by, well_reached}
-use Rattle.go_snap_core.specs.whole_core.PartsWhole.{all_right}
-use Rattle.go_snap_core.specs.meaning_core.Scenes.{methods_spotted, package_decl_refs}
-use Rattle.go_lookup_core.specs.Places.{spotted_meaning, decl_spot}
-use Rattle.go_snap_core.specs.emit_core.Emitted.{code_scene_over, told_to}
-use Rattle.go_snap_core.specs.emit_core.Emitted as emitted
-use Rattle.go_laws_core.proofs.Methods.{told_methods}
+use Rattle.go_called_core.specs.decl_core.declared.keys.DeclRef.{DeclRef}
+use Rattle.go_typed_core.specs.graph_core.Plans.{PlanModel, IsPlan}
+use Rattle.go_typed_core.specs.graph_core.PlanLaws.{has_plan}
+use Rattle.go_typed_core.specs.graph_core.Workspaces.{PackageModel, IsWorkspace}
+use Rattle.go_typed_core.specs.entry_core.Among.{Among, among_cases, among_from, among_left, among_map, among_right, among_to}
+use Rattle.go_typed_core.specs.whole_core.Known.{KnownAlike}
+use Rattle.go_typed_core.specs.whole_core.LocalLaws.{CheckIsLocal, ImportsBindTheirs}
+use Rattle.go_called_core.specs.ready_core.Packages.{trees_in}
+use Rattle.go_typed_core.specs.summary_core.Summaries.{SummaryModel, IsOfOne, path_of}
+use Rattle.go_typed_core.specs.summary_core.Views.{PathsAreApart, faces_told, types_told}
+use Rattle.go_typed_core.specs.part_core.Inputs.{InputModel, path_in}
+use Rattle.go_typed_core.specs.part_core.Parts.{ContentOf, FileOf, PartModel}
+use Rattle.go_typed_core.specs.whole_core.Inputs.{AreParts, Tells}
+use Rattle.go_typed_core.specs.whole_core.mirrors.Steps.{AreRight}
+use Rattle.go_typed_core.specs.whole_core.Lists.{all_from_among, among_all, pairs_head, pairs_tail}
+use Rattle.go_typed_core.specs.whole_core.Told.{AreWell, NoneIsOf, known_alike, known_by}
+use Rattle.go_typed_core.specs.whole_core.Parts.{all_inside, none_reached, of_one, path_told, reach_paths, told_by, well_reached}
+use Rattle.go_typed_core.specs.whole_core.PartsWhole.{all_right}
+use Rattle.go_typed_core.specs.meaning_core.Scenes.{methods_spotted, package_decl_refs}
+use Rattle.go_typed_core.specs.lookup_core.Places.{spotted_meaning, decl_spot}
+use Rattle.go_called_core.specs.emit_core.Emitted.{code_scene_over, told_to}
+use Rattle.go_called_core.specs.emit_core.Emitted as emitted
+use Rattle.go_called_core.specs.laws_core.Methods.{told_methods}
 use Rattle.go_faultless_core.proofs.Scenes.{looks_same, methods_same}
-use Rattle.go_laws_core.proofs.Wider.{IsToldIn}
-use Rattle.go_laws_core.proofs.Parts.{IsFileIn, IsPartIn, IsToldOf, all_in, faces_told_in, reached_in}
-use Rattle.govisd_core.specs.statement_core.Locality.{Each}
-use Rattle.go_snap_core.specs.part_core.Slots.{somes}
-use Rattle.go_fragment_core.specs.Names.{CodeLooks}
-use Rattle.go_snap_core.specs.meaning_core.Looking.{looks_of}
-use Rattle.go_snap_core.proofs.Apart.{parts_apart}
+use Rattle.go_called_core.specs.laws_core.Wider.{IsToldIn}
+use Rattle.go_called_core.specs.laws_core.Parts.{IsFileIn, IsPartIn, IsToldOf, all_in, faces_told_in, reached_in}
+use Rattle.go_called_core.specs.statement_core.Locality.{Each}
+use Rattle.go_typed_core.specs.part_core.Slots.{somes}
+use Rattle.go_called_core.specs.fragment_core.Names.{CodeLooks}
+use Rattle.go_typed_core.specs.meaning_core.Looking.{looks_of}
+use Rattle.go_called_core.specs.snap_core.Apart.{parts_apart}
 use Rattle.go_faultless_core.specs.Parts.{PartsAreSeenAlike}
 
 -- one more behind others that are apart from it
@@ -78,7 +78,7 @@ module _ (local : CheckIsLocal) (bind : ImportsBindTheirs) (ps : List PackageMod
   own_path : path_of own ≡ path_in i
   own_path = path_told ps parts well right n own tells
 
-  well_one : AreWell one
+  pub well_one : AreWell one
   well_one =
       let reached = well_reached ps parts well right n i (right n part there).input in
       record {

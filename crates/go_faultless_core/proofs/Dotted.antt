@@ -3,33 +3,33 @@ use Rattle.std.proofs.Common.{◌≡◌, ℕ, zero, suc, Bool, true, false, List
 use Rattle.std.specs.Prelude.{Option, Some, None, is_some, slice_get}
 use Rattle.std.specs.Str.{bytes_eq, chars}
 use Rattle.std.proofs.lemmas.Slice.Eq.{bytes_eq-Decides}
-use Rattle.go_text_core.specs.Text.{exported, is_blank}
+use Rattle.go_called_core.specs.text_core.Text.{exported, is_blank}
 use Rattle.go_tree_nodes.specs.Trees.{ImportSpecTree}
-use Rattle.go_decl_core.specs.declared.keys.DeclKey.{DeclKey}
-use Rattle.go_decl_core.specs.declared.keys.DeclRef.{DeclRef}
-use Rattle.go_graph_core.specs.declared.imports.ImportAt.{ImportAt}
-use Rattle.go_graph_core.specs.Lists.{AllNumbered}
-use Rattle.go_graph_core.specs.Packages.{Trees}
-use Rattle.go_block_core.specs.declared.binding.Binding.{Binding}
-use Rattle.go_block_core.specs.declared.binding.Target.{Target}
-use Rattle.go_block_core.specs.declared.binding.Target.TheVariants as targets
-use Rattle.go_block_core.specs.declared.imports.Imported.{Imported}
-use Rattle.go_block_core.specs.declared.imports.Imported.TheVariants as given
-use Rattle.go_block_core.specs.declared.imports.ImportForm.{ImportForm}
-use Rattle.go_block_core.specs.declared.imports.ImportForm.TheVariants as forms
-use Rattle.go_block_core.specs.declared.imports.NamedImport.{NamedImport}
-use Rattle.go_block_core.specs.Bindings.{Bound, bound_as, bound_if, dot_bound, exported_bound, file_bound, form_bound, import_bound, import_target}
-use Rattle.go_block_core.specs.Blocks.{AreBlocks, BlocksModel, file_binding}
-use Rattle.go_block_core.specs.Declarations.{PackageDeclaration, is_bindable}
-use Rattle.go_block_core.specs.Exports.{ExportsModel, exported_names}
-use Rattle.go_block_core.specs.Holding.{declared_block, file_block, with_declared}
-use Rattle.go_block_core.specs.Laws.{HasBinding}
-use Rattle.go_block_core.specs.Naming.{AreInFile, AreInPackage, file_named, file_specs, import_at, package_named, specs_named}
-use Rattle.go_block_core.specs.Tables.{in_block, with_first}
-use Rattle.go_block_core.proofs.BindingLemmas.{imports_list}
-use Rattle.go_block_core.proofs.HoldingLaws.{file_answers, file_holds}
-use Rattle.go_snap_core.specs.entry_core.Among.{Among, among_cases, among_flat, among_map, among_right}
-use Rattle.go_ready_core.proofs.Lists.{mapped_at}
+use Rattle.go_called_core.specs.decl_core.declared.keys.DeclKey.{DeclKey}
+use Rattle.go_called_core.specs.decl_core.declared.keys.DeclRef.{DeclRef}
+use Rattle.go_typed_core.specs.graph_core.declared.imports.ImportAt.{ImportAt}
+use Rattle.go_typed_core.specs.graph_core.Lists.{AllNumbered}
+use Rattle.go_typed_core.specs.graph_core.Packages.{Trees}
+use Rattle.go_called_core.specs.block_core.declared.binding.Binding.{Binding}
+use Rattle.go_called_core.specs.block_core.declared.binding.Target.{Target}
+use Rattle.go_called_core.specs.block_core.declared.binding.Target.TheVariants as targets
+use Rattle.go_called_core.specs.block_core.declared.imports.Imported.{Imported}
+use Rattle.go_called_core.specs.block_core.declared.imports.Imported.TheVariants as given
+use Rattle.go_called_core.specs.block_core.declared.imports.ImportForm.{ImportForm}
+use Rattle.go_called_core.specs.block_core.declared.imports.ImportForm.TheVariants as forms
+use Rattle.go_called_core.specs.block_core.declared.imports.NamedImport.{NamedImport}
+use Rattle.go_called_core.specs.block_core.Bindings.{Bound, bound_as, bound_if, dot_bound, exported_bound, file_bound, form_bound, import_bound, import_target}
+use Rattle.go_called_core.specs.block_core.Blocks.{AreBlocks, BlocksModel, file_binding}
+use Rattle.go_called_core.specs.block_core.Declarations.{PackageDeclaration, is_bindable}
+use Rattle.go_called_core.specs.block_core.Exports.{ExportsModel, exported_names}
+use Rattle.go_called_core.specs.block_core.Holding.{declared_block, file_block, with_declared}
+use Rattle.go_called_core.specs.block_core.Laws.{HasBinding}
+use Rattle.go_called_core.specs.block_core.Naming.{AreInFile, AreInPackage, file_named, file_specs, import_at, package_named, specs_named}
+use Rattle.go_called_core.specs.block_core.Tables.{in_block, with_first}
+use Rattle.go_called_core.specs.block_core.BindingLemmas.{imports_list}
+use Rattle.go_called_core.specs.block_core.HoldingLaws.{file_answers, file_holds}
+use Rattle.go_typed_core.specs.entry_core.Among.{Among, among_cases, among_flat, among_map, among_right}
+use Rattle.go_called_core.specs.ready_core.Lists.{mapped_at}
 
 -- a name of a block is bound to the one declaration that the block has under it
 

@@ -2,6 +2,9 @@ pub mod Scenes
 pub mod Alike
 pub mod Dotted
 pub mod Shows
+pub mod Selected
+pub mod Methods
+pub mod Signs
 pub mod Served
 pub mod Calls
 pub mod Reaching

@@ -6,15 +6,15 @@ use Rattle.std.proofs.lemmas.Option.{slice_get-map}
 use Rattle.go_cycle_core.specs.declared.edge.Edge.{Edge}
 use Rattle.go_cycle_core.specs.Cycle.{Leads, Reaches}
 use Rattle.go_machine_core.specs.Programs.{LinkedOf}
-use Rattle.go_instruction_core.specs.declared.instruction.Instruction.TheVariants as instructions
-use Rattle.go_fragment_core.specs.Inside.{in_fragment}
-use Rattle.go_code_core.specs.Code.{body_code, frame_in}
-use Rattle.go_link_core.specs.Reaching.{edge, edge_if, edges_from, call_edges, is_outside, ReachesOutside}
-use Rattle.go_link_core.specs.Linked.{ProgramOf, RunnableOf}
-use Rattle.go_means_core.specs.Meaning.{SourceOf}
-use Rattle.go_means_core.specs.Whole.{linked_source, code_of_program}
-use Rattle.go_meant_core.specs.Laws.{ProgramsRunAsMeant, RunsAsMeant}
-use Rattle.go_fit_core.specs.Laws.{IsReached, Begins, IsCalled, FittingMeansSomething}
+use Rattle.go_typed_core.specs.instruction_core.declared.instruction.Instruction.TheVariants as instructions
+use Rattle.go_called_core.specs.fragment_core.Inside.{in_fragment}
+use Rattle.go_called_core.specs.code_core.Code.{body_code, frame_in}
+use Rattle.go_called_core.specs.link_core.Reaching.{edge, edge_if, edges_from, call_edges, is_outside, ReachesOutside}
+use Rattle.go_called_core.specs.link_core.Linked.{ProgramOf, RunnableOf}
+use Rattle.go_called_core.specs.means_core.Meaning.{SourceOf}
+use Rattle.go_called_core.specs.means_core.Whole.{linked_source, code_of_program}
+use Rattle.go_called_core.specs.meant_core.Laws.{ProgramsRunAsMeant, RunsAsMeant}
+use Rattle.go_called_core.specs.fit_core.Laws.{IsReached, Begins, IsCalled, FittingMeansSomething}
 use Rattle.go_faultless_core.specs.Runs.{FitsWhereReached, ReachedProgramsRun}
 
 -- items of lists

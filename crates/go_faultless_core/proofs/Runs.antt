@@ -3,35 +3,35 @@ use Rattle.std.proofs.Common.{◌≡◌, ℕ, true, List, Option, Some, Contains
 use Rattle.std.specs.Prelude.{slice_get}
 use Rattle.go_tree_nodes.specs.Rules.{Wf_file}
 use Rattle.go_tree_nodes.specs.Spelling.{IsPlaced}
-use Rattle.go_local_core.specs.Binding.{Local}
-use Rattle.go_env_core.specs.declared.meaning.Meaning.{Meaning as NameMeaning}
-use Rattle.go_file_core.specs.Laws.{FunctionsArePlaced}
-use Rattle.go_file_core.specs.Stands.{file_funcs}
-use Rattle.go_func_core.specs.Functions.{walked_func}
-use Rattle.go_func_core.specs.Laws.{FunctionsHaveOneTable}
-use Rattle.go_graph_core.specs.Workspaces.{IsWorkspace, PackageModel}
-use Rattle.go_ready_core.specs.Packages.{trees_in}
-use Rattle.go_part_core.specs.Parts.{PartModel}
-use Rattle.go_part_core.specs.Slots.{somes}
-use Rattle.go_whole_core.specs.Inputs.{AreParts}
-use Rattle.go_fragment_core.specs.Inside.{in_fragment}
-use Rattle.go_fragment_core.specs.Names.{CodeLooks}
-use Rattle.go_code_core.specs.Code.{frame_in}
-use Rattle.go_means_core.specs.Meaning.{SourceOf}
-use Rattle.go_fit_core.specs.Laws.{FunctionFits, IsReached}
-use Rattle.go_link_core.specs.Functions.{all_functions, number_of}
-use Rattle.go_link_core.specs.Linked.{program_of}
+use Rattle.go_called_core.specs.local_core.Binding.{Local}
+use Rattle.go_typed_core.specs.env_core.declared.meaning.Meaning.{Meaning as NameMeaning}
+use Rattle.go_typed_core.specs.file_core.Laws.{FunctionsArePlaced}
+use Rattle.go_typed_core.specs.file_core.Stands.{file_funcs}
+use Rattle.go_called_core.specs.func_core.Functions.{walked_func}
+use Rattle.go_called_core.specs.func_core.Laws.{FunctionsHaveOneTable}
+use Rattle.go_typed_core.specs.graph_core.Workspaces.{IsWorkspace, PackageModel}
+use Rattle.go_called_core.specs.ready_core.Packages.{trees_in}
+use Rattle.go_typed_core.specs.part_core.Parts.{PartModel}
+use Rattle.go_typed_core.specs.part_core.Slots.{somes}
+use Rattle.go_typed_core.specs.whole_core.Inputs.{AreParts}
+use Rattle.go_called_core.specs.fragment_core.Inside.{in_fragment}
+use Rattle.go_called_core.specs.fragment_core.Names.{CodeLooks}
+use Rattle.go_called_core.specs.code_core.Code.{frame_in}
+use Rattle.go_called_core.specs.means_core.Meaning.{SourceOf}
+use Rattle.go_called_core.specs.fit_core.Laws.{FunctionFits, IsReached}
+use Rattle.go_called_core.specs.link_core.Functions.{all_functions, number_of}
+use Rattle.go_called_core.specs.link_core.Linked.{program_of}
 use Rattle.go_launch_core.specs.Located.{place_declared}
-use Rattle.go_emit_core.specs.Emitted.{body_first, objects_of}
-use Rattle.go_sources_core.specs.Laws.{ObjectsAreCodeOfSources}
-use Rattle.go_sources_core.specs.Sources.{sources_of}
-use Rattle.go_snap_core.specs.entry_core.Among.{among_from}
-use Rattle.go_snap_core.specs.whole_core.Checks.{trees_are_placed}
-use Rattle.go_snap_core.specs.whole_core.PartsWhole.{all_right}
-use Rattle.go_laws_core.specs.ConstantLaws.{PartsAreFit, code_names_of}
-use Rattle.go_laws_core.specs.Standing.{stand_in_part}
-use Rattle.go_laws_core.proofs.ConstantLists.{contained, has_get, has_of_all}
-use Rattle.go_laws_core.proofs.Grammar.{all_keep_rules}
+use Rattle.go_called_core.specs.emit_core.Emitted.{body_first, objects_of}
+use Rattle.go_called_core.specs.sources_core.Laws.{ObjectsAreCodeOfSources}
+use Rattle.go_called_core.specs.sources_core.Sources.{sources_of}
+use Rattle.go_typed_core.specs.entry_core.Among.{among_from}
+use Rattle.go_typed_core.specs.whole_core.Checks.{trees_are_placed}
+use Rattle.go_typed_core.specs.whole_core.PartsWhole.{all_right}
+use Rattle.go_called_core.specs.laws_core.ConstantLaws.{PartsAreFit, code_names_of}
+use Rattle.go_called_core.specs.laws_core.Standing.{stand_in_part}
+use Rattle.go_called_core.specs.laws_core.ConstantLists.{contained, has_get, has_of_all}
+use Rattle.go_called_core.specs.laws_core.Grammar.{all_keep_rules}
 use Rattle.go_typed_core.specs.Fits.{FunctionsFit}
 use Rattle.go_typed_core.specs.Functions.{IsFunction, source_with}
 use Rattle.go_typed_core.specs.Sources.{IsAmongParts}
@@ -98,10 +98,9 @@ module _ (served : FunctionsAreServed) (calls : CallsAreServed) (fit : Functions
       let same : s ≡ source_with (code_names_of p.input p.content n f g) callees g = a.source.is ∙ ap (λ (l : CodeLooks). source_with l callees g) (right.alike n f (body_first f.answers.uses g) a.source.made) in
       let inside_alone = subst (λ (x : SourceOf). in_fragment (frame_in x.looks x.tree) x.tree ≡ true) same inside in
       let run : IsRun place_declared ps starts p n t f g all = record { number = number; reached = reached; part = there; function = h; there = is ∙ ap (λ (x : SourceOf). Some x) same; inside = inside_alone } in
-      let none = plain.no_methods p n t f g all run in
-      let leads = calls ws parts well made p there none n t f g all h sources (number_of place_declared (all_functions (objects_of ps))) (plain.references p n t f g all run) in
+      let leads = calls ws parts well made p there n t f g all h sources (number_of place_declared (all_functions (objects_of ps))) (plain.references p n t f g all run) (plain.methods p n t f g all run) in
       subst (λ x. FunctionFits sources x) (sym same)
-      (fit sources callees p.input p.content n t f g all h right.shows (served ws parts well made sources callees p there none n t f g all h leads) inside_alone)
+      (fit sources callees p.input p.content n t f g all h right.shows (served ws parts well made sources callees p there n t f g all h leads) inside_alone)
 
 pub faultless_run : PartsAreAmong → FunctionsAreServed → CallsAreServed → FunctionsFit → FunctionsHaveOneTable → FunctionsArePlaced → StartsTakeNothing → ObjectsAreCodeOfSources → ReachedProgramsRun → FaultlessProgramsRun
 faultless_run among served calls fit one funcs starts code run ws parts faults well snapshot main r runnable plain =

@@ -3,41 +3,41 @@ use Rattle.std.proofs.Common.{◌≡◌, ℕ, suc, List, [], ◌∷◌, ◌++◌
 use Rattle.std.specs.Prelude.{Option, Some, None, not, nat_eq, ◌&&◌, slice_index_or}
 use Rattle.std.specs.Map.{lookup}
 use Rattle.std.specs.Str.{bytes_eq}
-use Rattle.go_decl_core.specs.declared.keys.DeclKey.{DeclKey}
-use Rattle.go_decl_core.specs.declared.keys.DeclRef.{DeclRef}
+use Rattle.go_called_core.specs.decl_core.declared.keys.DeclKey.{DeclKey}
+use Rattle.go_called_core.specs.decl_core.declared.keys.DeclRef.{DeclRef}
 use Rattle.go_term_core.specs.declared.term.MemberPlace.{MemberPlace}
 use Rattle.go_term_core.specs.declared.term.MemberPlace.TheVariants as places
 use Rattle.go_term_core.specs.Terms.{Term, NoType, Predeclared, ErrorType, Defined, PointerTo, StructOf, InterfaceOf, Sign, SignOf, Terms, NoTerm, ATerm, is_no_type}
-use Rattle.govisd_core.specs.table_core.Entries.{Entry, Member, find_entry, term_in, underlying_in}
-use Rattle.govisd_core.specs.decide_core.Conversion.{is_type_term}
-use Rattle.govisd_core.specs.decide_core.Rules.{all_typed, form_under}
-use Rattle.go_operand_core.specs.declared.types.Operand.{Operand}
-use Rattle.go_operand_core.specs.declared.types.ValueType.{ValueType}
-use Rattle.go_operand_core.specs.declared.types.ValueType.TheVariants as value_types
-use Rattle.go_fold_core.specs.denote_core.declared.things.Outcome.{Outcome}
-use Rattle.go_fold_core.specs.denote_core.declared.things.Outcome.TheVariants as outcomes
-use Rattle.govisd_core.specs.handle_core.Declarations.{Declaration, Universe, OfError, Package, InFile}
-use Rattle.go_snap_core.specs.face_core.declared.face.Face.TheVariants as faces
-use Rattle.go_snap_core.specs.face_core.Faces.{TheFace}
-use Rattle.go_snap_core.specs.face_core.Packages.{PackageFacesModel, face_in}
-use Rattle.govisd_core.specs.body_core.Notes.{TheLocal, TheUse}
-use Rattle.go_snap_core.specs.near_core.Near.{IfAny, NearOperand, NearValue}
-use Rattle.go_snap_core.specs.near_core.Closing.{either}
-use Rattle.go_fragment_core.specs.declared.names.Meaning.{Meaning}
-use Rattle.go_fragment_core.specs.declared.names.Meaning.TheVariants as meanings
-use Rattle.go_snap_core.specs.meaning_core.Words.{form_word, results_give, sign_gives, some_word, value_word, word_in}
-use Rattle.go_snap_core.specs.meaning_core.Meanings.{constant_meaning_or, face_meaning, local_meaning, some_face_meaning, type_meaning, variable_meaning}
-use Rattle.go_snap_core.specs.meaning_core.Looking.{locals_meant, looks_of, uses_meant}
-use Rattle.go_lookup_core.specs.Looking.{looks_with, meaning_or_other}
-use Rattle.go_snap_core.specs.meaning_core.Scenes.{CodeScene, declared_meaning, method_at, method_meaning, method_spotted, methods_spotted, outcome_meaning, own_or, own_spotted, place_meaning, scene_by, selected_meaning}
-use Rattle.go_lookup_core.specs.Places.{spotted_meaning, decl_spot}
-use Rattle.go_laws_core.proofs.Terms.{AreTermsIn, IsSignIn, IsTermIn}
-use Rattle.go_laws_core.proofs.Tables.{AreEntriesIn, AreMembersIn}
-use Rattle.go_laws_core.proofs.Answers.{IsDeclIn, IsOutcomeIn}
-use Rattle.go_laws_core.proofs.Uses.{IsUseIn}
-use Rattle.go_laws_core.proofs.Functions.{IsLocalIn}
-use Rattle.go_laws_core.proofs.Meanings.{IsAnyIn, IsFaceIn}
-use Rattle.govisd_core.specs.statement_core.Locality.{Each}
+use Rattle.go_called_core.specs.table_core.Entries.{Entry, Member, find_entry, term_in, underlying_in}
+use Rattle.go_called_core.specs.decide_core.Conversion.{is_type_term}
+use Rattle.go_called_core.specs.decide_core.Rules.{all_typed, form_under}
+use Rattle.go_called_core.specs.operand_core.declared.types.Operand.{Operand}
+use Rattle.go_called_core.specs.operand_core.declared.types.ValueType.{ValueType}
+use Rattle.go_called_core.specs.operand_core.declared.types.ValueType.TheVariants as value_types
+use Rattle.go_called_core.specs.denote_core.declared.things.Outcome.{Outcome}
+use Rattle.go_called_core.specs.denote_core.declared.things.Outcome.TheVariants as outcomes
+use Rattle.go_typed_core.specs.handle_core.Declarations.{Declaration, Universe, OfError, Package, InFile}
+use Rattle.go_typed_core.specs.face_core.declared.face.Face.TheVariants as faces
+use Rattle.go_typed_core.specs.face_core.Faces.{TheFace}
+use Rattle.go_typed_core.specs.face_core.Packages.{PackageFacesModel, face_in}
+use Rattle.go_called_core.specs.body_core.Notes.{TheLocal, TheUse}
+use Rattle.go_near_core.specs.Near.{IfAny, NearOperand, NearValue}
+use Rattle.go_near_core.proofs.Closing.{either}
+use Rattle.go_called_core.specs.fragment_core.declared.names.Meaning.{Meaning}
+use Rattle.go_called_core.specs.fragment_core.declared.names.Meaning.TheVariants as meanings
+use Rattle.go_typed_core.specs.meaning_core.Words.{form_word, results_give, sign_gives, some_word, value_word, word_in}
+use Rattle.go_typed_core.specs.meaning_core.Meanings.{constant_meaning_or, face_meaning, local_meaning, some_face_meaning, type_meaning, variable_meaning}
+use Rattle.go_typed_core.specs.meaning_core.Looking.{locals_meant, looks_of, uses_meant}
+use Rattle.go_typed_core.specs.lookup_core.Looking.{looks_with, meaning_or_other}
+use Rattle.go_typed_core.specs.meaning_core.Scenes.{CodeScene, declared_meaning, method_at, method_meaning, method_spotted, methods_spotted, outcome_meaning, own_or, own_spotted, place_meaning, scene_by, selected_meaning}
+use Rattle.go_typed_core.specs.lookup_core.Places.{spotted_meaning, decl_spot}
+use Rattle.go_called_core.specs.laws_core.Terms.{AreTermsIn, IsSignIn, IsTermIn}
+use Rattle.go_called_core.specs.laws_core.Tables.{AreEntriesIn, AreMembersIn}
+use Rattle.go_called_core.specs.laws_core.Answers.{IsDeclIn, IsOutcomeIn}
+use Rattle.go_called_core.specs.laws_core.Uses.{IsUseIn}
+use Rattle.go_called_core.specs.laws_core.Functions.{IsLocalIn}
+use Rattle.go_called_core.specs.laws_core.Meanings.{IsAnyIn, IsFaceIn}
+use Rattle.go_called_core.specs.statement_core.Locality.{Each}
 
 module _ (Inside : List ℕ → Type 0) (es fs : List Entry) (same : (k : DeclKey) → Inside k.path → find_entry es k ≡ find_entry fs k) where
   -- types

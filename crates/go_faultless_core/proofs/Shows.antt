@@ -8,67 +8,67 @@ use Rattle.std.proofs.lemmas.Grind.{flat_map-append}
 use Rattle.std.proofs.lemmas.List.Elements.{All-cons}
 use Rattle.std.proofs.lemmas.List.Kept.{AllPairs-cons}
 use Rattle.std.proofs.lemmas.Slice.Eq.{bytes_eq-Decides}
-use Rattle.go_text_core.specs.Text.{exported}
-use Rattle.go_decl_core.specs.declared.keys.DeclKey.{DeclKey}
-use Rattle.go_decl_core.specs.declared.keys.DeclRef.{DeclRef}
-use Rattle.go_decl_core.specs.declared.places.DeclKind.{DeclKind}
-use Rattle.go_decl_core.specs.declared.places.DeclKind.TheVariants as kinds
-use Rattle.go_graph_core.specs.Packages.{trees_of}
-use Rattle.go_block_core.specs.declared.binding.Binding.{Binding}
-use Rattle.go_block_core.specs.declared.binding.Target.TheVariants as targets
-use Rattle.go_block_core.specs.declared.imports.Imported.TheVariants as given
-use Rattle.go_block_core.specs.Bindings.{key_of}
-use Rattle.go_block_core.specs.Blocks.{exports_of, file_binding}
-use Rattle.go_block_core.specs.Declarations.{package_declared}
-use Rattle.go_block_core.specs.Exports.{ExportsModel}
-use Rattle.go_block_core.specs.Tables.{in_block}
+use Rattle.go_called_core.specs.text_core.Text.{exported}
+use Rattle.go_called_core.specs.decl_core.declared.keys.DeclKey.{DeclKey}
+use Rattle.go_called_core.specs.decl_core.declared.keys.DeclRef.{DeclRef}
+use Rattle.go_called_core.specs.decl_core.declared.places.DeclKind.{DeclKind}
+use Rattle.go_called_core.specs.decl_core.declared.places.DeclKind.TheVariants as kinds
+use Rattle.go_typed_core.specs.graph_core.Packages.{trees_of}
+use Rattle.go_called_core.specs.block_core.declared.binding.Binding.{Binding}
+use Rattle.go_called_core.specs.block_core.declared.binding.Target.TheVariants as targets
+use Rattle.go_called_core.specs.block_core.declared.imports.Imported.TheVariants as given
+use Rattle.go_called_core.specs.block_core.Bindings.{key_of}
+use Rattle.go_called_core.specs.block_core.Blocks.{exports_of, file_binding}
+use Rattle.go_called_core.specs.block_core.Declarations.{package_declared}
+use Rattle.go_called_core.specs.block_core.Exports.{ExportsModel}
+use Rattle.go_called_core.specs.block_core.Tables.{in_block}
 use Rattle.go_term_core.specs.Terms.{Term, NoType, Predeclared as Basic, ErrorType, Defined, PointerTo, StructOf, InterfaceOf, is_no_type}
-use Rattle.go_settle_core.specs.Settled.{defined_unless, kind_of_term}
-use Rattle.go_table_core.specs.Entries.{Entry, find_entry, term_in}
-use Rattle.go_decide_core.specs.Rules.{typed}
-use Rattle.go_entry_core.specs.Meanings.{shown_type, type_of_key, type_of_kind}
-use Rattle.go_entry_core.specs.Showing.{shown_in}
-use Rattle.go_entry_core.proofs.Shown.{shows_its_block}
+use Rattle.go_typed_core.specs.settle_core.Settled.{defined_unless, kind_of_term}
+use Rattle.go_called_core.specs.table_core.Entries.{Entry, find_entry, term_in}
+use Rattle.go_called_core.specs.decide_core.Rules.{typed}
+use Rattle.go_typed_core.specs.entry_core.Meanings.{shown_type, type_of_key, type_of_kind}
+use Rattle.go_typed_core.specs.entry_core.Showing.{shown_in}
+use Rattle.go_typed_core.specs.entry_core_lemmas.Shown.{shows_its_block}
 use Rattle.go_tree_nodes.specs.Trees.{FileTree}
-use Rattle.go_snap_core.specs.entry_core.Entries.{package_meanings}
-use Rattle.go_entry_core.specs.Outlines.{IsOutline, outline_of}
-use Rattle.go_face_core.specs.declared.face.Face.TheVariants as faces
-use Rattle.go_face_core.specs.declared.shown.ShownFace.TheVariants as shown_faces
-use Rattle.go_face_core.specs.Faces.{TheFace}
-use Rattle.go_face_core.specs.Packages.{DeclaredOf, PackageFacesModel, exported_in, face_among, face_by, face_in, names_seen, package_faces, package_in, shown_by, shown_in_some}
-use Rattle.go_face_core.specs.Written.{DeclsRise, IsDeclBefore, WrittenOf, decls_of, position_of, same_decl_place}
-use Rattle.go_face_core.proofs.Ascending.{written_rises}
-use Rattle.go_face_core.proofs.Placed.{same_parts}
-use Rattle.go_face_core.proofs.Displaying.{shows_its_block as faces_show}
-use Rattle.go_snap_core.specs.answer_core.Shown.{exported_decls, is_decl_listed, package_shown, shown_among, shown_if}
-use Rattle.go_env_core.specs.Found.{face_at, own_face}
-use Rattle.go_env_core.specs.Scenes.{SceneModel}
-use Rattle.go_summary_core.specs.Laws.{TellsWhatItDoes}
-use Rattle.go_summary_core.specs.Summaries.{IsOfOne, SummaryModel, path_of}
-use Rattle.go_summary_core.specs.Views.{exports_told, faces_told, types_told}
-use Rattle.go_summary_core.proofs.Telling.{views_tell}
-use Rattle.go_ready_core.specs.Packages.{PackageIn, scene_in, trees_in}
-use Rattle.go_ready_core.specs.Values.{AreDeclared}
-use Rattle.go_part_core.specs.Inputs.{InputModel, path_in}
-use Rattle.go_part_core.specs.Parts.{ContentOf, IsPart, PartModel, package_seen, seen_by}
-use Rattle.go_part_core.specs.Slots.{somes}
-use Rattle.go_emit_core.specs.Emitted.{told_to}
-use Rattle.go_graph_core.specs.Workspaces.{IsWorkspace, PackageModel}
-use Rattle.go_snap_core.specs.entry_core.Among.{Among, among_cases, among_from, among_left, among_map, among_right, among_to}
-use Rattle.govisd_core.specs.graph_core.PlanLaws.{has_plan}
-use Rattle.govisd_core.specs.graph_core.Plans.{IsPlan, PlanModel}
-use Rattle.go_snap_core.specs.whole_core.Inputs.{ComesTo, ReachesPackage, Shown}
-use Rattle.go_snap_core.specs.whole_core.Known.{KnownAlike}
-use Rattle.go_snap_core.specs.whole_core.Lists.{all_from_among, among_all, pairs_head, pairs_tail}
-use Rattle.go_snap_core.specs.whole_core.LocalLaws.{CheckIsLocal, ImportsBindTheirs}
-use Rattle.go_snap_core.specs.whole_core.Order.{reaches_next, reaches_on}
-use Rattle.go_snap_core.specs.whole_core.Parts.{all_inside, none_reached, of_one, path_told, reach_paths, told_by, told_to as told_there, well_reached}
-use Rattle.go_snap_core.specs.whole_core.PartsWhole.{all_right}
-use Rattle.go_snap_core.specs.whole_core.Theirs.{passes}
-use Rattle.go_snap_core.specs.whole_core.Told.{AreWell, NoneIsOf, known_alike, known_by}
-use Rattle.go_snap_core.specs.whole_core.mirrors.Steps.{AreRight}
-use Rattle.go_type_doc_core.specs.mirrors.Named.{is_type}
-use Rattle.go_type_doc_core.proofs.Known.{IsNoType, face_plain, face_typed}
+use Rattle.go_typed_core.specs.entry_core.Entries.{package_meanings}
+use Rattle.go_typed_core.specs.entry_core.Outlines.{IsOutline, outline_of}
+use Rattle.go_typed_core.specs.face_core.declared.face.Face.TheVariants as faces
+use Rattle.go_typed_core.specs.face_core.declared.shown.ShownFace.TheVariants as shown_faces
+use Rattle.go_typed_core.specs.face_core.Faces.{TheFace}
+use Rattle.go_typed_core.specs.face_core.Packages.{DeclaredOf, PackageFacesModel, exported_in, face_among, face_by, face_in, names_seen, package_faces, package_in, shown_by, shown_in_some}
+use Rattle.go_typed_core.specs.face_core.Written.{DeclsRise, IsDeclBefore, WrittenOf, decls_of, position_of, same_decl_place}
+use Rattle.go_typed_core.specs.face_core.Ascending.{written_rises}
+use Rattle.go_typed_core.specs.face_core.Placed.{same_parts}
+use Rattle.go_typed_core.specs.face_core.Displaying.{shows_its_block as faces_show}
+use Rattle.go_launch_core.specs.answer_core.Shown.{exported_decls, is_decl_listed, package_shown, shown_among, shown_if}
+use Rattle.go_typed_core.specs.env_core.Found.{face_at, own_face}
+use Rattle.go_typed_core.specs.env_core.Scenes.{SceneModel}
+use Rattle.go_typed_core.specs.summary_core.Laws.{TellsWhatItDoes}
+use Rattle.go_typed_core.specs.summary_core.Summaries.{IsOfOne, SummaryModel, path_of}
+use Rattle.go_typed_core.specs.summary_core.Views.{exports_told, faces_told, types_told}
+use Rattle.go_typed_core.specs.summary_core.Telling.{views_tell}
+use Rattle.go_called_core.specs.ready_core.Packages.{PackageIn, scene_in, trees_in}
+use Rattle.go_called_core.specs.ready_core.Values.{AreDeclared}
+use Rattle.go_typed_core.specs.part_core.Inputs.{InputModel, path_in}
+use Rattle.go_typed_core.specs.part_core.Parts.{ContentOf, IsPart, PartModel, package_seen, seen_by}
+use Rattle.go_typed_core.specs.part_core.Slots.{somes}
+use Rattle.go_called_core.specs.emit_core.Emitted.{told_to}
+use Rattle.go_typed_core.specs.graph_core.Workspaces.{IsWorkspace, PackageModel}
+use Rattle.go_typed_core.specs.entry_core.Among.{Among, among_cases, among_from, among_left, among_map, among_right, among_to}
+use Rattle.go_typed_core.specs.graph_core.PlanLaws.{has_plan}
+use Rattle.go_typed_core.specs.graph_core.Plans.{IsPlan, PlanModel}
+use Rattle.go_typed_core.specs.whole_core.Inputs.{ComesTo, ReachesPackage, Shown}
+use Rattle.go_typed_core.specs.whole_core.Known.{KnownAlike}
+use Rattle.go_typed_core.specs.whole_core.Lists.{all_from_among, among_all, pairs_head, pairs_tail}
+use Rattle.go_typed_core.specs.whole_core.LocalLaws.{CheckIsLocal, ImportsBindTheirs}
+use Rattle.go_typed_core.specs.whole_core.Order.{reaches_next, reaches_on}
+use Rattle.go_typed_core.specs.whole_core.Parts.{all_inside, none_reached, of_one, path_told, reach_paths, told_by, told_to as told_there, well_reached}
+use Rattle.go_typed_core.specs.whole_core.PartsWhole.{all_right}
+use Rattle.go_typed_core.specs.whole_core.Theirs.{passes}
+use Rattle.go_typed_core.specs.whole_core.Told.{AreWell, NoneIsOf, known_alike, known_by}
+use Rattle.go_typed_core.specs.whole_core.mirrors.Steps.{AreRight}
+use Rattle.go_typed_core.specs.type_doc_core.mirrors.Named.{is_type}
+use Rattle.go_typed_core.specs.type_doc_core.Known.{IsNoType, face_plain, face_typed}
 use Rattle.go_typed_core.specs.Functions.{known_types}
 use Rattle.go_typed_core.specs.Written.{ShowTheirTypes, typed_in}
 use Rattle.go_faultless_core.specs.Parts.{PartsShowTheirTypes}

@@ -2,10 +2,10 @@
 --
 -- docs/RULES.md, "Whole workspaces", "Stack code". The Go specification, "Packages", "Import declarations".
 use Rattle.std.specs.Prelude.{List, Option, Contains}
-use Rattle.go_graph_core.specs.Workspaces.{IsWorkspace, PackageModel}
-use Rattle.go_part_core.specs.Parts.{PartModel}
-use Rattle.go_part_core.specs.Slots.{somes}
-use Rattle.go_whole_core.specs.Inputs.{AreParts}
+use Rattle.go_typed_core.specs.graph_core.Workspaces.{IsWorkspace, PackageModel}
+use Rattle.go_typed_core.specs.part_core.Parts.{PartModel}
+use Rattle.go_typed_core.specs.part_core.Slots.{somes}
+use Rattle.go_typed_core.specs.whole_core.Inputs.{AreParts}
 use Rattle.go_typed_core.specs.Sources.{AreSeenAlike, IsAmongParts}
 use Rattle.go_typed_core.specs.Written.{ShowTheirTypes}
 

@@ -3,31 +3,30 @@
 -- docs/RULES.md, "Stack code", "Programs". The Go specification, "Program execution".
 use Rattle.std.specs.Prelude.{◌≡◌, ℕ, true, List, [], map, Option, Some, Contains, slice_get}
 use Rattle.go_tree_nodes.specs.Trees.{FileTree, FuncTree}
-use Rattle.go_local_core.specs.Binding.{Local}
-use Rattle.go_env_core.specs.declared.meaning.Meaning.{Meaning as NameMeaning}
-use Rattle.go_handle_core.specs.Declarations.{Declaration}
-use Rattle.go_graph_core.specs.Workspaces.{IsWorkspace, PackageModel}
-use Rattle.go_part_core.specs.Parts.{FileOf, PartModel}
-use Rattle.go_part_core.specs.Slots.{somes}
-use Rattle.go_fragment_core.specs.declared.names.Gives.TheVariants as gives
-use Rattle.go_fragment_core.specs.Inside.{in_fragment}
-use Rattle.go_code_core.specs.Code.{frame_in}
-use Rattle.go_means_core.specs.Meaning.{SourceOf}
-use Rattle.go_means_core.specs.Whole.{code_of_program}
-use Rattle.go_meant_core.specs.Laws.{RunsAsMeant}
-use Rattle.go_fit_core.specs.Fitting.{IsDeclared}
-use Rattle.go_fit_core.specs.Laws.{FunctionFits, IsReached}
-use Rattle.go_link_core.specs.Functions.{PlaceModel, all_functions, number_of}
-use Rattle.go_link_core.specs.Linked.{IsRunnable, ProgramOf, RunnableOf, program_of}
+use Rattle.go_called_core.specs.local_core.Binding.{Local}
+use Rattle.go_typed_core.specs.env_core.declared.meaning.Meaning.{Meaning as NameMeaning}
+use Rattle.go_typed_core.specs.handle_core.Declarations.{Declaration}
+use Rattle.go_typed_core.specs.graph_core.Workspaces.{IsWorkspace, PackageModel}
+use Rattle.go_typed_core.specs.part_core.Parts.{FileOf, PartModel}
+use Rattle.go_typed_core.specs.part_core.Slots.{somes}
+use Rattle.go_called_core.specs.fragment_core.declared.names.Gives.TheVariants as gives
+use Rattle.go_called_core.specs.fragment_core.Inside.{in_fragment}
+use Rattle.go_called_core.specs.code_core.Code.{frame_in}
+use Rattle.go_called_core.specs.means_core.Meaning.{SourceOf}
+use Rattle.go_called_core.specs.means_core.Whole.{code_of_program}
+use Rattle.go_called_core.specs.meant_core.Laws.{RunsAsMeant}
+use Rattle.go_called_core.specs.fit_core.Fitting.{IsDeclared}
+use Rattle.go_called_core.specs.fit_core.Laws.{FunctionFits, IsReached}
+use Rattle.go_called_core.specs.link_core.Functions.{PlaceModel, all_functions, number_of}
+use Rattle.go_called_core.specs.link_core.Linked.{IsRunnable, ProgramOf, RunnableOf, program_of}
 use Rattle.go_launch_core.specs.Located.{place_declared}
-use Rattle.go_emit_core.specs.Emitted.{body_uses, declarations_in, objects_of}
-use Rattle.go_sources_core.specs.Sources.{sources_of}
-use Rattle.go_snap_core.specs.declared.fault.PlacedFault.{PlacedFault}
-use Rattle.go_snap_core.specs.Snapshots.{IsSnapshot}
-use Rattle.go_laws_core.specs.ConstantLaws.{code_names_of}
+use Rattle.go_called_core.specs.emit_core.Emitted.{body_uses, declarations_in, objects_of}
+use Rattle.go_called_core.specs.sources_core.Sources.{sources_of}
+use Rattle.go_called_core.specs.snap_core.declared.fault.PlacedFault.{PlacedFault}
+use Rattle.go_called_core.specs.snap_core.Snapshots.{IsSnapshot}
+use Rattle.go_called_core.specs.laws_core.ConstantLaws.{code_names_of}
 use Rattle.go_typed_core.specs.Functions.{IsFunction, source_with}
-use Rattle.go_faultless_core.specs.Called.{AreReferencesKept}
-use Rattle.go_faultless_core.specs.Served.{HaveNoMethods}
+use Rattle.go_faultless_core.specs.Called.{AreMethodsKept, AreReferencesKept}
 
 -- a program can be run so, and its functions are the code of sources, of which each that is reached has no faults; those that begin the program take no
 -- arguments and give no result. Nothing is asked of a source that is not reached
@@ -54,12 +53,13 @@ pub record IsRun (place : Declaration → Option PlaceModel) (ps : List PartMode
   pub there : slice_get (sources_of place ps) number ≡ Some (source_with (code_names_of p.input p.content n f g) (callees_of place ps f g) g)
   pub inside : in_fragment (frame_in (code_names_of p.input p.content n f g) g) g ≡ true
 
--- what a program of a workspace is still asked beside that it can be run: the packages of the functions that are reached know no methods, and the functions
--- to which these refer are there, and take and give words of the signatures by which their calls were checked
+-- what a program of a workspace is still asked beside that it can be run: the functions and methods to which those that are reached refer are there, and take
+-- and give words of the signatures by which their calls were checked
 pub record IsPlain (ps : List PartModel) (starts : List ℕ) : Type 0 where
-  pub no_methods : (p : PartModel) (n : ℕ) (t : FileTree) (f : FileOf) (g : FuncTree) (all : List (Local NameMeaning)) → IsRun place_declared ps starts p n t f g all → HaveNoMethods p.input p.content
   pub references : (p : PartModel) (n : ℕ) (t : FileTree) (f : FileOf) (g : FuncTree) (all : List (Local NameMeaning)) → IsRun place_declared ps starts p n t f g all
       → AreReferencesKept (sources_of place_declared ps) (number_of place_declared (all_functions (objects_of ps))) p.input p.content n t f g all
+  pub methods : (p : PartModel) (n : ℕ) (t : FileTree) (f : FileOf) (g : FuncTree) (all : List (Local NameMeaning)) → IsRun place_declared ps starts p n t f g all
+      → AreMethodsKept (sources_of place_declared ps) (number_of place_declared (all_functions (objects_of ps))) p.input p.content n t f g all
 
 -- a program of a snapshot that can be run comes to what its sources mean
 abbrev pub FaultlessProgramsRun : Type 0

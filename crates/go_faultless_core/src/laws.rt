@@ -1,22 +1,22 @@
 //! Laws of the functions of workspaces and of the runs of their programs, with nothing to run.
-ghost use Rattle.go_faultless_core.specs.Called.{CallsAreServed};
+ghost use Rattle.go_faultless_core.specs.Called.{CallsAreServed, MethodsAreDeclared};
 ghost use Rattle.go_faultless_core.specs.Parts.{PartsAreAmong, PartsAreSeenAlike, PartsShowTheirTypes};
 ghost use Rattle.go_faultless_core.specs.Runs.{FaultlessProgramsRun, ReachedProgramsRun};
 ghost use Rattle.go_faultless_core.specs.Served.{ConstantsAreServed, FunctionsAreServed, IntegersAreGiven, NamesAreRead};
 
+use go_called_core::emit_core::{bodies_are_between_braces, objects_are_of_faultless};
+use go_called_core::fit_core::fitting_means_something;
+use go_called_core::func_core::{functions_have_one_table, locals_are_declarations};
+use go_called_core::laws_core::parts_are_fit;
+use go_called_core::meant_core::programs_run_as_meant;
+use go_called_core::sources_core::objects_are_code_of_sources;
 use go_called_core::{
     calls_refer_to_theirs, functions_keep_types, integers_have_values, parts_are_read,
     parts_tell_kept, starts_take_nothing,
 };
-use go_emit_core::{bodies_are_between_braces, objects_are_of_faultless};
-use go_fit_core::fitting_means_something;
-use go_laws_core::file_core::functions_are_placed;
-use go_laws_core::func_core::{functions_have_one_table, locals_are_declarations};
-use go_laws_core::parts_are_fit;
-use go_meant_core::programs_run_as_meant;
-use go_snap_core::whole_core::{check_is_local, imports_bind_theirs};
-use go_sources_core::objects_are_code_of_sources;
+use go_typed_core::file_core::functions_are_placed;
 use go_typed_core::functions_fit;
+use go_typed_core::whole_core::{check_is_local, imports_bind_theirs};
 
 /// The names of the files of a workspace come in code to the same over what all its packages tell and over what those tell that a package reaches.
 ///
@@ -71,12 +71,15 @@ pub fn constants_are_served()
     parts_tell_kept();
 }
 
-/// Where a package knows no methods, of its own types or of those of packages that it reaches, each name of its functions is in code what it is to the check.
+/// Each name of the functions of a workspace is in code what it is to the check, and a method of an operand over `int` or `bool` gives in code what its signature
+/// gives: it is the one that is declared there.
 ///
 /// The Go specification, "Declarations and scope", "Selectors".
 pub fn names_are_read()
     ensures { NamesAreRead }
 {
+    parts_are_fit();
+    check_is_local();
     bodies_are_between_braces();
     functions_are_placed();
     functions_have_one_table();
@@ -85,10 +88,17 @@ pub fn names_are_read()
     objects_are_of_faultless();
 }
 
-/// The calls of a function lead to functions that take their arguments, where the functions to which it refers are there, and take and give words of the
-/// signatures by which its calls were checked.
+/// A method of a type over `int` or `bool`, to a function of a package, is one that is declared of a type that the package knows, of the signature that is there.
 ///
-/// The Go specification, "Calls", "Function declarations".
+/// The Go specification, "Method declarations", "Selectors".
+pub fn methods_are_declared()
+    ensures { MethodsAreDeclared }
+{}
+
+/// The calls of a function lead to functions that take their arguments, and receivers, where the functions and methods to which it refers are there, and take and
+/// give words of the signatures by which its calls were checked.
+///
+/// The Go specification, "Calls", "Function declarations", "Method declarations".
 pub fn calls_are_served()
     ensures { CallsAreServed }
 {
@@ -125,8 +135,8 @@ pub fn reached_programs_run()
     programs_run_as_meant();
 }
 
-/// A program of a snapshot that can be run comes to what its sources mean, where the packages of the functions that are reached know no methods, and the functions
-/// to which these refer are there, and take and give words of the signatures by which their calls were checked.
+/// A program of a snapshot that can be run comes to what its sources mean, where the functions and methods to which the functions that are reached refer are there,
+/// and take and give words of the signatures by which their calls were checked.
 ///
 /// The Go specification, "Packages", "Program initialization and execution".
 pub fn faultless_programs_run()

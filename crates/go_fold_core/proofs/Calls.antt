@@ -46,9 +46,9 @@ use Rattle.go_fragment_core.specs.declared.names.Gives.{Gives}
 use Rattle.go_fragment_core.specs.declared.names.Gives.TheVariants as gives
 use Rattle.go_fragment_core.specs.declared.names.Meaning.{Meaning}
 use Rattle.go_fragment_core.specs.declared.names.Meaning.TheVariants as meanings
-use Rattle.go_fragment_core.specs.Fragment.{call_gives}
+use Rattle.go_fragment_core.specs.Fragment.{call_gives, means_method}
 use Rattle.go_fragment_core.specs.Constants.{some_held, converted}
-use Rattle.go_fold_core.specs.Reading.{basic_of, IsOver, IsOneOver, ResultsGive, IsTypeMeant, IsFunctionMeant, IsMethodMeant, IsFieldMeant, IsBuiltinMeant, IsFoundMeant, IsExportedMeant, IsSelectionMeant, IsMemberMeant, AreNamesRead, AreRead}
+use Rattle.go_fold_core.specs.Reading.{basic_of, IsOver, IsOneOver, ResultsGive, IsTypeMeant, IsFunctionMeant, IsMethodMeant, IsFieldMeant, IsBuiltinMeant, IsFoundMeant, IsExportedMeant, IsSelectionMeant, IsMemberMeant, AreNamesRead}
 use Rattle.go_fold_core.specs.Laws.{IsNoText, constant_in, HasDeclaration}
 use Rattle.go_fold_core.specs.Typed.{KeepBasics}
 use Rattle.go_fold_core.proofs.Operators.{IsJudged, operand_judged, IsNone, operand_or}
@@ -80,6 +80,19 @@ other_callee looks Certain (denotes.«Value» operand) = tt
 other_callee looks Certain (denotes.Several s) = tt
 other_callee looks Certain denotes.Nothing = tt
 
+-- a member that is no method is nothing that code is made of
+member_gives : {T : Type 0} (rules : TypeRules T) (results : List (Option T)) (m : Meaning) → IsFieldMeant m → (means_method m ≡ true → IsMethodMeant rules results m) → IsMethodMeant rules results m
+member_gives rules results (meanings.Method g) h sure = sure refl
+member_gives rules results meanings.Other h sure = tt
+member_gives rules results _ h sure = absurd h
+
+-- the member that is selected of what stands left of a dot gives what its signature gives
+abbrev pub IsDotMeant : {T S D P : Type 0} → Looks T S D P → (Outcome D P → Meaning) → List ℕ → Dot T D → Type 0
+IsDotMeant {T} looks mean x (dots.«Value» o) = (t : T) → default_type looks.types o.value_type ≡ Some t → IsSelectionMeant looks mean (looks.select t x)
+IsDotMeant {T} looks mean x dots.Refused = ⊤
+IsDotMeant {T} looks mean x dots.Untyped = ⊤
+IsDotMeant {T} looks mean x (dots.«Package» d) = ⊤
+
 module _ {T S D P : Type 0} (looks : Looks T S D P) (mean : Outcome D P → Meaning) (Certain : Type 0) (m : Meaning) where
   found_callee : (f : Found T S D) → IsFoundMeant looks mean f → m ≡ mean (found_answer {P = P} stands.Callee f).outcome → IsCalleeMeant looks Certain (found_answer {P = P} stands.Callee f).denoted m
   found_callee founds.Missing h same = tt
@@ -98,18 +111,20 @@ module _ {T S D P : Type 0} (looks : Looks T S D P) (mean : Outcome D P → Mean
   exported_callee (exporteds.Func d s) h same = inl (subst (IsFunctionMeant looks.types (looks.results s)) (sym same) h)
   exported_callee (exporteds.«Value» d v) h same = tt
 
-  method_callee : (d : D) (path : P) (s : S) (b : Bool) → IsFieldMeant (mean (outcomes.Selected d path)) → (Certain → IsMethodMeant looks.types (looks.results s) (mean (outcomes.Selected d path)))
+  method_callee : (d : D) (path : P) (s : S) (b : Bool) → IsFieldMeant (mean (outcomes.Selected d path)) → (Certain → means_method m ≡ true → IsMethodMeant looks.types (looks.results s) (mean (outcomes.Selected d path)))
       → m ≡ mean (method_answer {T = T} {S = S} {D = D} {P = P} usages.Callee d path s b).outcome → IsCalleeMeant looks Certain (method_answer {T = T} {S = S} {D = D} {P = P} usages.Callee d path s b).denoted m
-  method_callee d path s true h sure same = inr (subst IsFieldMeant (sym same) h, λ certain. subst (IsMethodMeant looks.types (looks.results s)) (sym same) (sure certain))
+  method_callee d path s true h sure same =
+      let field = subst IsFieldMeant (sym same) h in
+      inr (field, λ certain. member_gives looks.types (looks.results s) m field (λ method. subst (IsMethodMeant looks.types (looks.results s)) (sym same) (sure certain method)))
   method_callee d path s false h sure same = tt
 
-  member_callee : (addressable : Bool) (x : Selection T S D P) → IsMemberMeant {T = T} {S = S} {D = D} {P = P} mean x → (Certain → IsSelectionMeant looks mean x) → m ≡ mean (member_answer usages.Callee addressable x).outcome
+  member_callee : (addressable : Bool) (x : Selection T S D P) → IsMemberMeant {T = T} {S = S} {D = D} {P = P} mean x → (Certain → means_method m ≡ true → IsSelectionMeant looks mean x) → m ≡ mean (member_answer usages.Callee addressable x).outcome
       → IsCalleeMeant looks Certain (member_answer usages.Callee addressable x).denoted m
   member_callee addressable (selections.Missing rule) h sure same = tt
   member_callee addressable (selections.«Field» d path t by_pointer) h sure same = tt
   member_callee addressable (selections.Method d path s needs_pointer by_pointer) h sure same = method_callee d path s (not needs_pointer || (by_pointer || addressable)) h sure same
 
-  module _ (read : AreNamesRead T S D P looks mean) (sure : Certain → AreRead T S D P looks mean) (x : List ℕ) (n : ℕ) where
+  module _ (read : AreNamesRead T S D P looks mean) (x : List ℕ) (n : ℕ) where
     pub name_callee : m ≡ mean (name_answer (look_of_place looks n) stands.Callee x).outcome → IsCalleeMeant looks Certain (name_answer (look_of_place looks n) stands.Callee x).denoted m
     name_callee = by (is_blank x)
       where
@@ -117,28 +132,28 @@ module _ {T S D P : Type 0} (looks : Looks T S D P) (mean : Outcome D P → Mean
         by true same = tt
         by false same = found_callee (looks.find x n) (read.names x n) same
 
-    selected_callee : (addressable : Bool) (t : Option T) → m ≡ mean (value_selector (look_of_place looks n) usages.Callee addressable t x).outcome → IsCalleeMeant looks Certain (value_selector (look_of_place looks n) usages.Callee addressable t x).denoted m
-    selected_callee addressable None same = tt
-    selected_callee addressable (Some t) same = member_callee addressable (looks.select t x) (read.members t x) (λ certain. (sure certain).selected t x) same
+    selected_callee : (addressable : Bool) (t : Option T) → (Certain → means_method m ≡ true → (u : T) → t ≡ Some u → IsSelectionMeant looks mean (looks.select u x)) → m ≡ mean (value_selector (look_of_place looks n) usages.Callee addressable t x).outcome → IsCalleeMeant looks Certain (value_selector (look_of_place looks n) usages.Callee addressable t x).denoted m
+    selected_callee addressable None sure same = tt
+    selected_callee addressable (Some t) sure same = member_callee addressable (looks.select t x) (read.members t x) (λ certain method. sure certain method t refl) same
 
-    pub selector_callee : (dot : Dot T D) → m ≡ mean (selector_answer (look_of_place looks n) usages.Callee dot x).outcome → IsCalleeMeant looks Certain (selector_answer (look_of_place looks n) usages.Callee dot x).denoted m
-    selector_callee dots.Refused same = tt
-    selector_callee dots.Untyped same = by (is_blank x)
+    pub selector_callee : (dot : Dot T D) → (Certain → means_method m ≡ true → IsDotMeant looks mean x dot) → m ≡ mean (selector_answer (look_of_place looks n) usages.Callee dot x).outcome → IsCalleeMeant looks Certain (selector_answer (look_of_place looks n) usages.Callee dot x).denoted m
+    selector_callee dots.Refused sure same = tt
+    selector_callee dots.Untyped sure same = by (is_blank x)
       where
         by : (b : Bool) → IsCalleeMeant looks Certain (if b then refused S8 else refused {T = T} {S = S} {D = D} {P = P} S4).denoted m
         by true = tt
         by false = tt
-    selector_callee (dots.«Package» d) same = by (is_blank x) same
+    selector_callee (dots.«Package» d) sure same = by (is_blank x) same
       where
         by : (b : Bool) → m ≡ mean (if b then refused S8 else exported_answer {P = P} usages.Callee (looks.exported d x)).outcome → IsCalleeMeant looks Certain (if b then refused S8 else exported_answer {P = P} usages.Callee (looks.exported d x)).denoted m
         by true same = tt
         by false same = exported_callee (looks.exported d x) (read.exported d x) same
-    selector_callee (dots.«Value» o) same = by (is_blank x) same
+    selector_callee (dots.«Value» o) sure same = by (is_blank x) same
       where
         by : (b : Bool) → m ≡ mean (if b then refused S8 else value_selector (look_of_place looks n) usages.Callee o.addressable (default_type looks.types o.value_type) x).outcome
             → IsCalleeMeant looks Certain (if b then refused S8 else value_selector (look_of_place looks n) usages.Callee o.addressable (default_type looks.types o.value_type) x).denoted m
         by true same = tt
-        by false same = selected_callee o.addressable (default_type looks.types o.value_type) same
+        by false same = selected_callee o.addressable (default_type looks.types o.value_type) sure same
 
 -- functions and methods
 

@@ -1,5 +1,5 @@
 -- Each expression of which code is made is an operand to the check, whose constant is the one that code folds.
-use Rattle.std.proofs.Common.{◌≡◌, ℕ, suc, Bool, true, false, ◌&&◌, List, Option, Some, refl, sym, ◌∙◌, ap, subst, if◌then◌else◌, arith}
+use Rattle.std.proofs.Common.{◌≡◌, ℕ, suc, Bool, true, false, not, ◌&&◌, ◌||◌, List, Option, Some, refl, sym, ◌∙◌, ap, subst, if◌then◌else◌, arith}
 use Rattle.std.specs.Prelude.{⊤, nat_eq, nat_lt, ◌^◌, pos}
 use Rattle.std.proofs.lemmas.Bool.{and_parts, eqb-true}
 use Rattle.go_text_core.specs.declared.span.Span.{Span}
@@ -9,6 +9,7 @@ use Rattle.go_tree_nodes.specs.Trees.{ExprTree, ItemTrees, Integer, Text, Named,
 use Rattle.go_tree_nodes.specs.Counts.{item_count}
 use Rattle.go_expr_core.specs.operand_core.declared.types.ValueType.TheVariants as value_types
 use Rattle.go_expr_core.specs.operand_core.Operators.{value}
+use Rattle.go_expr_core.specs.operand_core.Values.{basic_under, default_type}
 use Rattle.go_expr_core.specs.denote_core.declared.things.Stand.{Stand}
 use Rattle.go_expr_core.specs.denote_core.declared.things.Stand.TheVariants as stands
 use Rattle.go_expr_core.specs.denote_core.declared.things.Outcome.{Outcome}
@@ -17,6 +18,7 @@ use Rattle.go_expr_core.specs.denote_core.declared.things.Selection.{Selection}
 use Rattle.go_expr_core.specs.denote_core.declared.things.Selection.TheVariants as selections
 use Rattle.go_expr_core.specs.operand_core.TypeRules.{TypeRules}
 use Rattle.go_expr_core.specs.operand_core.declared.types.Operand.{Operand}
+use Rattle.go_expr_core.specs.denote_core.declared.things.Denoted.{Denoted}
 use Rattle.go_expr_core.specs.denote_core.declared.things.Denoted.TheVariants as denotes
 use Rattle.go_expr_core.specs.denote_core.Selectors.{dot_of}
 use Rattle.go_expr_core.specs.Looks.{Looks}
@@ -33,16 +35,16 @@ use Rattle.go_fragment_core.specs.declared.names.Meaning.{Meaning}
 use Rattle.go_fragment_core.specs.declared.names.Meaning.TheVariants as meanings
 use Rattle.go_fragment_core.specs.Names as code_names
 use Rattle.go_fragment_core.specs.Names.{Frame, frame_of, callee_meaning, word_of}
-use Rattle.go_fragment_core.specs.Fragment.{over, unary_word, binary_word, is_one, expr_gives, all_ones, receiver_fits, call_gives}
+use Rattle.go_fragment_core.specs.Fragment.{over, unary_word, binary_word, is_one, expr_gives, all_ones, receiver_fits, call_gives, means_method}
 use Rattle.go_fragment_core.specs.Constants.{held, some_held, folded, folded_one}
-use Rattle.go_fold_core.specs.Reading.{basic_of, IsMethodMeant, IsFieldMeant, IsSelectionMeant, IsMemberMeant, AreNamesRead, AreRead}
+use Rattle.go_fold_core.specs.Reading.{basic_of, IsMethodMeant, IsFieldMeant, IsSelectionMeant, IsMemberMeant, AreNamesRead, AreRead, AreReadOver}
 use Rattle.go_fold_core.specs.Laws.{is_text, IsNoText, constant_in, IsMeant, ConstantsAreFolded, IsFolded, ExpressionsAreFolded}
 use Rattle.go_fold_core.specs.Typed.{AreTyped, KeepBasics, ExpressionsAreTyped}
 use Rattle.go_fold_core.proofs.Words.{one_same}
 use Rattle.go_fold_core.proofs.Operators.{IsJudged, operand_judged, unary_of_judged, binary_of_judged}
 use Rattle.go_fold_core.proofs.Names.{name_judged, selector_judged, selected_name}
-use Rattle.go_fold_core.proofs.Calls.{IsCalleeMeant, other_callee, name_callee, selector_callee, IsOneArgument, call_judged}
-use Rattle.go_fold_core.proofs.Inside.{IsFine, ItemsAreFine, each_right, none_right, no_fault, fine, fine_inside, fine_operand, fine_first, fine_second, fine_callee, fine_arguments}
+use Rattle.go_fold_core.proofs.Calls.{IsCalleeMeant, IsDotMeant, other_callee, name_callee, selector_callee, IsOneArgument, call_judged}
+use Rattle.go_fold_core.proofs.Inside.{IsFine, ItemsAreFine, each_right, none_right, no_fault, fine, fine_inside, fine_operand, fine_first, fine_second, fine_left, fine_callee, fine_arguments}
 
 natural_no_text : (n : ℕ) → is_text (natural n) ≡ false
 natural_no_text n = by (nat_lt n (2 ^ 63))
@@ -69,11 +71,16 @@ if_one : (b : Bool) (g : Gives) (w : Word) → (if b then g else gives.Other) �
 if_one true g w h = (refl, h)
 if_one false g w h = absurd cc
 
+or_second : (a b : Bool) → not a || b ≡ true → a ≡ true → b ≡ true
+or_second true b h e = h
+or_second false b h e = absurd cc
+
 one_only : (n : ℕ) → nat_eq (suc (suc n)) 1 ≡ true → ⊥
 one_only n h = (let same : suc (suc n) ≡ 1 = eqb-true (suc (suc n)) 1 h in omega (arith, same))
 
 module _ {T S D P : Type 0} (looks : Looks T S D P) (code : code_names.CodeLooks) (mean : Outcome D P → Meaning) (slots : List (Option ℕ)) (read : AreNamesRead T S D P looks mean)
-    (Certain Known : Type 0) (sure : Certain → AreRead T S D P looks mean) (certain : Known → Certain) (typed : Known → AreTyped T S D P looks mean) (keep : Known → KeepBasics looks.types) where
+    (Certain Known : Type 0) (certain : Known → Certain) (typed : Known → AreTyped T S D P looks mean) (keep : Known → KeepBasics looks.types)
+    (sure : Certain → (o : Operand T) (w : Word) → (Known → basic_under looks.types o.value_type ≡ Some (basic_of w)) → (t : T) → default_type looks.types o.value_type ≡ Some t → (name : List ℕ) → IsSelectionMeant looks mean (looks.select t name)) where
   abbrev Fine : Stand → ExprTree → Type 0
   Fine p e = IsFine T S D P looks code mean p e
 
@@ -83,34 +90,44 @@ module _ {T S D P : Type 0} (looks : Looks T S D P) (code : code_names.CodeLooks
   abbrev Folds : Word → Stand → ExprTree → Type 0
   Folds w p e = IsJudged T S D looks.types Certain Known w (denoted looks p e) (folded code e)
 
-  -- what is called
-
-  callee_meant : (e : ExprTree) → Fine stands.Callee e → IsCalleeMeant looks Certain (denoted looks stands.Callee e) (callee_meaning code e)
-  callee_meant (Named x) h = name_callee looks mean Certain (code.meaning x.span.start) read sure x.name x.span.start h.meant.0.meaning
-  callee_meant (Select e dot x) h =
-      selector_callee looks mean Certain (code.meaning x.span.start) read sure x.name x.span.start (dot_of (is_name e) (denoted looks (left_place stands.Callee e) e))
-      (each_right (λ s. IsMeant D P code mean (use_of looks s)) (spots looks (left_place stands.Callee e) e) _ h.meant).0.meaning
-  callee_meant (Paren first e last) h = callee_meant e (record { meant = h.meant; sound = h.sound })
-  callee_meant (Integer n span) h = other_callee looks Certain (denoted looks stands.Callee (Integer n span))
-  callee_meant (Text t) h = other_callee looks Certain (denoted looks stands.Callee (Text t))
-  callee_meant (Unary op span e) h = other_callee looks Certain (denoted looks stands.Callee (Unary op span e))
-  callee_meant (Binary a op span b) h = other_callee looks Certain (denoted looks stands.Callee (Binary a op span b))
-  callee_meant (Call e first items last) h = other_callee looks Certain (denoted looks stands.Callee (Call e first items last))
-  callee_meant (Literal n first items last) h = other_callee looks Certain (denoted looks stands.Callee (Literal n first items last))
-  callee_meant (StructLiteral t first items last) h = other_callee looks Certain (denoted looks stands.Callee (StructLiteral t first items last))
-
   -- a call, by its one argument where it has one
 
-  call_folds : (p : Stand) (e : ExprTree) (first : Span) (items : ItemTrees) (last : Span) (w : Word) → Fine p (Call e first items last) → call_gives (callee_meaning code e) (item_count items) ≡ gives.One w
+  call_folds : (p : Stand) (e : ExprTree) (first : Span) (items : ItemTrees) (last : Span) (w : Word) → Fine p (Call e first items last) → IsCalleeMeant looks Certain (denoted looks stands.Callee e) (callee_meaning code e) → call_gives (callee_meaning code e) (item_count items) ≡ gives.One w
       → (nat_eq (item_count items) 1 ≡ true → IsOneArgument T S D looks.types Certain Known (denoted_items looks items) (folded_one code items)) → Folds w p (Call e first items last)
-  call_folds p e first items last w h one argument =
+  call_folds p e first items last w h meant one argument =
       call_judged looks Certain Known certain keep first.start (is_lone_call items) (denoted_items looks items) (folded_one code items) (item_count items) argument w (denoted looks stands.Callee e) (callee_meaning code e)
-      (callee_meant e (fine_callee looks code mean p e first items last h)) one
+      meant one
       (each_right (λ s. IsMeant D P code mean (use_of looks s)) (spots looks stands.Callee e) _ h.meant).0.declared
+
+  -- an operand over a word
+
+  operand_dot : (x : List ℕ) (d : Denoted T S D) (alone : Bool) (w : Word) (c : Option ConstantWord) → IsJudged T S D looks.types Certain Known w d c → Certain → IsDotMeant looks mean x (dot_of alone d)
+  operand_dot x d alone w c j is =
+      let o = j.operand is in
+      subst (λ (y : Denoted T S D). IsDotMeant looks mean x (dot_of alone y)) (sym o.1) (λ t of. sure is o.0 w (λ known. j.over known o.0 o.1) t of x)
 
   -- all forms
 
   mutual
+    -- what is called: a method is one of an operand over a word
+    callee_meant : (e : ExprTree) → Fine stands.Callee e → receiver_fits frame e ≡ true → IsCalleeMeant looks Certain (denoted looks stands.Callee e) (callee_meaning code e)
+    callee_meant (Named x) h fit = name_callee looks mean Certain (code.meaning x.span.start) read x.name x.span.start h.meant.0.meaning
+    callee_meant (Select e dot x) h fit =
+        selector_callee looks mean Certain (code.meaning x.span.start) read x.name x.span.start (dot_of (is_name e) (denoted looks (left_place stands.Callee e) e))
+        (λ is method. (
+        let one : (v : Word) × (expr_gives frame e ≡ gives.One v) = one_word (expr_gives frame e) (or_second (means_method (code.meaning x.span.start)) (is_one (expr_gives frame e)) fit method) in
+        operand_dot x.name (denoted looks (left_place stands.Callee e) e) (is_name e) one.0 (folded code e) (folds (left_place stands.Callee e) e one.0 (fine_left looks code mean stands.Callee e dot x h) one.1) is
+        ))
+        (each_right (λ s. IsMeant D P code mean (use_of looks s)) (spots looks (left_place stands.Callee e) e) _ h.meant).0.meaning
+    callee_meant (Paren first e last) h fit = callee_meant e (record { meant = h.meant; sound = h.sound }) fit
+    callee_meant (Integer n span) h fit = other_callee looks Certain (denoted looks stands.Callee (Integer n span))
+    callee_meant (Text t) h fit = other_callee looks Certain (denoted looks stands.Callee (Text t))
+    callee_meant (Unary op span e) h fit = other_callee looks Certain (denoted looks stands.Callee (Unary op span e))
+    callee_meant (Binary a op span b) h fit = other_callee looks Certain (denoted looks stands.Callee (Binary a op span b))
+    callee_meant (Call e first items last) h fit = other_callee looks Certain (denoted looks stands.Callee (Call e first items last))
+    callee_meant (Literal n first items last) h fit = other_callee looks Certain (denoted looks stands.Callee (Literal n first items last))
+    callee_meant (StructLiteral t first items last) h fit = other_callee looks Certain (denoted looks stands.Callee (StructLiteral t first items last))
+
     folds : (p : Stand) (e : ExprTree) (w : Word) → Fine p e → expr_gives frame e ≡ gives.One w → Folds w p e
     folds p (Integer n span) w h one =
         operand_judged S D looks.types Certain Known w (value value_types.UntypedInt (Some (natural n))) (held (natural n)) refl (natural_no_text n)
@@ -139,7 +156,8 @@ module _ {T S D P : Type 0} (looks : Looks T S D P) (code : code_names.CodeLooks
     folds p (Call e first items last) w h one =
         let by : (receiver_fits frame e && all_ones frame items ≡ true) × (call_gives (callee_meaning code e) (item_count items) ≡ gives.One w) =
         if_one (receiver_fits frame e && all_ones frame items) (call_gives (callee_meaning code e) (item_count items)) w one in
-        call_folds p e first items last w h by.1 (one_folds items (fine_arguments looks code mean p e first items last h) (and_parts (receiver_fits frame e) (all_ones frame items) by.0).1)
+        let fit = and_parts (receiver_fits frame e) (all_ones frame items) by.0 in
+        call_folds p e first items last w h (callee_meant e (fine_callee looks code mean p e first items last h) fit.0) by.1 (one_folds items (fine_arguments looks code mean p e first items last h) fit.1)
     folds p (Literal n first items last) w h one = absurd cc
     folds p (StructLiteral t first items last) w h one = absurd cc
 
@@ -170,10 +188,14 @@ module _ {T S D P : Type 0} (looks : Looks T S D P) (mean : Outcome D P → Mean
 
 -- the laws
 
+-- what is asked of all types is asked of those of operands over words
+pub read_over : {T S D P : Type 0} (looks : Looks T S D P) (mean : Outcome D P → Meaning) → AreRead T S D P looks mean → AreReadOver T S D P looks mean
+read_over looks mean read = record { all = names_read looks mean read; selected = λ v w over t of name. read.selected t name }
+
 pub constants_folded : (T S D P : Type 0) → ConstantsAreFolded T S D P
 constants_folded T S D P looks code mean slots p e read meant sound q x there w one =
     let j : IsJudged T S D looks.types ⊥ ⊥ w (denoted looks q x) (folded code x) =
-    folds looks code mean slots read ⊥ ⊥ (λ known. absurd known) (λ known. known) (λ known. absurd known) (λ known. absurd known) q x w (fine_inside looks code mean p e (fine looks code mean p e meant sound) q x there) one in
+    folds looks code mean slots read ⊥ ⊥ (λ known. known) (λ known. absurd known) (λ known. absurd known) (λ certain. absurd certain) q x w (fine_inside looks code mean p e (fine looks code mean p e meant sound) q x there) one in
     record { value = j.value; no_text = j.no_text }
 
 operand_folded : {T S D P : Type 0} (looks : Looks T S D P) (code : code_names.CodeLooks) (q : Stand) (x : ExprTree) (o : Operand T) → denoted looks q x ≡ denotes.«Value» o → folded code x ≡ some_held (constant_in (denoted looks q x))
@@ -183,13 +205,13 @@ operand_folded looks code q x o is value text = record { operand = o; denotes = 
 pub expressions_folded : (T S D P : Type 0) → ExpressionsAreFolded T S D P
 expressions_folded T S D P looks code mean slots p e read meant sound q x there w one =
     let j : IsJudged T S D looks.types ⊤ ⊥ w (denoted looks q x) (folded code x) =
-    folds looks code mean slots (names_read looks mean read) ⊤ ⊥ (λ s. read) (λ known. absurd known) (λ known. absurd known) (λ known. absurd known) q x w
+    folds looks code mean slots (names_read looks mean read) ⊤ ⊥ (λ known. absurd known) (λ known. absurd known) (λ known. absurd known) (λ certain o v over u of name. read.selected u name) q x w
     (fine_inside looks code mean p e (fine looks code mean p e meant sound) q x there) one in
     operand_folded looks code q x (j.operand tt).0 (j.operand tt).1 j.value j.no_text
 
 pub expressions_typed : (T S D P : Type 0) → ExpressionsAreTyped T S D P
 expressions_typed T S D P looks code mean slots p e read typed keep meant sound q x there w one =
     let j : IsJudged T S D looks.types ⊤ ⊤ w (denoted looks q x) (folded code x) =
-    folds looks code mean slots (names_read looks mean read) ⊤ ⊤ (λ s. read) (λ known. known) (λ known. typed) (λ known. keep) q x w
+    folds looks code mean slots read.all ⊤ ⊤ (λ known. known) (λ known. typed) (λ known. keep) (λ certain o v over u of name. read.selected o.value_type v (over tt) u of name) q x w
     (fine_inside looks code mean p e (fine looks code mean p e meant sound) q x there) one in
     record { operand = (j.operand tt).0; denotes = (j.operand tt).1; over = j.over tt (j.operand tt).0 (j.operand tt).1; word = j.word tt }

@@ -5,9 +5,10 @@ use Rattle.std.specs.Prelude.{◌≡◌, ℕ, ⊤, List, [], ◌∷◌, Option, 
 use Rattle.go_fragment_core.specs.constant_core.declared.values.Constant.{Constant}
 use Rattle.go_term_core.specs.declared.term.Basic.{Basic}
 use Rattle.go_term_core.specs.declared.term.Basic.TheVariants as basics
+use Rattle.go_expr_core.specs.operand_core.declared.types.ValueType.{ValueType}
 use Rattle.go_expr_core.specs.operand_core.declared.types.Operand.{Operand}
 use Rattle.go_expr_core.specs.operand_core.TypeRules.{TypeRules}
-use Rattle.go_expr_core.specs.operand_core.Values.{form_basic}
+use Rattle.go_expr_core.specs.operand_core.Values.{form_basic, basic_under, default_type}
 use Rattle.go_expr_core.specs.denote_core.declared.things.Outcome.{Outcome}
 use Rattle.go_expr_core.specs.denote_core.declared.things.Outcome.TheVariants as outcomes
 use Rattle.go_expr_core.specs.denote_core.declared.things.Found.{Found}
@@ -174,3 +175,9 @@ pub record AreRead (T S D P : Type 0) (looks : Looks T S D P) (mean : Outcome D 
   pub names : (name : List ℕ) (offset : ℕ) → IsFoundMeant looks mean (looks.find name offset)
   pub exported : (d : D) (name : List ℕ) → IsExportedMeant looks mean (looks.exported d name)
   pub selected : (t : T) (name : List ℕ) → IsSelectionMeant looks mean (looks.select t name)
+
+-- The same, and calls of methods give what their signatures give, of the types of operands over `int` and `bool` alone: of no other call of a method code is
+-- made. Nothing is asked of terms that no such operand has, as an interface type that is written out is one.
+pub record AreReadOver (T S D P : Type 0) (looks : Looks T S D P) (mean : Outcome D P → Meaning) : Type 0 where
+  pub all : AreNamesRead T S D P looks mean
+  pub selected : (v : ValueType T) (w : Word) → basic_under looks.types v ≡ Some (basic_of w) → (t : T) → default_type looks.types v ≡ Some t → (name : List ℕ) → IsSelectionMeant looks mean (looks.select t name)

@@ -30,7 +30,7 @@ use Rattle.go_fragment_core.specs.Names as code_names
 use Rattle.go_fragment_core.specs.Names.{word_of, frame_of}
 use Rattle.go_fragment_core.specs.Fragment.{expr_gives}
 use Rattle.go_fragment_core.specs.Constants.{folded}
-use Rattle.go_fold_core.specs.Reading.{AreRead, basic_of}
+use Rattle.go_fold_core.specs.Reading.{AreReadOver, basic_of}
 use Rattle.go_fold_core.specs.Parts.{parts}
 use Rattle.go_fold_core.specs.Laws.{AreMeant}
 
@@ -86,6 +86,6 @@ pub record IsTyped (T S D P : Type 0) (looks : Looks T S D P) (code : code_names
 -- the same of an expression whose names are over what their types are over
 abbrev pub ExpressionsAreTyped : (T S D P : Type 0) → Type 0
 ExpressionsAreTyped T S D P = (looks : Looks T S D P) (code : code_names.CodeLooks) (mean : Outcome D P → Meaning) (slots : List (Option ℕ)) (p : Stand) (e : ExprTree)
-    → AreRead T S D P looks mean → AreTyped T S D P looks mean → KeepBasics looks.types → AreMeant code mean (uses looks p e) → faults looks p e ≡ []
+    → AreReadOver T S D P looks mean → AreTyped T S D P looks mean → KeepBasics looks.types → AreMeant code mean (uses looks p e) → faults looks p e ≡ []
     → (q : Stand) (x : ExprTree) → Contains (parts p e) (q, x) → (w : Word) → expr_gives (frame_of code slots) x ≡ gives.One w
     → IsTyped T S D P looks code q x w

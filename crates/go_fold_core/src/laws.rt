@@ -19,8 +19,9 @@ pub fn expressions_are_folded<T, S, D, P>()
     ensures { ExpressionsAreFolded T S D P }
 {}
 
-/// A law, with nothing to run: where each variable and each constant that a name stands for is over what its type is over, so is each such part of the
-/// expression, and so is the constant that code folds it to.
+/// A law, with nothing to run: where calls of methods of operands over `int` and `bool` give in code what the methods' signatures give, and each variable and each
+/// constant that a name stands for is over what its type is over, each such part of the expression is a single value to the check, over the same, and so is the
+/// constant that code folds it to. Nothing is asked of the members of other types.
 ///
 /// The Go specification, "Constant expressions": the values of typed constants must always be accurately representable by values of the constant type. "Conversions".
 pub fn expressions_are_typed<T, S, D, P>()

@@ -1,46 +1,51 @@
 -- The functions to which references lead.
-use Rattle.std.proofs.Common.{◌≡◌, Bool, true, false, List, Some, refl, sym, ap, ◌∙◌, subst}
+use Rattle.std.proofs.Common.{◌≡◌, ℕ, Bool, true, false, List, Option, Some, refl, sym, ap, ◌∙◌, subst}
+use Rattle.std.specs.Prelude.{slice_get}
 use Rattle.go_tree_nodes.specs.Rules.{Wf_file}
 use Rattle.go_tree_nodes.specs.Spelling.{IsPlaced}
-use Rattle.go_decl_core.specs.TopDecls.{top_decls}
-use Rattle.go_local_core.specs.Binding.{Local}
-use Rattle.go_env_core.specs.declared.meaning.Meaning.{Meaning as NameMeaning}
-use Rattle.go_file_core.specs.Laws.{FunctionsArePlaced}
-use Rattle.go_file_core.specs.Stands.{file_funcs}
-use Rattle.go_func_core.specs.Functions.{walked_func}
-use Rattle.go_func_core.specs.Laws.{FunctionsHaveOneTable}
-use Rattle.go_ready_core.specs.Packages.{trees_in}
-use Rattle.go_part_core.specs.Slots.{somes}
-use Rattle.go_fragment_core.specs.Inside.{in_fragment}
-use Rattle.go_fragment_core.specs.Names.{CodeLooks}
-use Rattle.go_code_core.specs.Code.{frame_in}
-use Rattle.go_means_core.specs.Meaning.{SourceOf}
-use Rattle.go_link_core.specs.Reaching.{ReachesOutside}
-use Rattle.go_launch_core.specs.Located.{place_declared}
-use Rattle.go_emit_core.specs.Emitted.{body_first}
-use Rattle.go_sources_core.specs.Laws.{ObjectsAreCodeOfSources}
-use Rattle.go_sources_core.specs.Sources.{sources_of}
-use Rattle.go_snap_core.specs.entry_core.Among.{among_from}
-use Rattle.go_laws_core.specs.ConstantLaws.{code_names_of}
-use Rattle.go_laws_core.specs.Standing.{stand_in_part}
-use Rattle.go_laws_core.proofs.ConstantLists.{contained, has_get, has_of_all}
-use Rattle.go_laws_core.proofs.Declaring.{declared_in}
-use Rattle.go_called_core.specs.Places.{IsSourceAt, ReferencesLeadToTheirs}
-use Rattle.go_called_core.proofs.Sourced.{func_there}
-use Rattle.go_typed_core.specs.Functions.{IsFunction, source_with}
+use Rattle.go_faultless_core.specs.decl_core.TopDecls.{top_decls}
+use Rattle.go_faultless_core.specs.decl_core.declared.keys.DeclRef.{DeclRef}
+use Rattle.go_faultless_core.specs.local_core.Binding.{Local}
+use Rattle.go_faultless_core.specs.env_core.declared.meaning.Meaning.{Meaning as NameMeaning}
+use Rattle.go_faultless_core.specs.file_core.Laws.{FunctionsArePlaced}
+use Rattle.go_faultless_core.specs.file_core.Stands.{file_funcs}
+use Rattle.go_faultless_core.specs.func_core.Functions.{walked_func}
+use Rattle.go_faultless_core.specs.func_core.Laws.{FunctionsHaveOneTable}
+use Rattle.go_faultless_core.specs.ready_core.Packages.{trees_in}
+use Rattle.go_faultless_core.specs.graph_core.Workspaces.{IsWorkspace, PackageModel}
+use Rattle.go_faultless_core.specs.part_core.Parts.{PartModel}
+use Rattle.go_faultless_core.specs.part_core.Slots.{somes}
+use Rattle.go_faultless_core.specs.whole_core.Inputs.{AreParts}
+use Rattle.go_faultless_core.specs.fragment_core.Inside.{in_fragment}
+use Rattle.go_faultless_core.specs.fragment_core.Names.{CodeLooks}
+use Rattle.go_faultless_core.specs.code_core.Code.{frame_in}
+use Rattle.go_faultless_core.specs.means_core.Meaning.{SourceOf}
+use Rattle.go_faultless_core.specs.link_core.Reaching.{ReachesOutside}
+use Rattle.go_faultless_core.specs.launch_core.Located.{place_declared}
+use Rattle.go_faultless_core.specs.emit_core.Emitted.{body_first}
+use Rattle.go_faultless_core.specs.sources_core.Laws.{ObjectsAreCodeOfSources}
+use Rattle.go_faultless_core.specs.sources_core.Sources.{sources_of}
+use Rattle.go_faultless_core.specs.entry_core.Among.{among_from}
+use Rattle.go_faultless_core.specs.laws_core.ConstantLaws.{code_names_of}
+use Rattle.go_faultless_core.specs.laws_core.Standing.{stand_in_part}
+use Rattle.go_faultless_core.specs.laws_core.ConstantLists.{contained, has_get, has_of_all}
+use Rattle.go_faultless_core.specs.laws_core.Declaring.{declared_in}
+use Rattle.go_faultless_core.specs.called_core.Places.{IsSourceAt, ReferencesLeadToTheirs}
+use Rattle.go_faultless_core.specs.called_core.Sourced.{func_there}
+use Rattle.go_faultless_core.specs.typed_core.Functions.{IsFunction, source_with}
 use Rattle.go_faultless_core.specs.Parts.{PartsAreAmong, PartsShowTheirTypes}
 use Rattle.go_faultless_core.specs.Runs.{callees_of}
 use Rattle.go_kept_core.proofs.Reaching.{leads_outside}
-use Rattle.go_kept_core.specs.Callees.{DeclarationsArePlaced, FunctionsTakeWords, ReachedAreInside, ReachedTakeWords, ReferencesLeadToFunctions}
+use Rattle.go_kept_core.specs.Callees.{DeclarationsArePlaced, FunctionsTakeWords, IsFunctionAt, ReachedAreInside, ReachedTakeWords, ReferencesLeadToFunctions}
 
 pub are_placed : DeclarationsArePlaced
 are_placed path d = refl
 
-pub lead_to_functions : DeclarationsArePlaced → ReferencesLeadToTheirs → PartsAreAmong → FunctionsHaveOneTable → FunctionsArePlaced → ReferencesLeadToFunctions
-lead_to_functions placed theirs among one funcs ws parts well made path d number is =
+-- the source of a number that is declared there is that of a function of which nothing is reported
+pub function_at : PartsAreAmong → FunctionsHaveOneTable → FunctionsArePlaced → (ws : List PackageModel) (parts : List (Option PartModel)) → IsWorkspace ws → AreParts ws parts → (path : List ℕ) (d : DeclRef) (number : ℕ) (s : SourceOf)
+    → slice_get (sources_of place_declared (somes parts)) number ≡ Some s → IsSourceAt place_declared (somes parts) path d s → IsFunctionAt (somes parts) path d number
+function_at among one funcs ws parts well made path d number s is a =
     let ps = somes parts in
-    let r = theirs place_declared ps placed path d number is in
-    let a : IsSourceAt place_declared ps path d r.0 = r.2 in
     let p = a.part in
     let right = among ws parts well made p a.there in
     let n = d.file in
@@ -63,7 +68,7 @@ lead_to_functions placed theirs among one funcs ws parts well made path d number
       right = (one.table (stand_in_part p.input p.content n t) g (funcs t order g func) all).1 refl;
     } in
     let callees = callees_of place_declared ps f g in
-    let same : r.0 ≡ source_with (code_names_of p.input p.content n f g) callees g = a.is ∙ ap (λ (l : CodeLooks). source_with l callees g) (right.alike n f (body_first f.answers.uses g) a.made) in
+    let same : s ≡ source_with (code_names_of p.input p.content n f g) callees g = a.is ∙ ap (λ (l : CodeLooks). source_with l callees g) (right.alike n f (body_first f.answers.uses g) a.made) in
     record {
       part = p;
       there = a.there;
@@ -77,8 +82,13 @@ lead_to_functions placed theirs among one funcs ws parts well made path d number
       among = a.among;
       declared = a.number;
       form = a.form;
-      is = r.1 ∙ ap (λ (x : SourceOf). Some x) same;
+      is = is ∙ ap (λ (x : SourceOf). Some x) same;
     }
+
+pub lead_to_functions : DeclarationsArePlaced → ReferencesLeadToTheirs → PartsAreAmong → FunctionsHaveOneTable → FunctionsArePlaced → ReferencesLeadToFunctions
+lead_to_functions placed theirs among one funcs ws parts well made path d number is =
+    let r = theirs place_declared (somes parts) placed path d number is in
+    function_at among one funcs ws parts well made path d number r.0 r.1 r.2
 
 pub inside_reached : ObjectsAreCodeOfSources → ReachedAreInside
 inside_reached code ps main r runnable number s reached is = go (in_fragment (frame_in s.looks s.tree) s.tree) refl

@@ -2,27 +2,27 @@
 use Rattle.std.proofs.Common.{◌≡◌, inl, inr, ℕ, suc, ◌&&◌, List, [], ◌∷◌, map, Option, Some, None, nat_eq, refl, sym, ap, subst, ◌∙◌, if◌then◌else◌}
 use Rattle.std.specs.Prelude.{option_map, slice_get, slice_index_or}
 use Rattle.std.proofs.lemmas.Option.{slice_get-map}
-use Rattle.go_decl_core.specs.declared.keys.DeclRef.{DeclRef}
+use Rattle.go_faultless_core.specs.decl_core.declared.keys.DeclRef.{DeclRef}
 use Rattle.go_tree_nodes.specs.Trees.{FileTree}
 use Rattle.go_term_core.specs.Terms.{Sign}
-use Rattle.go_entry_core.specs.Entries.{file_at}
-use Rattle.go_entry_core.specs.Meanings.{file_meaning}
-use Rattle.go_entry_core.specs.Outlines.{FileOutline, IsOutline, outline_of}
-use Rattle.go_face_core.specs.declared.face.Face.TheVariants as faces
-use Rattle.go_face_core.specs.Faces.{TheFace}
-use Rattle.go_face_core.specs.Laws.{PositionsAreExact}
-use Rattle.go_face_core.specs.Written.{WrittenOf, face_found, form_as_written, position_of, same_decl_place}
-use Rattle.go_env_core.specs.Found.{face_at}
-use Rattle.go_ready_core.specs.Laws.{package_placed}
-use Rattle.go_ready_core.specs.Packages.{PackageIn, outlines_in, scene_in, trees_in}
-use Rattle.go_part_core.specs.Parts.{package_seen, seen_by}
-use Rattle.go_part_core.specs.Slots.{somes}
-use Rattle.go_clear_core.specs.Statements.{AreOverEach}
-use Rattle.go_laws_core.specs.ConstantLaws.{code_names_of}
-use Rattle.go_snap_core.specs.entry_core.Among.{Among}
-use Rattle.go_snap_core.specs.whole_core.Lists.{all_from_among}
-use Rattle.go_launch_core.specs.Located.{place_declared}
-use Rattle.go_typed_core.specs.Functions.{function_looks, known_types, source_with}
+use Rattle.go_faultless_core.specs.entry_core.Entries.{file_at}
+use Rattle.go_faultless_core.specs.entry_core.Meanings.{file_meaning}
+use Rattle.go_faultless_core.specs.entry_core.Outlines.{FileOutline, IsOutline, outline_of}
+use Rattle.go_faultless_core.specs.face_core.declared.face.Face.TheVariants as faces
+use Rattle.go_faultless_core.specs.face_core.Faces.{TheFace}
+use Rattle.go_faultless_core.specs.face_core.Laws.{PositionsAreExact}
+use Rattle.go_faultless_core.specs.face_core.Written.{WrittenOf, face_found, form_as_written, position_of, same_decl_place}
+use Rattle.go_faultless_core.specs.env_core.Found.{face_at}
+use Rattle.go_faultless_core.specs.ready_core.Laws.{package_placed}
+use Rattle.go_faultless_core.specs.ready_core.Packages.{PackageIn, outlines_in, scene_in, trees_in}
+use Rattle.go_faultless_core.specs.part_core.Parts.{package_seen, seen_by}
+use Rattle.go_faultless_core.specs.part_core.Slots.{somes}
+use Rattle.go_faultless_core.specs.clear_core.Statements.{AreOverEach}
+use Rattle.go_faultless_core.specs.laws_core.ConstantLaws.{code_names_of}
+use Rattle.go_faultless_core.specs.entry_core.Among.{Among}
+use Rattle.go_faultless_core.specs.whole_core.Lists.{all_from_among}
+use Rattle.go_faultless_core.specs.launch_core.Located.{place_declared}
+use Rattle.go_faultless_core.specs.typed_core.Functions.{function_looks, known_types, source_with}
 use Rattle.go_faultless_core.specs.Parts.{PartsAreAmong}
 use Rattle.go_faultless_core.specs.Runs.{callees_of}
 use Rattle.go_kept_core.specs.Callees.{FunctionsTakeWords, ReachedAreInside}
@@ -37,7 +37,7 @@ position_same (w ∷ ws) a b f n =
     ap (λ m. nat_eq w.decl.file m && nat_eq w.decl.number a.number) f ∙ ap (λ m. nat_eq w.decl.file b.file && nat_eq w.decl.number m) n in
     ap (λ t. if t then Some 0 else option_map suc (position_of ws a)) first ∙ ap (λ o. if same_decl_place w.decl b then Some 0 else option_map suc o) (position_same ws a b f n)
 
-outlined : (ts : List FileTree) (o : FileOutline) → Among (map outline_of ts) o → IsOutline o
+pub outlined : (ts : List FileTree) (o : FileOutline) → Among (map outline_of ts) o → IsOutline o
 outlined [] o h = absurd h
 outlined (t ∷ ts) o (inl e) = (t, sym e)
 outlined (t ∷ ts) o (inr h) = outlined ts o h

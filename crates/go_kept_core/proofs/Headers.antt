@@ -1,37 +1,37 @@
 -- The types of a header are those of its signature.
 use Rattle.std.proofs.Common.{◌≡◌, inl, inr, ℕ, true, List, [], ◌∷◌, ◌++◌, length, replicate, Option, Some, None, refl, sym, ap, ◌∙◌, subst, if◌then◌else◌}
-use Rattle.go_text_core.proofs.Each.{Each}
+use Rattle.go_faultless_core.specs.text_core.Each.{Each}
 use Rattle.go_tree_nodes.specs.declared.names.Ident.{Ident}
 use Rattle.go_tree_nodes.specs.declared.types.TypeName.{TypeName}
 use Rattle.go_tree_nodes.specs.declared.types.TypeName.TheVariants as type_names
 use Rattle.go_tree_nodes.specs.Trees.{FileTree, FuncTree, Separated, One, Then, TypeTree, ParamTrees, NoParams, Param, SignatureTree, Signed}
 use Rattle.go_tree_nodes.specs.WrittenTypes.{params_types, result_types, signature_types}
-use Rattle.go_local_core.specs.Binding.{Local, bound}
-use Rattle.go_local_core.specs.Outline.{idents}
-use Rattle.go_local_core.specs.Steps.{Piece, Header}
-use Rattle.go_decl_core.specs.declared.keys.DeclKey.{DeclKey}
+use Rattle.go_faultless_core.specs.local_core.Binding.{Local, bound}
+use Rattle.go_faultless_core.specs.local_core.Outline.{idents}
+use Rattle.go_faultless_core.specs.local_core.Steps.{Piece, Header}
+use Rattle.go_faultless_core.specs.decl_core.declared.keys.DeclKey.{DeclKey}
 use Rattle.go_term_core.specs.Terms.{Term, Terms, NoType}
-use Rattle.go_settle_core.specs.declared.kind.Kind.{Kind}
-use Rattle.go_handle_core.specs.settle_core.Settled.{settled, settled_sign, settled_terms}
-use Rattle.go_written_core.specs.Written.{Meaning as WrittenMeaning, for_each, for_names, params_of_tree, signature_of, term_of}
-use Rattle.go_inline_core.specs.Inline.{inline_of}
-use Rattle.go_table_core.specs.Entries.{Entry, find_entry, kinds_in}
-use Rattle.go_decide_core.specs.Rules.{all_typed, param_types_of, typed}
-use Rattle.go_piece_core.specs.Headers.{entry_types, of_entry}
-use Rattle.go_expr_core.specs.Denoting.{written_type}
-use Rattle.go_env_core.specs.declared.meaning.Meaning.{Meaning as NameMeaning}
-use Rattle.go_env_core.specs.Looks.{TheLooks, inline_type}
-use Rattle.go_func_core.specs.Functions.{func_rules}
-use Rattle.go_func_core.specs.Stands.{FileStand, kinds_in_scene, outer_look, outer_meanings}
-use Rattle.go_func_core.specs.Types.{named_where}
-use Rattle.go_func_core.proofs.Alike.{types_same}
-use Rattle.go_func_core.proofs.Regions.{header_unseen, none_outside}
-use Rattle.go_part_core.specs.Inputs.{InputModel}
-use Rattle.go_part_core.specs.Parts.{ContentOf, FileOf}
-use Rattle.go_laws_core.specs.Standing.{stand_in_part}
-use Rattle.go_laws_core.proofs.ConstantLists.{HasItem}
-use Rattle.go_typed_core.specs.Functions.{IsFunction, function_looks, known_types}
-use Rattle.go_typed_core.proofs.Ready.{AreGiven, placed}
+use Rattle.go_faultless_core.specs.settle_core.declared.kind.Kind.{Kind}
+use Rattle.go_faultless_core.specs.settle_core.Settled.{settled, settled_sign, settled_terms}
+use Rattle.go_faultless_core.specs.written_core.Written.{Meaning as WrittenMeaning, for_each, for_names, params_of_tree, signature_of, term_of}
+use Rattle.go_faultless_core.specs.inline_core.Inline.{inline_of}
+use Rattle.go_faultless_core.specs.table_core.Entries.{Entry, find_entry, kinds_in}
+use Rattle.go_faultless_core.specs.decide_core.Rules.{all_typed, param_types_of, typed}
+use Rattle.go_faultless_core.specs.piece_core.Headers.{entry_types, of_entry}
+use Rattle.go_faultless_core.specs.expr_core.Denoting.{written_type}
+use Rattle.go_faultless_core.specs.env_core.declared.meaning.Meaning.{Meaning as NameMeaning}
+use Rattle.go_faultless_core.specs.env_core.Looks.{TheLooks, inline_type}
+use Rattle.go_faultless_core.specs.func_core.Functions.{func_rules}
+use Rattle.go_faultless_core.specs.func_core.Stands.{FileStand, kinds_in_scene, outer_look, outer_meanings}
+use Rattle.go_faultless_core.specs.func_core.Types.{named_where}
+use Rattle.go_faultless_core.specs.func_core.Alike.{types_same}
+use Rattle.go_faultless_core.specs.func_core.Regions.{header_unseen, none_outside}
+use Rattle.go_faultless_core.specs.part_core.Inputs.{InputModel}
+use Rattle.go_faultless_core.specs.part_core.Parts.{ContentOf, FileOf}
+use Rattle.go_faultless_core.specs.laws_core.Standing.{stand_in_part}
+use Rattle.go_faultless_core.specs.laws_core.ConstantLists.{HasItem}
+use Rattle.go_faultless_core.specs.typed_core.Functions.{IsFunction, function_looks, known_types}
+use Rattle.go_faultless_core.specs.typed_core.Ready.{AreGiven, placed}
 use Rattle.go_kept_core.specs.Callees.{types_taken}
 use Rattle.go_kept_core.specs.Headers.{HeadersAreOfSignatures, signature_in}
 
@@ -92,7 +92,7 @@ module _ (laws : AreGiven) (i : InputModel) (c : ContentOf) (n : ℕ) (t : FileT
   abbrev kind : DeclKey → Kind
   kind = kinds_in_scene stand.scene
 
-  type_same : (u : TypeTree) → HasItem (signature_types g.signature) u → typed (find_entry (known_types i c)) (settled (kinds_in (known_types i c)) (term_of stand.top stand.file u)) ≡ written_type the_looks u
+  pub type_same : (u : TypeTree) → HasItem (signature_types g.signature) u → typed (find_entry (known_types i c)) (settled (kinds_in (known_types i c)) (term_of stand.top stand.file u)) ≡ written_type the_looks u
   type_same u k =
       let outer = each_item (λ (v : TypeTree). inline_of kind stand.file (named_where (bound (outer_meanings stand) all) stand.top) v ≡ inline_of kind stand.file (named_where (outer_look stand) stand.top) v) (signature_types g.signature) u
       (types_same kind stand.file stand.top (bound (outer_meanings stand) all) (outer_look stand) header (header_unseen (func_rules stand g) (outer_meanings stand) all g (placed laws i c n t f g all h) h.right)) k in

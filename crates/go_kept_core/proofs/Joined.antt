@@ -1,15 +1,15 @@
 -- The functions to which a part's references to its own lead are its own.
 use Rattle.std.proofs.Common.{◌≡◌, Some, refl, sym, ap, subst, ◌∙◌}
 use Rattle.std.specs.Prelude.{slice_get}
-use Rattle.go_part_core.specs.Inputs.{path_in}
-use Rattle.go_part_core.specs.Parts.{PartModel}
-use Rattle.go_part_core.specs.Slots.{somes}
-use Rattle.go_snap_core.specs.entry_core.Among.{among_from}
-use Rattle.go_snap_core.specs.whole_core.Inputs.{Tells}
-use Rattle.go_snap_core.specs.whole_core.Parts.{path_told, told_apart}
-use Rattle.go_snap_core.specs.whole_core.PartsWhole.{all_right}
-use Rattle.go_clear_core.specs.Statements.{AreOverEach}
-use Rattle.go_typed_core.specs.Functions.{function_looks}
+use Rattle.go_faultless_core.specs.part_core.Inputs.{path_in}
+use Rattle.go_faultless_core.specs.part_core.Parts.{PartModel}
+use Rattle.go_faultless_core.specs.part_core.Slots.{somes}
+use Rattle.go_faultless_core.specs.entry_core.Among.{among_from}
+use Rattle.go_faultless_core.specs.whole_core.Inputs.{Tells}
+use Rattle.go_faultless_core.specs.whole_core.Parts.{path_told, told_apart}
+use Rattle.go_faultless_core.specs.whole_core.PartsWhole.{all_right}
+use Rattle.go_faultless_core.specs.clear_core.Statements.{AreOverEach}
+use Rattle.go_faultless_core.specs.typed_core.Functions.{function_looks}
 use Rattle.go_faultless_core.proofs.Alike.{numbered_in}
 use Rattle.go_kept_core.specs.Callees.{ReferencesLeadToFunctions}
 use Rattle.go_kept_core.specs.Callers.{IsOwnFunction, OwnCalleesTakeWords, OwnReferencesTakeWords, PartsOfAPathAreOne}

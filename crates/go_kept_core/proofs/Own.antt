@@ -8,32 +8,32 @@ use Rattle.go_tree_nodes.specs.declared.decls.ValueKind.{ValueKind}
 use Rattle.go_tree_nodes.specs.declared.decls.ValueKind.TheVariants as kinds
 use Rattle.go_tree_nodes.specs.Spelling.{IsPlaced}
 use Rattle.go_tree_nodes.specs.Trees.{FileTree, FuncTree, TypeTree, ValueSpecTree}
-use Rattle.go_decl_core.specs.TopDecls.{FormTree, FuncForm, TopDeclTree, TypeForm, ValueForm, top_decls}
-use Rattle.go_decl_core.specs.declared.keys.DeclRef.{DeclRef}
+use Rattle.go_faultless_core.specs.decl_core.TopDecls.{FormTree, FuncForm, TopDeclTree, TypeForm, ValueForm, top_decls}
+use Rattle.go_faultless_core.specs.decl_core.declared.keys.DeclRef.{DeclRef}
 use Rattle.go_term_core.specs.Terms.{Sign}
-use Rattle.go_written_core.specs.Written.{InFile as WrittenFile, Meaning as WrittenMeaning, signature_of}
-use Rattle.go_handle_core.specs.settle_core.Settled.{settled_sign}
-use Rattle.go_table_core.specs.Entries.{Entry, kinds_in}
-use Rattle.go_entry_core.specs.Entries.{file_at, package_meanings}
-use Rattle.go_entry_core.specs.Outlines.{FileOutline, outline_of}
-use Rattle.go_face_core.specs.declared.face.Face.TheVariants as faces
-use Rattle.go_face_core.specs.Faces.{TheFace}
-use Rattle.go_face_core.specs.Written.{WrittenOf, face_found, file_written, form_as_written, position_of, same_decl_place, value_as_written, written_at, written_of}
-use Rattle.go_env_core.specs.Found.{face_at}
-use Rattle.go_env_core.specs.Looks.{TheLooks}
-use Rattle.go_env_core.specs.Scenes.{SceneModel}
-use Rattle.go_value_core.specs.Laws.{AreFaces}
-use Rattle.go_value_core.specs.Package.{PlacedOf, form_face, some_face, top_looks, value_face, written_face}
-use Rattle.go_ready_core.specs.Laws.{package_placed}
-use Rattle.go_ready_core.specs.Packages.{PackageIn, outlines_in, scene_in, trees_in}
-use Rattle.go_ready_core.specs.Values.{AreDeclared}
-use Rattle.go_ready_core.proofs.Tables.{values_as_written}
-use Rattle.go_summary_core.specs.Summaries.{SummaryModel}
-use Rattle.go_summary_core.specs.Views.{types_told}
-use Rattle.go_part_core.specs.Inputs.{InputModel}
-use Rattle.go_part_core.specs.Parts.{ContentOf, IsPart, package_seen, seen_by}
-use Rattle.go_laws_core.proofs.ConstantLists.{HasItem, contained, from_flat, has_get}
-use Rattle.go_typed_core.specs.Functions.{known_types}
+use Rattle.go_faultless_core.specs.written_core.Written.{InFile as WrittenFile, Meaning as WrittenMeaning, signature_of}
+use Rattle.go_faultless_core.specs.settle_core.Settled.{settled_sign}
+use Rattle.go_faultless_core.specs.table_core.Entries.{Entry, kinds_in}
+use Rattle.go_faultless_core.specs.entry_core.Entries.{file_at, package_meanings}
+use Rattle.go_faultless_core.specs.entry_core.Outlines.{FileOutline, outline_of}
+use Rattle.go_faultless_core.specs.face_core.declared.face.Face.TheVariants as faces
+use Rattle.go_faultless_core.specs.face_core.Faces.{TheFace}
+use Rattle.go_faultless_core.specs.face_core.Written.{WrittenOf, face_found, file_written, form_as_written, position_of, same_decl_place, value_as_written, written_at, written_of}
+use Rattle.go_faultless_core.specs.env_core.Found.{face_at}
+use Rattle.go_faultless_core.specs.env_core.Looks.{TheLooks}
+use Rattle.go_faultless_core.specs.env_core.Scenes.{SceneModel}
+use Rattle.go_faultless_core.specs.value_core.Laws.{AreFaces}
+use Rattle.go_faultless_core.specs.value_core.Package.{PlacedOf, form_face, some_face, top_looks, value_face, written_face}
+use Rattle.go_faultless_core.specs.ready_core.Laws.{package_placed}
+use Rattle.go_faultless_core.specs.ready_core.Packages.{PackageIn, outlines_in, scene_in, trees_in}
+use Rattle.go_faultless_core.specs.ready_core.Values.{AreDeclared}
+use Rattle.go_faultless_core.specs.ready_core.Tables.{values_as_written}
+use Rattle.go_faultless_core.specs.summary_core.Summaries.{SummaryModel}
+use Rattle.go_faultless_core.specs.summary_core.Views.{types_told}
+use Rattle.go_faultless_core.specs.part_core.Inputs.{InputModel}
+use Rattle.go_faultless_core.specs.part_core.Parts.{ContentOf, IsPart, package_seen, seen_by}
+use Rattle.go_faultless_core.specs.laws_core.ConstantLists.{HasItem, contained, from_flat, has_get}
+use Rattle.go_faultless_core.specs.typed_core.Functions.{known_types}
 use Rattle.go_kept_core.specs.Headers.{signature_in}
 use Rattle.go_kept_core.specs.Own.{IsDeclaredFunction, OwnFunctionsAreDeclared}
 

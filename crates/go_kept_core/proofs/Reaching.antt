@@ -3,17 +3,17 @@ use Rattle.std.proofs.Common.{◌≡◌, inl, inr, ℕ, zero, suc, ◌+◌, fals
 use Rattle.std.specs.Prelude.{option_map, slice_get}
 use Rattle.std.specs.List.{flat_map}
 use Rattle.std.proofs.lemmas.Option.{slice_get-map}
-use Rattle.go_cycle_core.specs.declared.edge.Edge.{Edge}
-use Rattle.go_cycle_core.specs.Cycle.{Leads, Reaches}
-use Rattle.go_machine_core.specs.Programs.{LinkedOf}
-use Rattle.go_instruction_core.specs.declared.instruction.Instruction.TheVariants as instructions
-use Rattle.go_fragment_core.specs.Inside.{in_fragment}
-use Rattle.go_code_core.specs.Code.{body_code, frame_in}
-use Rattle.go_link_core.specs.Reaching.{edge, edge_if, edges_from, call_edges, is_outside, ReachesOutside}
-use Rattle.go_means_core.specs.Meaning.{SourceOf}
-use Rattle.go_means_core.specs.Whole.{linked_source, code_of_program}
-use Rattle.go_fit_core.specs.Laws.{IsReached, Begins, IsCalled}
-use Rattle.go_laws_core.proofs.ConstantLists.{HasItem, contained, has, has_left, has_right}
+use Rattle.go_faultless_core.specs.cycle_core.declared.edge.Edge.{Edge}
+use Rattle.go_faultless_core.specs.cycle_core.Cycle.{Leads, Reaches}
+use Rattle.go_faultless_core.specs.machine_core.Programs.{LinkedOf}
+use Rattle.go_faultless_core.specs.instruction_core.declared.instruction.Instruction.TheVariants as instructions
+use Rattle.go_faultless_core.specs.fragment_core.Inside.{in_fragment}
+use Rattle.go_faultless_core.specs.code_core.Code.{body_code, frame_in}
+use Rattle.go_faultless_core.specs.link_core.Reaching.{edge, edge_if, edges_from, call_edges, is_outside, ReachesOutside}
+use Rattle.go_faultless_core.specs.means_core.Meaning.{SourceOf}
+use Rattle.go_faultless_core.specs.means_core.Whole.{linked_source, code_of_program}
+use Rattle.go_faultless_core.specs.fit_core.Laws.{IsReached, Begins, IsCalled}
+use Rattle.go_faultless_core.specs.laws_core.ConstantLists.{HasItem, contained, has, has_left, has_right}
 
 -- edges from functions to those that they refer to
 

@@ -4,24 +4,24 @@ use Rattle.std.proofs.lemmas.Bool.{and_parts}
 use Rattle.go_tree_nodes.specs.declared.names.Ident.{Ident}
 use Rattle.go_tree_nodes.specs.Trees.{Separated, One, Then, TypeTree, ParamTrees, NoParams, Param, SignatureTree, Signed}
 use Rattle.go_tree_nodes.specs.WrittenTypes.{params_types, result_types, signature_types}
-use Rattle.go_local_core.specs.Outline.{idents}
+use Rattle.go_faultless_core.specs.local_core.Outline.{idents}
 use Rattle.go_term_core.specs.Terms.{Term}
-use Rattle.go_operand_core.specs.TypeRules.{TypeRules}
-use Rattle.go_piece_core.specs.Headers.{entry_types, of_entry}
-use Rattle.go_expr_core.specs.Denoting.{written_type}
-use Rattle.go_env_core.specs.Looks.{TheLooks}
-use Rattle.go_instruction_core.specs.declared.letters.Word.{Word}
-use Rattle.go_fragment_core.specs.Fragment.{type_word}
-use Rattle.go_fragment_core.specs.Inside.{params_inside, receiver_inside, results_inside, signature_inside}
-use Rattle.go_fragment_core.specs.Names.{CodeLooks}
-use Rattle.go_fold_core.specs.Reading.{IsOver}
-use Rattle.go_fit_core.specs.Fitting.{entry_over, names_over, params_over, receiver_over, signature_over}
-use Rattle.go_laws_core.specs.ConstantLaws.{code_names_of}
-use Rattle.go_laws_core.proofs.ConstantLists.{HasItem}
-use Rattle.go_clear_core.specs.Statements.{AreOverEach}
-use Rattle.go_typed_core.specs.Functions.{function_looks}
-use Rattle.go_typed_core.proofs.Ready.{AreGiven}
-use Rattle.go_typed_core.proofs.Types.{header_over}
+use Rattle.go_faultless_core.specs.operand_core.TypeRules.{TypeRules}
+use Rattle.go_faultless_core.specs.piece_core.Headers.{entry_types, of_entry}
+use Rattle.go_faultless_core.specs.expr_core.Denoting.{written_type}
+use Rattle.go_faultless_core.specs.env_core.Looks.{TheLooks}
+use Rattle.go_faultless_core.specs.instruction_core.declared.letters.Word.{Word}
+use Rattle.go_faultless_core.specs.fragment_core.Fragment.{type_word}
+use Rattle.go_faultless_core.specs.fragment_core.Inside.{params_inside, receiver_inside, results_inside, signature_inside}
+use Rattle.go_faultless_core.specs.fragment_core.Names.{CodeLooks}
+use Rattle.go_faultless_core.specs.fold_core.Reading.{IsOver}
+use Rattle.go_faultless_core.specs.fit_core.Fitting.{entry_over, names_over, params_over, receiver_over, signature_over}
+use Rattle.go_faultless_core.specs.laws_core.ConstantLaws.{code_names_of}
+use Rattle.go_faultless_core.specs.laws_core.ConstantLists.{HasItem}
+use Rattle.go_faultless_core.specs.clear_core.Statements.{AreOverEach}
+use Rattle.go_faultless_core.specs.typed_core.Functions.{function_looks}
+use Rattle.go_faultless_core.specs.typed_core.Ready.{AreGiven}
+use Rattle.go_faultless_core.specs.typed_core_lemmas.Types.{header_over}
 use Rattle.go_kept_core.specs.Callees.{FunctionsTakeWords, types_taken}
 
 -- words over types

@@ -3,36 +3,36 @@
 -- docs/RULES.md, "Stack code", "Programs". The Go specification, "Calls", "Function declarations", "Function types".
 use Rattle.std.specs.Prelude.{◌≡◌, ℕ, true, List, map, Option, Some, None, Contains, slice_get}
 use Rattle.go_tree_nodes.specs.Trees.{FileTree, FuncTree, SignatureTree, Signed}
-use Rattle.go_decl_core.specs.TopDecls.{FuncForm, TopDeclTree, top_decls}
-use Rattle.go_decl_core.specs.declared.keys.DeclRef.{DeclRef}
-use Rattle.go_local_core.specs.Binding.{Local}
+use Rattle.go_faultless_core.specs.decl_core.TopDecls.{FuncForm, TopDeclTree, top_decls}
+use Rattle.go_faultless_core.specs.decl_core.declared.keys.DeclRef.{DeclRef}
+use Rattle.go_faultless_core.specs.local_core.Binding.{Local}
 use Rattle.go_term_core.specs.Terms.{Term}
 use Rattle.go_term_core.specs.declared.term.MemberPlace.TheVariants as places
-use Rattle.go_piece_core.specs.Headers.{entry_types}
-use Rattle.go_handle_core.specs.Declarations.{InFile}
-use Rattle.go_env_core.specs.declared.meaning.Meaning.{Meaning as NameMeaning}
-use Rattle.go_env_core.specs.Looks.{TheLooks}
-use Rattle.go_graph_core.specs.Workspaces.{IsWorkspace, PackageModel}
-use Rattle.go_part_core.specs.Inputs.{InputModel, path_in}
-use Rattle.go_part_core.specs.Parts.{ContentOf, FileOf, PartModel}
-use Rattle.go_part_core.specs.Slots.{somes}
-use Rattle.go_whole_core.specs.Inputs.{AreParts}
-use Rattle.go_instruction_core.specs.declared.letters.Word.{Word}
-use Rattle.go_fragment_core.specs.Inside.{in_fragment}
-use Rattle.go_code_core.specs.Code.{frame_in}
-use Rattle.go_means_core.specs.Meaning.{SourceOf}
-use Rattle.go_fit_core.specs.Fitting.{IsDeclared, signature_gives, taken_by}
-use Rattle.go_fit_core.specs.Laws.{IsReached}
-use Rattle.go_link_core.specs.Functions.{all_functions, number_of}
-use Rattle.go_link_core.specs.Linked.{IsRunnable, RunnableOf, program_of}
-use Rattle.go_launch_core.specs.Located.{place_declared}
-use Rattle.go_emit_core.specs.Emitted.{objects_of}
-use Rattle.go_sources_core.specs.Sources.{sources_of}
-use Rattle.go_laws_core.specs.ConstantLaws.{code_names_of}
-use Rattle.go_clear_core.specs.Statements.{AreOverEach}
-use Rattle.go_called_core.specs.Places.{IsPlacing}
-use Rattle.go_typed_core.specs.Functions.{IsFunction, function_looks, source_with}
-use Rattle.go_typed_core.specs.Written.{ShowTheirTypes}
+use Rattle.go_faultless_core.specs.piece_core.Headers.{entry_types}
+use Rattle.go_faultless_core.specs.handle_core.Declarations.{InFile}
+use Rattle.go_faultless_core.specs.env_core.declared.meaning.Meaning.{Meaning as NameMeaning}
+use Rattle.go_faultless_core.specs.env_core.Looks.{TheLooks}
+use Rattle.go_faultless_core.specs.graph_core.Workspaces.{IsWorkspace, PackageModel}
+use Rattle.go_faultless_core.specs.part_core.Inputs.{InputModel, path_in}
+use Rattle.go_faultless_core.specs.part_core.Parts.{ContentOf, FileOf, PartModel}
+use Rattle.go_faultless_core.specs.part_core.Slots.{somes}
+use Rattle.go_faultless_core.specs.whole_core.Inputs.{AreParts}
+use Rattle.go_faultless_core.specs.instruction_core.declared.letters.Word.{Word}
+use Rattle.go_faultless_core.specs.fragment_core.Inside.{in_fragment}
+use Rattle.go_faultless_core.specs.code_core.Code.{frame_in}
+use Rattle.go_faultless_core.specs.means_core.Meaning.{SourceOf}
+use Rattle.go_faultless_core.specs.fit_core.Fitting.{IsDeclared, signature_gives, taken_by}
+use Rattle.go_faultless_core.specs.fit_core.Laws.{IsReached}
+use Rattle.go_faultless_core.specs.link_core.Functions.{all_functions, number_of}
+use Rattle.go_faultless_core.specs.link_core.Linked.{IsRunnable, RunnableOf, program_of}
+use Rattle.go_faultless_core.specs.launch_core.Located.{place_declared}
+use Rattle.go_faultless_core.specs.emit_core.Emitted.{objects_of}
+use Rattle.go_faultless_core.specs.sources_core.Sources.{sources_of}
+use Rattle.go_faultless_core.specs.laws_core.ConstantLaws.{code_names_of}
+use Rattle.go_faultless_core.specs.clear_core.Statements.{AreOverEach}
+use Rattle.go_faultless_core.specs.called_core.Places.{IsPlacing}
+use Rattle.go_faultless_core.specs.typed_core.Functions.{IsFunction, function_looks, source_with}
+use Rattle.go_faultless_core.specs.typed_core.Written.{ShowTheirTypes}
 use Rattle.go_faultless_core.specs.Runs.{callees_of}
 
 -- each declaration outside functions is launched at the place of its identifier

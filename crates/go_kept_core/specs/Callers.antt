@@ -4,32 +4,32 @@
 use Rattle.std.specs.Prelude.{◌≡◌, ℕ, All, List, Option, Some, None, Contains, slice_get}
 use Rattle.go_tree_nodes.specs.Spelling.{IsPlaced}
 use Rattle.go_tree_nodes.specs.Trees.{FileTree, FuncTree}
-use Rattle.go_decl_core.specs.TopDecls.{FuncForm, TopDeclTree, top_decls}
-use Rattle.go_decl_core.specs.declared.keys.DeclRef.{DeclRef}
-use Rattle.go_local_core.specs.Binding.{Local}
+use Rattle.go_faultless_core.specs.decl_core.TopDecls.{FuncForm, TopDeclTree, top_decls}
+use Rattle.go_faultless_core.specs.decl_core.declared.keys.DeclRef.{DeclRef}
+use Rattle.go_faultless_core.specs.local_core.Binding.{Local}
 use Rattle.go_term_core.specs.Terms.{Sign}
 use Rattle.go_term_core.specs.declared.term.MemberPlace.TheVariants as places
-use Rattle.go_handle_core.specs.Declarations.{InFile}
-use Rattle.go_face_core.specs.declared.face.Face.TheVariants as faces
-use Rattle.go_env_core.specs.Found.{own_face}
-use Rattle.go_env_core.specs.declared.meaning.Meaning.{Meaning as NameMeaning}
-use Rattle.go_graph_core.specs.Workspaces.{IsWorkspace, PackageModel}
-use Rattle.go_ready_core.specs.Packages.{scene_in, trees_in}
-use Rattle.go_part_core.specs.Inputs.{InputModel, path_in}
-use Rattle.go_part_core.specs.Parts.{ContentOf, IsPart, PartModel, package_seen, seen_by}
-use Rattle.go_part_core.specs.Slots.{somes}
-use Rattle.go_whole_core.specs.Inputs.{AreParts}
-use Rattle.go_instruction_core.specs.declared.letters.Word.{Word}
-use Rattle.go_fit_core.specs.Fitting.{IsDeclared, signature_gives}
-use Rattle.go_fit_core.specs.Laws.{IsReached}
-use Rattle.go_link_core.specs.Functions.{all_functions, number_of}
-use Rattle.go_link_core.specs.Linked.{IsRunnable, RunnableOf, program_of}
-use Rattle.go_launch_core.specs.Located.{place_declared}
-use Rattle.go_emit_core.specs.Emitted.{objects_of}
-use Rattle.go_sources_core.specs.Sources.{sources_of}
-use Rattle.go_laws_core.specs.ConstantLaws.{code_names_of}
-use Rattle.go_clear_core.specs.Statements.{AreOverEach}
-use Rattle.go_typed_core.specs.Functions.{function_looks, known_types}
+use Rattle.go_faultless_core.specs.handle_core.Declarations.{InFile}
+use Rattle.go_faultless_core.specs.face_core.declared.face.Face.TheVariants as faces
+use Rattle.go_faultless_core.specs.env_core.Found.{own_face}
+use Rattle.go_faultless_core.specs.env_core.declared.meaning.Meaning.{Meaning as NameMeaning}
+use Rattle.go_faultless_core.specs.graph_core.Workspaces.{IsWorkspace, PackageModel}
+use Rattle.go_faultless_core.specs.ready_core.Packages.{scene_in, trees_in}
+use Rattle.go_faultless_core.specs.part_core.Inputs.{InputModel, path_in}
+use Rattle.go_faultless_core.specs.part_core.Parts.{ContentOf, IsPart, PartModel, package_seen, seen_by}
+use Rattle.go_faultless_core.specs.part_core.Slots.{somes}
+use Rattle.go_faultless_core.specs.whole_core.Inputs.{AreParts}
+use Rattle.go_faultless_core.specs.instruction_core.declared.letters.Word.{Word}
+use Rattle.go_faultless_core.specs.fit_core.Fitting.{IsDeclared, signature_gives}
+use Rattle.go_faultless_core.specs.fit_core.Laws.{IsReached}
+use Rattle.go_faultless_core.specs.link_core.Functions.{all_functions, number_of}
+use Rattle.go_faultless_core.specs.link_core.Linked.{IsRunnable, RunnableOf, program_of}
+use Rattle.go_faultless_core.specs.launch_core.Located.{place_declared}
+use Rattle.go_faultless_core.specs.emit_core.Emitted.{objects_of}
+use Rattle.go_faultless_core.specs.sources_core.Sources.{sources_of}
+use Rattle.go_faultless_core.specs.laws_core.ConstantLaws.{code_names_of}
+use Rattle.go_faultless_core.specs.clear_core.Statements.{AreOverEach}
+use Rattle.go_faultless_core.specs.typed_core.Functions.{function_looks, known_types}
 use Rattle.go_kept_core.specs.Callees.{IsFunctionAt}
 use Rattle.go_kept_core.specs.Headers.{signature_in}
 

@@ -3,16 +3,16 @@
 -- docs/RULES.md, "Faces of declarations", "Types inside functions". The Go specification, "Function types", "Declarations and scope".
 use Rattle.std.specs.Prelude.{◌≡◌, ℕ, List}
 use Rattle.go_tree_nodes.specs.Trees.{FileTree, FuncTree}
-use Rattle.go_local_core.specs.Binding.{Local}
+use Rattle.go_faultless_core.specs.local_core.Binding.{Local}
 use Rattle.go_term_core.specs.Terms.{Sign}
-use Rattle.go_written_core.specs.Written.{signature_of}
-use Rattle.go_handle_core.specs.settle_core.Settled.{settled_sign}
-use Rattle.go_table_core.specs.Entries.{kinds_in}
-use Rattle.go_env_core.specs.declared.meaning.Meaning.{Meaning as NameMeaning}
-use Rattle.go_part_core.specs.Inputs.{InputModel}
-use Rattle.go_part_core.specs.Parts.{ContentOf, FileOf}
-use Rattle.go_laws_core.specs.Standing.{stand_in_part}
-use Rattle.go_typed_core.specs.Functions.{IsFunction, function_looks, known_types}
+use Rattle.go_faultless_core.specs.written_core.Written.{signature_of}
+use Rattle.go_faultless_core.specs.settle_core.Settled.{settled_sign}
+use Rattle.go_faultless_core.specs.table_core.Entries.{kinds_in}
+use Rattle.go_faultless_core.specs.env_core.declared.meaning.Meaning.{Meaning as NameMeaning}
+use Rattle.go_faultless_core.specs.part_core.Inputs.{InputModel}
+use Rattle.go_faultless_core.specs.part_core.Parts.{ContentOf, FileOf}
+use Rattle.go_faultless_core.specs.laws_core.Standing.{stand_in_part}
+use Rattle.go_faultless_core.specs.typed_core.Functions.{IsFunction, function_looks, known_types}
 use Rattle.go_kept_core.specs.Callees.{types_taken}
 
 -- the signature of a function of the file of a number, by what names mean at the top of the file, settled among the types that the package knows

@@ -4,15 +4,15 @@
 use Rattle.std.specs.Prelude.{◌≡◌, All, Some, Contains, slice_get}
 use Rattle.go_tree_nodes.specs.Spelling.{IsPlaced}
 use Rattle.go_tree_nodes.specs.Trees.{FileTree, FuncTree}
-use Rattle.go_decl_core.specs.TopDecls.{FuncForm, TopDeclTree, top_decls}
-use Rattle.go_decl_core.specs.declared.keys.DeclRef.{DeclRef}
+use Rattle.go_faultless_core.specs.decl_core.TopDecls.{FuncForm, TopDeclTree, top_decls}
+use Rattle.go_faultless_core.specs.decl_core.declared.keys.DeclRef.{DeclRef}
 use Rattle.go_term_core.specs.Terms.{Sign}
-use Rattle.go_face_core.specs.declared.face.Face.TheVariants as faces
-use Rattle.go_env_core.specs.Found.{own_face}
-use Rattle.go_ready_core.specs.Packages.{scene_in, trees_in}
-use Rattle.go_part_core.specs.Inputs.{InputModel}
-use Rattle.go_part_core.specs.Parts.{ContentOf, IsPart, package_seen, seen_by}
-use Rattle.go_typed_core.specs.Functions.{known_types}
+use Rattle.go_faultless_core.specs.face_core.declared.face.Face.TheVariants as faces
+use Rattle.go_faultless_core.specs.env_core.Found.{own_face}
+use Rattle.go_faultless_core.specs.ready_core.Packages.{scene_in, trees_in}
+use Rattle.go_faultless_core.specs.part_core.Inputs.{InputModel}
+use Rattle.go_faultless_core.specs.part_core.Parts.{ContentOf, IsPart, package_seen, seen_by}
+use Rattle.go_faultless_core.specs.typed_core.Functions.{known_types}
 use Rattle.go_kept_core.specs.Headers.{signature_in}
 
 -- the file of a number of a package declares a function by the identifier of a number, and this is the signature that is written there

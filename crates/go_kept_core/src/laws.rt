@@ -2,16 +2,23 @@
 ghost use Rattle.go_kept_core.specs.Callers.{OwnCalleesTakeWords, OwnReferencesTakeWords, OwnSignaturesAreTheirs, PartsOfAPathAreOne};
 ghost use Rattle.go_kept_core.specs.Callees.{DeclarationsArePlaced, FunctionsTakeWords, ReachedAreInside, ReachedTakeWords, ReferencesLeadToFunctions};
 ghost use Rattle.go_kept_core.specs.Headers.{HeadersAreOfSignatures};
+ghost use Rattle.go_kept_core.specs.Kept.{ProgramsRun, ReferencesAreKept};
 ghost use Rattle.go_kept_core.specs.Own.{OwnFunctionsAreDeclared};
+ghost use Rattle.go_kept_core.specs.Reached.{ReachedAreInProgram, SeenAreInProgram};
+ghost use Rattle.go_kept_core.specs.Shown.{FunctionsAreOfParts, FunctionsHaveNumbers, HeadersGiveTheirResults, NamesLeadToNoMethods, SignaturesAreAlike};
 
-use go_called_core::references_lead_to_theirs;
-use go_emit_core::{bodies_are_between_braces, objects_are_of_faultless};
-use go_face_core::positions_are_exact;
-use go_faultless_core::{parts_are_among, parts_show_their_types};
-use go_laws_core::file_core::functions_are_placed;
-use go_laws_core::func_core::{functions_have_one_table, locals_are_declarations};
-use go_snap_core::whole_core::imports_bind_theirs;
-use go_sources_core::objects_are_code_of_sources;
+use go_faultless_core::called_core::{references_lead_to_theirs, starts_take_nothing};
+use go_faultless_core::emit_core::{bodies_are_between_braces, objects_are_of_faultless};
+use go_faultless_core::face_core::positions_are_exact;
+use go_faultless_core::file_core::functions_are_placed;
+use go_faultless_core::func_core::{functions_have_one_table, locals_are_declarations};
+use go_faultless_core::sources_core::objects_are_code_of_sources;
+use go_faultless_core::typed_core::functions_fit;
+use go_faultless_core::whole_core::{check_is_local, imports_bind_theirs};
+use go_faultless_core::{
+    calls_are_served, functions_are_served, parts_are_among, parts_show_their_types,
+    reached_programs_run,
+};
 
 /// Each declaration outside functions is at the place of its identifier.
 ///
@@ -130,4 +137,117 @@ pub fn own_references_take_words()
     parts_of_a_path_are_one();
     references_lead_to_functions();
     own_callees_take_words();
+}
+
+/// In a program of a workspace that can be run each function that is reached is of a package that has an object, which is the package that is run, or one that
+/// this reaches by imports.
+///
+/// The Go specification, "Program initialization and execution", "Import declarations".
+pub fn reached_are_in_program()
+    ensures { ReachedAreInProgram }
+{
+    check_is_local();
+    imports_bind_theirs();
+    references_lead_to_theirs();
+    declarations_are_placed();
+    parts_of_a_path_are_one();
+    parts_are_among();
+    functions_have_one_table();
+    functions_are_placed();
+}
+
+/// In a program of a workspace that can be run nothing is reported of the packages that a package of the program reaches by imports, and they are of the program.
+///
+/// The Go specification, "Program initialization and execution", "Import declarations".
+pub fn seen_are_in_program()
+    ensures { SeenAreInProgram }
+{
+    check_is_local();
+    imports_bind_theirs();
+    references_lead_to_theirs();
+    declarations_are_placed();
+    parts_of_a_path_are_one();
+}
+
+/// A function of a package of which nothing is reported has a number in the program.
+///
+/// The Go specification, "Function declarations", "Program execution".
+pub fn functions_have_numbers()
+    ensures { FunctionsHaveNumbers }
+{}
+
+/// What the check of a package takes for a function is one that a package declares under a name of its block, itself or one that it reaches, and code has for it
+/// what its signature gives.
+///
+/// The Go specification, "Function declarations", "Qualified identifiers", "Exported identifiers".
+pub fn functions_are_of_parts()
+    ensures { FunctionsAreOfParts }
+{}
+
+/// A function to which a name of a package block leads has no receiver.
+///
+/// The Go specification, "Method declarations", "Declarations and scope".
+pub fn names_lead_to_no_methods()
+    ensures { NamesLeadToNoMethods }
+{}
+
+/// What a call gives by the signature of a function of which code is made is what the function's own header gives.
+///
+/// The Go specification, "Function types", "Calls".
+pub fn headers_give_their_results()
+    ensures { HeadersGiveTheirResults }
+{
+    bodies_are_between_braces();
+    functions_are_placed();
+    functions_have_one_table();
+    imports_bind_theirs();
+    locals_are_declarations();
+    objects_are_of_faultless();
+}
+
+/// The signature of a function gives the same in each package that reaches its own, and words that are over its parameters there are so here.
+///
+/// The Go specification, "Packages", "Exported identifiers", "Function types".
+pub fn signatures_are_alike()
+    ensures { SignaturesAreAlike }
+{
+    check_is_local();
+    imports_bind_theirs();
+}
+
+/// In a program of a workspace that can be run each function to which a function of the program refers is there, of its own package or of another; it takes words
+/// over the parameters of the signature by which its calls were checked, and gives what the caller's code has for it.
+///
+/// The Go specification, "Calls", "Function declarations", "Qualified identifiers".
+pub fn references_are_kept()
+    ensures { ReferencesAreKept }
+{
+    functions_are_of_parts();
+    seen_are_in_program();
+    functions_have_numbers();
+    parts_are_among();
+    names_lead_to_no_methods();
+    own_references_take_words();
+    own_signatures_are_theirs();
+    headers_give_their_results();
+    reached_are_inside();
+    signatures_are_alike();
+}
+
+/// A program of a snapshot that can be run comes to what its sources mean, where the methods to which the functions that are reached refer are there, and
+/// take and give words of the signatures by which their calls were checked.
+///
+/// The Go specification, "Packages", "Program initialization and execution".
+pub fn programs_run()
+    ensures { ProgramsRun }
+{
+    reached_are_in_program();
+    references_are_kept();
+    functions_are_served();
+    calls_are_served();
+    functions_fit();
+    parts_are_among();
+    starts_take_nothing();
+    objects_are_code_of_sources();
+    reached_programs_run();
 }

@@ -9,7 +9,7 @@ pub mod Clean
 pub mod CodeFunctions
 pub mod ConstantCalling
 pub mod ConstantLists
-mod ConstantMethods
+pub mod ConstantMethods
 pub mod Declaring
 pub mod FileStanding
 pub mod FileTelling
@@ -27,7 +27,7 @@ mod Packages
 pub mod Parts
 pub mod Pieces
 pub mod Placed
-mod Reading
+pub mod Reading
 pub mod Referring
 pub mod Refusing
 mod Scenes

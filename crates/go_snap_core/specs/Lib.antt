@@ -28,6 +28,7 @@ pub mod package_core
 pub mod part_core
 pub mod piece_core
 pub mod ready_core
+pub mod report_core
 pub mod summary_core
 pub mod table_core
 pub mod type_core

@@ -1,26 +1,26 @@
 -- What names of a function stand for is what they come to in code, and over the same, calls of methods too.
 use Rattle.std.proofs.Common.{ℕ, List, Some, None}
 use Rattle.go_tree_nodes.specs.Trees.{FileTree, FuncTree}
-use Rattle.go_local_core.specs.Binding.{Local}
+use Rattle.go_clear_core.specs.local_core.Binding.{Local}
 use Rattle.go_term_core.specs.Terms.{Term, Sign}
-use Rattle.go_operand_core.specs.declared.types.ValueType.{ValueType}
-use Rattle.go_operand_core.specs.TypeRules.{TypeRules}
-use Rattle.go_denote_core.specs.declared.things.Exported.TheVariants as exporteds
-use Rattle.go_denote_core.specs.declared.things.Found.TheVariants as founds
-use Rattle.go_denote_core.specs.declared.things.Outcome.{Outcome}
-use Rattle.go_denote_core.specs.declared.things.Outcome.TheVariants as outcomes
+use Rattle.go_clear_core.specs.operand_core.declared.types.ValueType.{ValueType}
+use Rattle.go_clear_core.specs.operand_core.TypeRules.{TypeRules}
+use Rattle.go_clear_core.specs.denote_core.declared.things.Exported.TheVariants as exporteds
+use Rattle.go_clear_core.specs.denote_core.declared.things.Found.TheVariants as founds
+use Rattle.go_clear_core.specs.denote_core.declared.things.Outcome.{Outcome}
+use Rattle.go_clear_core.specs.denote_core.declared.things.Outcome.TheVariants as outcomes
 use Rattle.go_handle_core.specs.Declarations.{Declaration}
 use Rattle.go_env_core.specs.declared.meaning.Meaning.{Meaning as NameMeaning}
 use Rattle.go_env_core.specs.Found.{TheExported, TheFound}
 use Rattle.go_env_core.specs.Looks.{TheLooks}
 use Rattle.go_part_core.specs.Inputs.{InputModel, path_in}
 use Rattle.go_part_core.specs.Parts.{ContentOf, FileOf}
-use Rattle.go_fragment_core.specs.declared.names.Meaning.{Meaning}
-use Rattle.go_fragment_core.specs.declared.names.Meaning.TheVariants as meanings
-use Rattle.go_fold_core.specs.Reading.{AreRead}
-use Rattle.go_fold_core.specs.Typed.{AreTyped, IsExportedTyped, IsFoundTyped, IsOperandTyped}
-use Rattle.go_laws_core.specs.Calling.{without_method}
-use Rattle.go_laws_core.proofs.Names.{are_read}
+use Rattle.go_clear_core.specs.fragment_core.declared.names.Meaning.{Meaning}
+use Rattle.go_clear_core.specs.fragment_core.declared.names.Meaning.TheVariants as meanings
+use Rattle.go_clear_core.specs.fold_core.Reading.{AreReadOver}
+use Rattle.go_clear_core.specs.fold_core.Typed.{AreTyped, IsExportedTyped, IsFoundTyped, IsOperandTyped}
+use Rattle.go_clear_core.specs.laws_core.Calling.{without_method}
+use Rattle.go_clear_core.specs.laws_core.Names.{are_read}
 use Rattle.go_clear_core.specs.Pieces.{ConstantsAreTyped}
 use Rattle.go_clear_core.specs.Statements.{AreAlike}
 use Rattle.go_clear_core.proofs.Named.{are_typed}
@@ -72,6 +72,6 @@ module _ (laws : AreGiven) (i : InputModel) (c : ContentOf) (n : ℕ) (t : FileT
         exported = λ d name. exported_calm (function_looks i c n t all) (meaning_there i c n f) ((function_looks i c n t all).exported d name) (calm.exported d name);
       }
 
-  pub alike : AreRead Term Sign Declaration (List ℕ) (function_looks i c n t all) (meaning_there i c n f) → ConstantsAreTyped Term Sign Declaration (List ℕ) (function_looks i c n t all)
+  pub alike : AreReadOver Term Sign Declaration (List ℕ) (function_looks i c n t all) (meaning_there i c n f) → ConstantsAreTyped Term Sign Declaration (List ℕ) (function_looks i c n t all)
       → AreAlike Term Sign Declaration (List ℕ) (function_looks i c n t all) (meaning_there i c n f)
   alike methods constants = record { read = methods; typed = typed constants; keep = types_keep_basics.keep (known_types i c) (path_in i); identity = types_keep_basics.identity (known_types i c) (path_in i) }

@@ -2,56 +2,56 @@
 use Rattle.std.proofs.Common.{◌≡◌, inl, inr, ℕ, zero, suc, ◌+◌, ◌<◌, nat_eq, Bool, true, false, cond, List, [], ◌∷◌, ◌++◌, map, replicate, length, ◌==◌, Option, Some, None, is_some, Contains, refl, sym, ap, ◌∙◌, subst, arith, if◌then◌else◌}
 use Rattle.std.specs.List.{flat_map, position_from}
 use Rattle.std.proofs.lemmas.Bool.{and_parts, eq-eqb}
-use Rattle.go_text_core.specs.Text.{is_blank}
+use Rattle.go_clear_core.specs.text_core.Text.{is_blank}
 use Rattle.go_tree_nodes.specs.declared.names.Ident.{Ident}
 use Rattle.go_tree_nodes.specs.declared.files.Receiver.{Receiver}
 use Rattle.go_tree_nodes.specs.declared.decls.ValueKind.TheVariants as value_kinds
 use Rattle.go_tree_nodes.specs.Trees.{FileTree, FuncTree, Named, Separated, One, Then, ParamTrees, NoParams, Param, ResultTree, NoResult, OneResult, Results, SignatureTree, Signed, Alone, Step, Assign, Update, Define}
 use Rattle.go_tree_nodes.proofs.InOrder.{in_order_ends}
-use Rattle.go_local_core.specs.Binding.{Local, bound, is_first, is_second}
-use Rattle.go_local_core.specs.Denoted as denoted
-use Rattle.go_local_core.specs.Law.{declared_from, law_out}
-use Rattle.go_local_core.specs.Outline.{func_closes, func_opens, header_idents, idents, lines_steps, param_idents, receiver_idents, result_idents, signature_idents, some_ident}
-use Rattle.go_local_core.specs.Pieces.{ident_place, piece_declares}
-use Rattle.go_local_core.specs.Steps.{Piece, Header, Spec, Act, Condition, Given, Steps, Done, Check, Declare, Inner, spell_piece}
-use Rattle.go_local_core.proofs.DenotedLemmas.{one_is_denoted}
-use Rattle.go_local_core.proofs.Placed.{func_placed}
+use Rattle.go_clear_core.specs.local_core.Binding.{Local, bound, is_first, is_second}
+use Rattle.go_clear_core.specs.local_core.Denoted as denoted
+use Rattle.go_clear_core.specs.local_core.Law.{declared_from, law_out}
+use Rattle.go_clear_core.specs.local_core.Outline.{func_closes, func_opens, header_idents, idents, lines_steps, param_idents, receiver_idents, result_idents, signature_idents, some_ident}
+use Rattle.go_clear_core.specs.local_core.Pieces.{ident_place, piece_declares}
+use Rattle.go_clear_core.specs.local_core.Steps.{Piece, Header, Spec, Act, Condition, Given, Steps, Done, Check, Declare, Inner, spell_piece}
+use Rattle.go_clear_core.specs.local_core.DenotedLemmas.{one_is_denoted}
+use Rattle.go_clear_core.specs.local_core.Placed.{func_placed}
 use Rattle.go_term_core.specs.Terms.{Term}
 use Rattle.go_term_core.specs.declared.term.Basic.{Basic}
-use Rattle.go_constant_core.specs.declared.values.Constant.{Constant}
-use Rattle.go_operand_core.specs.declared.types.Operand.{Operand}
-use Rattle.go_operand_core.specs.declared.types.ValueType.{ValueType}
-use Rattle.go_operand_core.specs.Assign.{assignable_to}
-use Rattle.go_operand_core.specs.TypeRules.{TypeRules}
-use Rattle.go_operand_core.specs.Values.{form_basic}
-use Rattle.go_denote_core.specs.declared.things.Argument.{Argument}
-use Rattle.go_denote_core.specs.declared.things.Argument.TheVariants as arguments
-use Rattle.go_denote_core.specs.declared.things.Stand.TheVariants as stands
-use Rattle.go_statement_core.specs.Constants.{constant_answer, operand_constant, own_value, answer_of_value, of_type}
-use Rattle.go_piece_core.specs.Pieces.{piece_values}
-use Rattle.go_piece_core.specs.Specifications.{constant_value, constant_values}
-use Rattle.go_table_core.specs.Entries.{Entry}
+use Rattle.go_clear_core.specs.constant_core.declared.values.Constant.{Constant}
+use Rattle.go_clear_core.specs.operand_core.declared.types.Operand.{Operand}
+use Rattle.go_clear_core.specs.operand_core.declared.types.ValueType.{ValueType}
+use Rattle.go_clear_core.specs.operand_core.Assign.{assignable_to}
+use Rattle.go_clear_core.specs.operand_core.TypeRules.{TypeRules}
+use Rattle.go_clear_core.specs.operand_core.Values.{form_basic}
+use Rattle.go_clear_core.specs.denote_core.declared.things.Argument.{Argument}
+use Rattle.go_clear_core.specs.denote_core.declared.things.Argument.TheVariants as arguments
+use Rattle.go_clear_core.specs.denote_core.declared.things.Stand.TheVariants as stands
+use Rattle.go_clear_core.specs.statement_core.Constants.{constant_answer, operand_constant, own_value, answer_of_value, of_type}
+use Rattle.go_clear_core.specs.piece_core.Pieces.{piece_values}
+use Rattle.go_clear_core.specs.piece_core.Specifications.{constant_value, constant_values}
+use Rattle.go_clear_core.specs.table_core.Entries.{Entry}
 use Rattle.go_env_core.specs.declared.meaning.Meaning.{Meaning as NameMeaning}
 use Rattle.go_env_core.specs.declared.meaning.Meaning.TheVariants as means
 use Rattle.go_env_core.specs.Looks.{TheLooks}
-use Rattle.go_body_core.specs.Notes.{NoteOf, TheLocal, TheValue}
-use Rattle.go_body_core.specs.Rules.{value_at}
+use Rattle.go_clear_core.specs.body_core.Notes.{NoteOf, TheLocal, TheValue}
+use Rattle.go_clear_core.specs.body_core.Rules.{value_at}
 use Rattle.go_func_core.specs.Functions.{func_rules}
 use Rattle.go_func_core.specs.Stands.{FileStand, outer_meanings}
 use Rattle.go_func_core.specs.Types.{is_local_meaning}
 use Rattle.go_func_core.proofs.Regions.{none_outside}
 use Rattle.go_part_core.specs.Inputs.{InputModel}
 use Rattle.go_part_core.specs.Parts.{ContentOf, FileOf}
-use Rattle.go_fragment_core.specs.Inside.{params_inside, results_inside, signature_inside}
-use Rattle.go_fragment_core.specs.Names.{CodeLooks}
-use Rattle.go_fragment_core.specs.Slots.{local_slot, local_slots, new_slot, new_slots, param_names_slots, param_slots, receiver_slots, signature_slots, some_name_slot}
-use Rattle.go_fold_core.specs.Parts.{parts}
+use Rattle.go_clear_core.specs.fragment_core.Inside.{params_inside, results_inside, signature_inside}
+use Rattle.go_clear_core.specs.fragment_core.Names.{CodeLooks}
+use Rattle.go_clear_core.specs.fragment_core.Slots.{local_slot, local_slots, new_slot, new_slots, param_names_slots, param_slots, receiver_slots, signature_slots, some_name_slot}
+use Rattle.go_clear_core.specs.fold_core.Parts.{parts}
 use Rattle.go_meaning_core.specs.Looking.{locals_meant}
-use Rattle.go_means_core.specs.Meaning.{params_of}
-use Rattle.go_fit_core.specs.Fitting.{IsAmong}
-use Rattle.go_laws_core.specs.ConstantLaws.{code_names_of}
-use Rattle.go_laws_core.specs.Standing.{piece_exprs, pieces_in, pieces_of, stand_in_part}
-use Rattle.go_laws_core.proofs.ConstantLists.{HasItem, contained, has, has_either, has_get, has_left, has_right}
+use Rattle.go_clear_core.specs.means_core.Meaning.{params_of}
+use Rattle.go_clear_core.specs.fit_core.Fitting.{IsAmong}
+use Rattle.go_clear_core.specs.laws_core.ConstantLaws.{code_names_of}
+use Rattle.go_clear_core.specs.laws_core.Standing.{piece_exprs, pieces_in, pieces_of, stand_in_part}
+use Rattle.go_clear_core.specs.laws_core.ConstantLists.{HasItem, contained, has, has_either, has_get, has_left, has_right}
 use Rattle.go_typed_core.specs.Functions.{IsFunction, function_looks, known_types}
 use Rattle.go_typed_core.specs.Scope.{AreDeclaredBefore, EachPiece, VariablesAreDeclared, piece_slots}
 use Rattle.go_typed_core.proofs.Checks.{lines_of}

@@ -1,42 +1,42 @@
 -- The expressions of a function fit.
 use Rattle.std.proofs.Common.{◌≡◌, inl, inr, ℕ, nat_eq, Bool, true, false, not, ◌&&◌, ◌||◌, List, [], Option, Some, None, Contains, refl, ap, ◌∙◌, subst, if◌then◌else◌}
 use Rattle.std.proofs.lemmas.Bool.{and_parts}
-use Rattle.go_text_core.specs.declared.span.Span.{Span}
+use Rattle.go_clear_core.specs.text_core.declared.span.Span.{Span}
 use Rattle.go_tree_nodes.specs.declared.names.Ident.{Ident}
 use Rattle.go_tree_nodes.specs.Counts.{item_count}
 use Rattle.go_tree_nodes.specs.Trees.{ExprTree, FileTree, FuncTree, ItemTrees, Integer, Text, Named, Paren, Unary, Binary, Select, Call, Literal, StructLiteral, NoItems, Item}
-use Rattle.go_local_core.specs.Binding.{Local}
-use Rattle.go_local_core.specs.Steps.{Piece}
+use Rattle.go_clear_core.specs.local_core.Binding.{Local}
+use Rattle.go_clear_core.specs.local_core.Steps.{Piece}
 use Rattle.go_term_core.specs.Terms.{Term, Sign}
-use Rattle.go_denote_core.specs.declared.things.Stand.{Stand}
-use Rattle.go_denote_core.specs.declared.things.Stand.TheVariants as stands
-use Rattle.go_expr_core.specs.Places.{inside, left_place, under_place}
-use Rattle.go_expr_core.specs.Uses.{uses}
-use Rattle.go_expr_core.specs.Faults.{faults}
+use Rattle.go_clear_core.specs.denote_core.declared.things.Stand.{Stand}
+use Rattle.go_clear_core.specs.denote_core.declared.things.Stand.TheVariants as stands
+use Rattle.go_clear_core.specs.expr_core.Places.{inside, left_place, under_place}
+use Rattle.go_clear_core.specs.expr_core.Uses.{uses}
+use Rattle.go_clear_core.specs.expr_core.Faults.{faults}
 use Rattle.go_handle_core.specs.Declarations.{Declaration}
 use Rattle.go_env_core.specs.declared.meaning.Meaning.{Meaning as NameMeaning}
 use Rattle.go_env_core.specs.Looks.{TheLooks}
 use Rattle.go_part_core.specs.Inputs.{InputModel}
 use Rattle.go_part_core.specs.Parts.{ContentOf, FileOf}
-use Rattle.go_instruction_core.specs.declared.letters.Word.{Word}
-use Rattle.go_fragment_core.specs.declared.names.Gives.{Gives}
-use Rattle.go_fragment_core.specs.declared.names.Gives.TheVariants as gives
-use Rattle.go_fragment_core.specs.declared.names.Meaning.{Meaning}
-use Rattle.go_fragment_core.specs.declared.names.Meaning.TheVariants as meanings
-use Rattle.go_fragment_core.specs.Fragment.{all_ones, binary_word, call_gives, expr_gives, is_one, is_other, means_method, over, receiver_fits, selected_gives, unary_word}
-use Rattle.go_fragment_core.specs.Names.{CodeLooks, Frame, callee_meaning}
-use Rattle.go_fragment_core.specs.Slots.{slots_of}
-use Rattle.go_code_core.specs.Code.{frame_in, letters}
-use Rattle.go_means_core.specs.Meaning.{SourceOf}
-use Rattle.go_fit_core.specs.Fitting.{CalleeFits, ExprFits, ItemsFit, NameFits, Typing, receiver_letters}
-use Rattle.go_emit_core.specs.Emitted.{body_first, told_to}
-use Rattle.go_fold_core.specs.Laws.{AreMeant}
-use Rattle.go_fold_core.specs.Parts.{item_parts, parts}
-use Rattle.go_fold_core.proofs.Folding.{expressions_typed}
-use Rattle.go_laws_core.specs.ConstantLaws.{code_names_of}
-use Rattle.go_laws_core.specs.Standing.{piece_exprs, pieces_of}
-use Rattle.go_laws_core.proofs.Agree.{are_meant, none_broken}
-use Rattle.go_laws_core.proofs.ConstantLists.{HasItem, contained, has_left, has_right}
+use Rattle.go_clear_core.specs.instruction_core.declared.letters.Word.{Word}
+use Rattle.go_clear_core.specs.fragment_core.declared.names.Gives.{Gives}
+use Rattle.go_clear_core.specs.fragment_core.declared.names.Gives.TheVariants as gives
+use Rattle.go_clear_core.specs.fragment_core.declared.names.Meaning.{Meaning}
+use Rattle.go_clear_core.specs.fragment_core.declared.names.Meaning.TheVariants as meanings
+use Rattle.go_clear_core.specs.fragment_core.Fragment.{all_ones, binary_word, call_gives, expr_gives, is_one, is_other, means_method, over, receiver_fits, selected_gives, unary_word}
+use Rattle.go_clear_core.specs.fragment_core.Names.{CodeLooks, Frame, callee_meaning}
+use Rattle.go_clear_core.specs.fragment_core.Slots.{slots_of}
+use Rattle.go_clear_core.specs.code_core.Code.{frame_in, letters}
+use Rattle.go_clear_core.specs.means_core.Meaning.{SourceOf}
+use Rattle.go_clear_core.specs.fit_core.Fitting.{CalleeFits, ExprFits, ItemsFit, NameFits, Typing, receiver_letters}
+use Rattle.go_clear_core.specs.emit_core.Emitted.{body_first, told_to}
+use Rattle.go_clear_core.specs.fold_core.Laws.{AreMeant}
+use Rattle.go_clear_core.specs.fold_core.Parts.{item_parts, parts}
+use Rattle.go_clear_core.specs.fold_core.Folding.{expressions_typed}
+use Rattle.go_clear_core.specs.laws_core.ConstantLaws.{code_names_of}
+use Rattle.go_clear_core.specs.laws_core.Standing.{piece_exprs, pieces_of}
+use Rattle.go_clear_core.specs.laws_core.Agree.{are_meant, none_broken}
+use Rattle.go_clear_core.specs.laws_core.ConstantLists.{HasItem, contained, has_left, has_right}
 use Rattle.go_clear_core.specs.Operators.{OperatorFits}
 use Rattle.go_clear_core.specs.Statements.{AreAlike, IsClearAt}
 use Rattle.go_clear_core.proofs.Calling.{conversions_keep_words}
@@ -141,21 +141,21 @@ module _ (laws : AreGiven) (program : List SourceOf) (callees : List (Option ℕ
         operators_fit Term Sign Declaration (List ℕ) (expressions_typed Term Sign Declaration (List ℕ)) looks code (meaning_there i c n f) (slots_of code g) stands.«Value» root are_alike.read are_alike.typed are_alike.keep are_alike.identity meant sound q e
         (inside_root q e k) w one
 
-    callee_is : (q : Stand) (e : ExprTree) (first : Span) (items : ItemTrees) (last : Span) → Part q (Call e first items last) → all_ones frame items ≡ true → (m : Meaning) → callee_meaning code e ≡ m
+    callee_is : (q : Stand) (e : ExprTree) (first : Span) (items : ItemTrees) (last : Span) → Part q (Call e first items last) → all_ones frame items ≡ true → receiver_fits frame e ≡ true → (m : Meaning) → callee_meaning code e ≡ m
         → is_other (if receiver_fits frame e && all_ones frame items then call_gives m (item_count items) else gives.Other) ≡ false → CalleeFits program s typing m first.start (receiver_letters frame e) (letters frame items)
-    callee_is q e first items last k ones (meanings.Function r) is fits =
-        subst (λ m. IsCallServed program s typing m first.start (receiver_letters frame e) (letters frame items)) is (served.calls p piece root expr q e first items last (inside_root q (Call e first items last) k) ones)
-    callee_is q e first items last k ones (meanings.Method r) is fits =
-        subst (λ m. IsCallServed program s typing m first.start (receiver_letters frame e) (letters frame items)) is (served.calls p piece root expr q e first items last (inside_root q (Call e first items last) k) ones)
-    callee_is q e first items last k ones (meanings.«Type» w) is fits =
+    callee_is q e first items last k ones received (meanings.Function r) is fits =
+        subst (λ m. IsCallServed program s typing m first.start (receiver_letters frame e) (letters frame items)) is (served.calls p piece root expr q e first items last (inside_root q (Call e first items last) k) ones received)
+    callee_is q e first items last k ones received (meanings.Method r) is fits =
+        subst (λ m. IsCallServed program s typing m first.start (receiver_letters frame e) (letters frame items)) is (served.calls p piece root expr q e first items last (inside_root q (Call e first items last) k) ones received)
+    callee_is q e first items last k ones received (meanings.«Type» w) is fits =
         let one : expr_gives frame (Call e first items last) ≡ gives.One w =
         ap (λ m. if receiver_fits frame e && all_ones frame items then call_gives m (item_count items) else gives.Other) is ∙ converted (receiver_fits frame e && all_ones frame items) (nat_eq (item_count items) 1) w fits in
         conversions_keep_words Term Sign Declaration (List ℕ) looks code (meaning_there i c n f) (slots_of code g) stands.«Value» root clear q e first items last (inside_root q (Call e first items last) k) w is w one
-    callee_is q e first items last k ones (meanings.Variable at w) is fits = tt
-    callee_is q e first items last k ones (meanings.Constant v) is fits = tt
-    callee_is q e first items last k ones meanings.Println is fits = tt
-    callee_is q e first items last k ones meanings.Panic is fits = tt
-    callee_is q e first items last k ones meanings.Other is fits = tt
+    callee_is q e first items last k ones received (meanings.Variable at w) is fits = tt
+    callee_is q e first items last k ones received (meanings.Constant v) is fits = tt
+    callee_is q e first items last k ones received meanings.Println is fits = tt
+    callee_is q e first items last k ones received meanings.Panic is fits = tt
+    callee_is q e first items last k ones received meanings.Other is fits = tt
 
     mutual
       pub expr_fits : (q : Stand) (e : ExprTree) → Parts q e → is_other (expr_gives frame e) ≡ false → ExprFits program s typing ds e
@@ -177,7 +177,7 @@ module _ (laws : AreGiven) (program : List SourceOf) (callees : List (Option ℕ
       expr_fits q (Call e first items last) all fits =
           let b = called (receiver_fits frame e && all_ones frame items) (call_gives (callee_meaning code e) (item_count items)) fits in
           let both = and_parts (receiver_fits frame e) (all_ones frame items) b.0 in (
-            callee_is q e first items last (all q (Call e first items last) (inl refl)) both.1 (callee_meaning code e) refl fits,
+            callee_is q e first items last (all q (Call e first items last) (inl refl)) both.1 both.0 (callee_meaning code e) refl fits,
             callee_fits stands.Callee e (λ r x k. all r x (inr (has_left (parts stands.Callee e) (item_parts items) (r, x) k))) both.0 (item_count items) b.1,
             items_fit items (λ r x k. all r x (inr (has_right (parts stands.Callee e) (item_parts items) (r, x) k))) both.1,
           )

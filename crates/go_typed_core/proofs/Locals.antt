@@ -1,9 +1,9 @@
 -- A variable is over what its declaration gives it.
 use Rattle.std.proofs.Common.{ap, subst}
-use Rattle.go_body_core.specs.Notes.{TheValue}
-use Rattle.go_body_core.specs.Rules.{value_at}
+use Rattle.go_clear_core.specs.body_core.Notes.{TheValue}
+use Rattle.go_clear_core.specs.body_core.Rules.{value_at}
 use Rattle.go_part_core.specs.Inputs.{path_in}
-use Rattle.go_laws_core.proofs.ConstantLists.{HasItem}
+use Rattle.go_clear_core.specs.laws_core.ConstantLists.{HasItem}
 use Rattle.go_typed_core.specs.Functions.{known_types}
 use Rattle.go_typed_core.specs.Locals.{LocalsAreTyped}
 use Rattle.go_typed_core.proofs.Ready.{AreGiven, single, typed_local}

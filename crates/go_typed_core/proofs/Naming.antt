@@ -3,32 +3,32 @@ use Rattle.std.proofs.Common.{◌≡◌, ℕ, nat_eq, Bool, true, false, ◌&&�
 use Rattle.std.specs.List.{AllByRecursion}
 use Rattle.std.specs.Map.{lookup}
 use Rattle.std.proofs.lemmas.Bool.{eq-eqb}
-use Rattle.go_text_core.specs.Text.{is_blank}
-use Rattle.go_text_core.specs.declared.rule.Rule.TheVariants.{N8}
-use Rattle.go_universe_core.specs.declared.Predeclared.{Predeclared}
-use Rattle.go_universe_core.specs.declared.Predeclared.TheVariants as universe
+use Rattle.go_clear_core.specs.text_core.Text.{is_blank}
+use Rattle.go_clear_core.specs.text_core.declared.rule.Rule.TheVariants.{N8}
+use Rattle.go_clear_core.specs.universe_core.declared.Predeclared.{Predeclared}
+use Rattle.go_clear_core.specs.universe_core.declared.Predeclared.TheVariants as universe
 use Rattle.go_tree_nodes.specs.declared.names.Ident.{Ident}
 use Rattle.go_tree_nodes.specs.Trees.{ExprTree, FileTree, FuncTree, Named}
-use Rattle.go_local_core.specs.Binding.{Local, bound}
-use Rattle.go_local_core.specs.Steps.{Piece}
-use Rattle.go_block_core.specs.Blocks.{file_binding}
-use Rattle.go_block_core.specs.declared.binding.Binding.{Binding}
-use Rattle.go_block_core.specs.declared.binding.Target.{Target}
-use Rattle.go_block_core.specs.declared.binding.Target.TheVariants as targets
+use Rattle.go_clear_core.specs.local_core.Binding.{Local, bound}
+use Rattle.go_clear_core.specs.local_core.Steps.{Piece}
+use Rattle.go_clear_core.specs.block_core.Blocks.{file_binding}
+use Rattle.go_clear_core.specs.block_core.declared.binding.Binding.{Binding}
+use Rattle.go_clear_core.specs.block_core.declared.binding.Target.{Target}
+use Rattle.go_clear_core.specs.block_core.declared.binding.Target.TheVariants as targets
 use Rattle.go_names_core.specs.declared.meaning.Outside.{Outside}
 use Rattle.go_names_core.specs.declared.meaning.Outside.TheVariants as outsides
-use Rattle.go_constant_core.specs.declared.values.Constant.{Constant}
-use Rattle.go_constant_core.specs.declared.values.Constant.TheVariants as values
+use Rattle.go_clear_core.specs.constant_core.declared.values.Constant.{Constant}
+use Rattle.go_clear_core.specs.constant_core.declared.values.Constant.TheVariants as values
 use Rattle.go_term_core.specs.declared.term.MemberPlace.TheVariants as places
 use Rattle.go_term_core.specs.Terms.{Term, Sign}
-use Rattle.go_table_core.specs.Entries.{Entry}
-use Rattle.go_table_core.proofs.Finding.{bytes_same}
-use Rattle.go_denote_core.specs.declared.things.Found.TheVariants as founds
-use Rattle.go_denote_core.specs.declared.things.Outcome.{Outcome}
-use Rattle.go_denote_core.specs.declared.things.Outcome.TheVariants as outcomes
-use Rattle.go_denote_core.specs.declared.things.Stand.{Stand}
-use Rattle.go_denote_core.specs.declared.things.Stand.TheVariants as stands
-use Rattle.go_denote_core.specs.Answers.{found_answer, refused}
+use Rattle.go_clear_core.specs.table_core.Entries.{Entry}
+use Rattle.go_clear_core.specs.table_core.Finding.{bytes_same}
+use Rattle.go_clear_core.specs.denote_core.declared.things.Found.TheVariants as founds
+use Rattle.go_clear_core.specs.denote_core.declared.things.Outcome.{Outcome}
+use Rattle.go_clear_core.specs.denote_core.declared.things.Outcome.TheVariants as outcomes
+use Rattle.go_clear_core.specs.denote_core.declared.things.Stand.{Stand}
+use Rattle.go_clear_core.specs.denote_core.declared.things.Stand.TheVariants as stands
+use Rattle.go_clear_core.specs.denote_core.Answers.{found_answer, refused}
 use Rattle.go_handle_core.specs.Declarations.{Declaration, Universe, OfError, Package, InFile}
 use Rattle.go_face_core.specs.declared.face.Face.TheVariants as faces
 use Rattle.go_face_core.specs.Faces.{TheFace}
@@ -38,31 +38,31 @@ use Rattle.go_env_core.specs.declared.meaning.Meaning.TheVariants as means
 use Rattle.go_env_core.specs.Found.{TheFound, found_binding, found_face, found_of, found_outside, found_target, found_universe, own_face}
 use Rattle.go_env_core.specs.Looks.{TheLooks}
 use Rattle.go_env_core.specs.Scenes.{SceneModel}
-use Rattle.go_body_core.specs.Notes.{TheLocal, TheValue}
+use Rattle.go_clear_core.specs.body_core.Notes.{TheLocal, TheValue}
 use Rattle.go_func_core.specs.Functions.{checked_func}
 use Rattle.go_func_core.specs.Stands.{FileStand, outer_meanings}
 use Rattle.go_file_core.specs.Files.{decl_locals}
 use Rattle.go_part_core.specs.Inputs.{InputModel, path_in}
 use Rattle.go_part_core.specs.Parts.{ContentOf, FileOf}
-use Rattle.go_instruction_core.specs.declared.letters.Word.{Word}
-use Rattle.go_fragment_core.specs.declared.names.Meaning.{Meaning}
-use Rattle.go_fragment_core.specs.declared.names.Meaning.TheVariants as meanings
-use Rattle.go_fragment_core.specs.Names.{CodeLooks}
+use Rattle.go_clear_core.specs.instruction_core.declared.letters.Word.{Word}
+use Rattle.go_clear_core.specs.fragment_core.declared.names.Meaning.{Meaning}
+use Rattle.go_clear_core.specs.fragment_core.declared.names.Meaning.TheVariants as meanings
+use Rattle.go_clear_core.specs.fragment_core.Names.{CodeLooks}
 use Rattle.go_meaning_core.specs.Looking.{locals_meant}
 use Rattle.go_meaning_core.specs.Meanings.{constant_meaning, constant_meaning_or, local_meaning, variable_meaning}
 use Rattle.go_meaning_core.specs.Scenes.{CodeScene, outcome_meaning}
 use Rattle.go_meaning_core.specs.Words.{value_word}
-use Rattle.go_lookup_core.specs.Looking.{meaning_or_other}
-use Rattle.go_emit_core.specs.Emitted.{code_scene_over, told_to}
-use Rattle.go_fold_core.specs.Laws.{HasDeclaration}
-use Rattle.go_fold_core.specs.Parts.{parts}
-use Rattle.go_fold_core.specs.Reading.{IsBuiltinMeant, IsFoundMeant, IsFunctionMeant, IsTypeMeant}
-use Rattle.go_fold_core.proofs.Inside.{fine, fine_inside}
-use Rattle.go_laws_core.specs.ConstantLaws.{code_names_of}
-use Rattle.go_laws_core.specs.Standing.{looks_among, piece_exprs, pieces_of, stand_in_part}
-use Rattle.go_laws_core.proofs.Agree.{are_meant, none_broken}
-use Rattle.go_laws_core.proofs.ConstantLists.{HasItem, found_at, has}
-use Rattle.go_laws_core.proofs.Pieces.{file_has}
+use Rattle.go_clear_core.specs.lookup_core.Looking.{meaning_or_other}
+use Rattle.go_clear_core.specs.emit_core.Emitted.{code_scene_over, told_to}
+use Rattle.go_clear_core.specs.fold_core.Laws.{HasDeclaration}
+use Rattle.go_clear_core.specs.fold_core.Parts.{parts}
+use Rattle.go_clear_core.specs.fold_core.Reading.{IsBuiltinMeant, IsFoundMeant, IsFunctionMeant, IsTypeMeant}
+use Rattle.go_clear_core.specs.fold_core.Inside.{fine, fine_inside}
+use Rattle.go_clear_core.specs.laws_core.ConstantLaws.{code_names_of}
+use Rattle.go_clear_core.specs.laws_core.Standing.{looks_among, piece_exprs, pieces_of, stand_in_part}
+use Rattle.go_clear_core.specs.laws_core.Agree.{are_meant, none_broken}
+use Rattle.go_clear_core.specs.laws_core.ConstantLists.{HasItem, found_at, has}
+use Rattle.go_clear_core.specs.laws_core.Pieces.{file_has}
 use Rattle.go_clear_core.proofs.Variables.{Never, declared_never, own_never, universe_never}
 use Rattle.go_typed_core.specs.Functions.{IsFunction, known_types, meaning_there}
 use Rattle.go_typed_core.proofs.Ready.{AreGiven, file, g_there, placed, read, rises}

@@ -4,23 +4,23 @@ use Rattle.std.specs.Prelude.{find}
 use Rattle.std.specs.List.{list_all}
 use Rattle.std.specs.Option.{option_map}
 use Rattle.std.specs.Str.{bytes_eq}
-use Rattle.go_text_core.proofs.Each.{Each, each-append, each-filter}
+use Rattle.go_clear_core.specs.text_core.Each.{Each, each-append, each-filter}
 use Rattle.go_open_core.specs.Blocks.{or_else}
 use Rattle.go_tree_nodes.specs.Trees.{FuncTree}
-use Rattle.go_local_core.specs.Binding.{Local, bound, innermost_of, is_first, is_inside, is_second, region_has, shown}
-use Rattle.go_local_core.specs.Denoted.{IsAmong}
-use Rattle.go_local_core.specs.Law.{declared_from, law_out}
-use Rattle.go_local_core.specs.Outline.{func_closes, func_opens, func_steps}
-use Rattle.go_local_core.specs.Pieces.{ident_place, piece_declares}
-use Rattle.go_local_core.specs.Steps.{Steps, Done, Check, Declare, Inner}
+use Rattle.go_clear_core.specs.local_core.Binding.{Local, bound, innermost_of, is_first, is_inside, is_second, region_has, shown}
+use Rattle.go_clear_core.specs.local_core.Denoted.{IsAmong}
+use Rattle.go_clear_core.specs.local_core.Law.{declared_from, law_out}
+use Rattle.go_clear_core.specs.local_core.Outline.{func_closes, func_opens, func_steps}
+use Rattle.go_clear_core.specs.local_core.Pieces.{ident_place, piece_declares}
+use Rattle.go_clear_core.specs.local_core.Steps.{Steps, Done, Check, Declare, Inner}
 use Rattle.go_term_core.specs.Terms.{Term}
-use Rattle.go_piece_core.specs.Headers.{returned_names, returned_types}
-use Rattle.go_piece_core.specs.Pieces.{piece_values}
+use Rattle.go_clear_core.specs.piece_core.Headers.{returned_names, returned_types}
+use Rattle.go_clear_core.specs.piece_core.Pieces.{piece_values}
 use Rattle.go_env_core.specs.declared.meaning.Meaning.{Meaning}
 use Rattle.go_env_core.specs.declared.meaning.Meaning.TheVariants as means
 use Rattle.go_names_core.specs.declared.meaning.Outside.{Outside}
-use Rattle.go_body_core.specs.Notes.{TheValue}
-use Rattle.go_body_core.specs.Rules.{value_at}
+use Rattle.go_clear_core.specs.body_core.Notes.{TheValue}
+use Rattle.go_clear_core.specs.body_core.Rules.{value_at}
 use Rattle.go_func_core.specs.Functions.{AreFuncDeclarations, own_rules}
 use Rattle.go_func_core.specs.Stands.{FileStand, looks_where, outer_looks, outer_meanings}
 use Rattle.go_typed_core.proofs.Steps.{is_named}

@@ -2,41 +2,41 @@
 use Rattle.std.proofs.Common.{◌≡◌, inl, inr, ℕ, suc, ◌+◌, Bool, true, false, ◌&&◌, List, [], ◌∷◌, ◌++◌, map, length, replicate, Option, Some, None, is_none, is_some, refl, sym, ◌∙◌, subst, arith, if◌then◌else◌}
 use Rattle.std.specs.Prelude.{slice_get}
 use Rattle.std.proofs.lemmas.Bool.{and_parts}
-use Rattle.go_text_core.specs.Text.{is_blank}
-use Rattle.go_text_core.specs.declared.span.Span.{Span}
+use Rattle.go_clear_core.specs.text_core.Text.{is_blank}
+use Rattle.go_clear_core.specs.text_core.declared.span.Span.{Span}
 use Rattle.go_tree_nodes.specs.declared.files.Receiver.{Receiver}
 use Rattle.go_tree_nodes.specs.declared.names.Ident.{Ident}
 use Rattle.go_tree_nodes.specs.Trees.{FileTree, FuncTree, Separated, One, Then, TypeTree, ParamTrees, NoParams, Param, SignatureTree, Signed}
 use Rattle.go_tree_nodes.specs.WrittenTypes.{params_types, result_types, signature_types}
-use Rattle.go_local_core.specs.Binding.{Local, bound, is_first}
-use Rattle.go_local_core.specs.Faults.{second_faults}
-use Rattle.go_local_core.specs.Law.{declared_from, law_out}
-use Rattle.go_local_core.specs.Outline.{func_closes, func_opens, header_idents, idents, lines_steps, param_idents, result_idents, signature_idents, some_ident}
-use Rattle.go_local_core.specs.Pieces.{ident_place}
-use Rattle.go_local_core.specs.Steps.{Header, Done}
+use Rattle.go_clear_core.specs.local_core.Binding.{Local, bound, is_first}
+use Rattle.go_clear_core.specs.local_core.Faults.{second_faults}
+use Rattle.go_clear_core.specs.local_core.Law.{declared_from, law_out}
+use Rattle.go_clear_core.specs.local_core.Outline.{func_closes, func_opens, header_idents, idents, lines_steps, param_idents, result_idents, signature_idents, some_ident}
+use Rattle.go_clear_core.specs.local_core.Pieces.{ident_place}
+use Rattle.go_clear_core.specs.local_core.Steps.{Header, Done}
 use Rattle.go_term_core.specs.Terms.{Term}
-use Rattle.go_piece_core.specs.Headers.{entry_types, header_types, named_receiver, some_starred, types_of_result, types_of_signature}
-use Rattle.go_piece_core.specs.Values.{variable}
-use Rattle.go_expr_core.specs.Denoting.{named_type, written_type}
+use Rattle.go_clear_core.specs.piece_core.Headers.{entry_types, header_types, named_receiver, some_starred, types_of_result, types_of_signature}
+use Rattle.go_clear_core.specs.piece_core.Values.{variable}
+use Rattle.go_clear_core.specs.expr_core.Denoting.{named_type, written_type}
 use Rattle.go_env_core.specs.declared.meaning.Meaning.{Meaning as NameMeaning}
 use Rattle.go_env_core.specs.Looks.{TheLooks}
-use Rattle.go_body_core.specs.Rules.{value_at}
+use Rattle.go_clear_core.specs.body_core.Rules.{value_at}
 use Rattle.go_func_core.specs.Functions.{func_rules}
 use Rattle.go_func_core.specs.Stands.{outer_meanings}
 use Rattle.go_part_core.specs.Inputs.{InputModel, path_in}
 use Rattle.go_part_core.specs.Parts.{ContentOf, FileOf}
-use Rattle.go_instruction_core.specs.declared.letters.Word.{Word}
-use Rattle.go_fragment_core.specs.Fragment.{type_name_word, type_word}
-use Rattle.go_fragment_core.specs.Inside.{in_fragment, params_inside, receiver_inside, results_inside, signature_inside}
-use Rattle.go_fragment_core.specs.Names.{CodeLooks}
-use Rattle.go_fragment_core.specs.Slots.{param_names_slots, param_slots, receiver_slots, signature_slots, some_name_slot}
-use Rattle.go_code_core.specs.Code.{frame_in}
-use Rattle.go_fold_core.specs.Reading.{IsOver}
-use Rattle.go_fold_core.proofs.Inside.{none_left}
-use Rattle.go_fit_core.specs.Fitting.{AreTypedAs, Typing, names_over, params_over, receiver_over, signature_over}
-use Rattle.go_laws_core.specs.ConstantLaws.{code_names_of}
-use Rattle.go_laws_core.specs.Standing.{stand_in_part}
-use Rattle.go_laws_core.proofs.ConstantLists.{HasItem}
+use Rattle.go_clear_core.specs.instruction_core.declared.letters.Word.{Word}
+use Rattle.go_clear_core.specs.fragment_core.Fragment.{type_name_word, type_word}
+use Rattle.go_clear_core.specs.fragment_core.Inside.{in_fragment, params_inside, receiver_inside, results_inside, signature_inside}
+use Rattle.go_clear_core.specs.fragment_core.Names.{CodeLooks}
+use Rattle.go_clear_core.specs.fragment_core.Slots.{param_names_slots, param_slots, receiver_slots, signature_slots, some_name_slot}
+use Rattle.go_clear_core.specs.code_core.Code.{frame_in}
+use Rattle.go_clear_core.specs.fold_core.Reading.{IsOver}
+use Rattle.go_clear_core.specs.fold_core.Inside.{none_left}
+use Rattle.go_clear_core.specs.fit_core.Fitting.{AreTypedAs, Typing, names_over, params_over, receiver_over, signature_over}
+use Rattle.go_clear_core.specs.laws_core.ConstantLaws.{code_names_of}
+use Rattle.go_clear_core.specs.laws_core.Standing.{stand_in_part}
+use Rattle.go_clear_core.specs.laws_core.ConstantLists.{HasItem}
 use Rattle.go_typed_core.specs.Functions.{IsFunction, function_looks, known_types, typing_in}
 use Rattle.go_typed_core.specs.Params.{ParametersAreTyped}
 use Rattle.go_typed_core.specs.Written.{ShowTheirTypes}

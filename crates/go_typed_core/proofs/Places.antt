@@ -1,21 +1,21 @@
 -- The names of an expression stand between where it begins and where it ends.
 use Rattle.std.proofs.Common.{◌≡◌, inl, inr, ℕ, ◌<◌, ◌≤◌, Bool, true, false, List, [], ◌∷◌, ◌++◌, Option, Some, None, ap, subst, arith, if◌then◌else◌}
-use Rattle.go_text_core.specs.declared.span.Span.{Span}
-use Rattle.go_token_core.specs.declared.kind.Operator.TheVariants as operator
+use Rattle.go_clear_core.specs.text_core.declared.span.Span.{Span}
+use Rattle.go_clear_core.specs.token_core.declared.kind.Operator.TheVariants as operator
 use Rattle.go_tree_nodes.specs.declared.names.Ident.{Ident}
 use Rattle.go_tree_nodes.specs.Spelling.{mark, spell, spell_exprs, spell_ident, spell_idents, spell_items, spell_key, spell_some, spell_some_type, spell_type, spell_type_name, spell_values}
 use Rattle.go_tree_nodes.specs.Terminals.{InOrder, Terminal}
 use Rattle.go_tree_nodes.specs.Trees.{ExprTree, ItemTrees, Integer, Text, Named, Paren, Unary, Binary, Select, Call, Literal, StructLiteral, NoItems, Item, Separated, One, Then, SimpleTree, Alone, Step, Assign, Update, Define}
 use Rattle.go_tree_nodes.proofs.InOrder.{in_order_ends, in_order_split}
-use Rattle.go_local_core.specs.Steps.{Piece, Header, Spec, Act, Condition, Given, spell_piece}
-use Rattle.go_walk_core.specs.Ends.{is_blank_target}
-use Rattle.go_denote_core.specs.declared.things.Stand.{Stand}
-use Rattle.go_denote_core.specs.declared.things.Stand.TheVariants as stands
-use Rattle.go_expr_core.specs.Places.{inside, left_place, under_place}
+use Rattle.go_clear_core.specs.local_core.Steps.{Piece, Header, Spec, Act, Condition, Given, spell_piece}
+use Rattle.go_clear_core.specs.walk_core.Ends.{is_blank_target}
+use Rattle.go_clear_core.specs.denote_core.declared.things.Stand.{Stand}
+use Rattle.go_clear_core.specs.denote_core.declared.things.Stand.TheVariants as stands
+use Rattle.go_clear_core.specs.expr_core.Places.{inside, left_place, under_place}
 use Rattle.go_value_core.specs.Initial.{exprs}
-use Rattle.go_fold_core.specs.Parts.{item_parts, parts}
-use Rattle.go_laws_core.specs.Standing.{piece_exprs, targets_listed, values_listed}
-use Rattle.go_laws_core.proofs.ConstantLists.{HasItem, has_either}
+use Rattle.go_clear_core.specs.fold_core.Parts.{item_parts, parts}
+use Rattle.go_clear_core.specs.laws_core.Standing.{piece_exprs, targets_listed, values_listed}
+use Rattle.go_clear_core.specs.laws_core.ConstantLists.{HasItem, has_either}
 
 abbrev pub IsBetween : ℕ → ℕ → Ident → Type 0
 IsBetween lo hi x = (lo ≤ x.span.start) × (x.span.start < hi)

@@ -1,28 +1,28 @@
 -- The pieces of a function of a package of which nothing is reported: what their names come to in code, that they break no rule, and what they declare.
 use Rattle.std.proofs.Common.{◌≡◌, inl, ℕ, suc, ◌<◌, Bool, true, false, not, List, [], ◌∷◌, AllPairs, Contains, Some, None, refl, sym, ap, ◌∙◌, subst, arith}
-use Rattle.go_text_core.specs.Text.{is_blank}
+use Rattle.go_clear_core.specs.text_core.Text.{is_blank}
 use Rattle.go_tree_nodes.specs.declared.names.Ident.{Ident}
 use Rattle.go_tree_nodes.specs.Trees.{FileTree, FuncTree}
-use Rattle.go_local_core.specs.Binding.{Local, is_second}
-use Rattle.go_local_core.specs.Law.{Out}
-use Rattle.go_local_core.specs.Outline.{func_closes, func_opens, func_steps}
-use Rattle.go_local_core.specs.Pieces.{ident_place, piece_declares}
-use Rattle.go_local_core.specs.Steps.{Piece}
-use Rattle.go_local_core.specs.Tables.{IsFuncPlaced, out_by_intervals}
-use Rattle.go_block_core.specs.Naming.{file_specs}
+use Rattle.go_clear_core.specs.local_core.Binding.{Local, is_second}
+use Rattle.go_clear_core.specs.local_core.Law.{Out}
+use Rattle.go_clear_core.specs.local_core.Outline.{func_closes, func_opens, func_steps}
+use Rattle.go_clear_core.specs.local_core.Pieces.{ident_place, piece_declares}
+use Rattle.go_clear_core.specs.local_core.Steps.{Piece}
+use Rattle.go_clear_core.specs.local_core.Tables.{IsFuncPlaced, out_by_intervals}
+use Rattle.go_clear_core.specs.block_core.Naming.{file_specs}
 use Rattle.go_term_core.specs.Terms.{Term, Sign}
-use Rattle.go_table_core.specs.Entries.{Entry}
-use Rattle.go_operand_core.specs.declared.types.Operand.{Operand}
-use Rattle.go_denote_core.specs.declared.things.Outcome.TheVariants as outcomes
+use Rattle.go_clear_core.specs.table_core.Entries.{Entry}
+use Rattle.go_clear_core.specs.operand_core.declared.types.Operand.{Operand}
+use Rattle.go_clear_core.specs.denote_core.declared.things.Outcome.TheVariants as outcomes
 use Rattle.go_handle_core.specs.Declarations.{Declaration}
-use Rattle.go_piece_core.specs.Headers.{returned_names, returned_types}
-use Rattle.go_piece_core.specs.Pieces.{piece_faults, piece_uses, piece_values}
+use Rattle.go_clear_core.specs.piece_core.Headers.{returned_names, returned_types}
+use Rattle.go_clear_core.specs.piece_core.Pieces.{piece_faults, piece_uses, piece_values}
 use Rattle.go_env_core.specs.declared.meaning.Meaning.{Meaning as NameMeaning}
 use Rattle.go_env_core.specs.declared.meaning.Meaning.TheVariants as means
 use Rattle.go_env_core.specs.Looks.{TheLooks}
-use Rattle.go_body_core.specs.Body.{BodyOf}
-use Rattle.go_body_core.specs.Notes.{NoteOf, TheLocal, TheUse, TheValue, noted_faults}
-use Rattle.go_body_core.specs.Rules.{local_if, value_at}
+use Rattle.go_clear_core.specs.body_core.Body.{BodyOf}
+use Rattle.go_clear_core.specs.body_core.Notes.{NoteOf, TheLocal, TheUse, TheValue, noted_faults}
+use Rattle.go_clear_core.specs.body_core.Rules.{local_if, value_at}
 use Rattle.go_func_core.specs.Functions.{checked_func, func_by, func_rules}
 use Rattle.go_func_core.specs.Laws.{FunctionsHaveOneTable}
 use Rattle.go_func_core.specs.Locals.{LocalsAreDeclarations}
@@ -36,23 +36,23 @@ use Rattle.go_package_core.specs.Checked.{imports_at}
 use Rattle.go_part_core.specs.Inputs.{InputModel}
 use Rattle.go_part_core.specs.Parts.{ContentOf, FileOf, package_seen, seen_by}
 use Rattle.go_whole_core.specs.LocalLaws.{ImportsBindTheirs}
-use Rattle.go_instruction_core.specs.declared.letters.Word.{Word}
-use Rattle.go_fragment_core.specs.declared.names.Meaning.{Meaning}
-use Rattle.go_fragment_core.specs.Names.{CodeLooks}
+use Rattle.go_clear_core.specs.instruction_core.declared.letters.Word.{Word}
+use Rattle.go_clear_core.specs.fragment_core.declared.names.Meaning.{Meaning}
+use Rattle.go_clear_core.specs.fragment_core.Names.{CodeLooks}
 use Rattle.go_meaning_core.specs.Meanings.{constant_meaning_or, local_meaning, variable_meaning}
 use Rattle.go_meaning_core.specs.Words.{value_word}
-use Rattle.go_lookup_core.specs.Looking.{meaning_or_other}
-use Rattle.go_emit_core.specs.Laws.{BodiesAreBetweenBraces, ObjectsAreOfFaultless}
-use Rattle.go_fold_core.specs.Laws.{AreMeant, HasDeclaration}
-use Rattle.go_fold_core.specs.Reading.{AreNamesRead}
-use Rattle.go_fold_core.proofs.Inside.{none_left, none_right}
-use Rattle.go_laws_core.specs.ConstantLaws.{code_names_of}
-use Rattle.go_laws_core.specs.Standing.{looks_among, pieces_of, stand_in_part}
-use Rattle.go_laws_core.proofs.Agree.{names}
-use Rattle.go_laws_core.proofs.Clean.{IsCleanFile, is_clean_file}
-use Rattle.go_laws_core.proofs.ConstantLists.{HasItem, Rising, contained, found_at, has, has_flat, has_right, none_in}
-use Rattle.go_laws_core.proofs.Pieces.{file_has, file_none}
-use Rattle.go_laws_core.proofs.Within.{file_rises}
+use Rattle.go_clear_core.specs.lookup_core.Looking.{meaning_or_other}
+use Rattle.go_clear_core.specs.emit_core.Laws.{BodiesAreBetweenBraces, ObjectsAreOfFaultless}
+use Rattle.go_clear_core.specs.fold_core.Laws.{AreMeant, HasDeclaration}
+use Rattle.go_clear_core.specs.fold_core.Reading.{AreNamesRead}
+use Rattle.go_clear_core.specs.fold_core.Inside.{none_left, none_right}
+use Rattle.go_clear_core.specs.laws_core.ConstantLaws.{code_names_of}
+use Rattle.go_clear_core.specs.laws_core.Standing.{looks_among, pieces_of, stand_in_part}
+use Rattle.go_clear_core.specs.laws_core.Agree.{names}
+use Rattle.go_clear_core.specs.laws_core.Clean.{IsCleanFile, is_clean_file}
+use Rattle.go_clear_core.specs.laws_core.ConstantLists.{HasItem, Rising, contained, found_at, has, has_flat, has_right, none_in}
+use Rattle.go_clear_core.specs.laws_core.Pieces.{file_has, file_none}
+use Rattle.go_clear_core.specs.laws_core.Within.{file_rises}
 use Rattle.go_clear_core.specs.Variables.{variable_word}
 use Rattle.go_typed_core.specs.Functions.{IsFunction, known_types, meaning_there, typing_in}
 use Rattle.go_typed_core.proofs.Checks.{steps_are_declaring}

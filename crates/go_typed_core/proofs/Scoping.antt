@@ -5,15 +5,15 @@ use Rattle.std.proofs.lemmas.Bool.{and_parts, leb-true, ltb-true}
 use Rattle.go_tree_nodes.specs.Terminals.{InOrder}
 use Rattle.go_tree_nodes.proofs.InOrder.{in_order_ends}
 use Rattle.go_tree_nodes.specs.declared.names.Ident.{Ident}
-use Rattle.go_local_core.specs.Binding.{Local, bound, is_first, is_second, region_has}
-use Rattle.go_local_core.specs.Denoted.{IsAmong}
-use Rattle.go_local_core.specs.Law.{Rules, declared_from, law_out}
-use Rattle.go_local_core.specs.Pieces.{piece_declares}
-use Rattle.go_local_core.specs.Steps.{Piece, Steps, Done, Check, Declare, Inner, spell_piece}
-use Rattle.go_local_core.proofs.Parts.{IsPart, inside, law_parts}
-use Rattle.go_local_core.proofs.Placed.{Placed, placed_ends}
-use Rattle.go_fragment_core.specs.Names.{CodeLooks}
-use Rattle.go_fit_core.specs.Fitting as fitting
+use Rattle.go_clear_core.specs.local_core.Binding.{Local, bound, is_first, is_second, region_has}
+use Rattle.go_clear_core.specs.local_core.Denoted.{IsAmong}
+use Rattle.go_clear_core.specs.local_core.Law.{Rules, declared_from, law_out}
+use Rattle.go_clear_core.specs.local_core.Pieces.{piece_declares}
+use Rattle.go_clear_core.specs.local_core.Steps.{Piece, Steps, Done, Check, Declare, Inner, spell_piece}
+use Rattle.go_clear_core.specs.local_core.Parts.{IsPart, inside, law_parts}
+use Rattle.go_clear_core.specs.local_core.Placed.{Placed, placed_ends}
+use Rattle.go_clear_core.specs.fragment_core.Names.{CodeLooks}
+use Rattle.go_clear_core.specs.fit_core.Fitting as fitting
 use Rattle.go_typed_core.specs.Scope.{EachPiece, piece_slots}
 use Rattle.go_typed_core.proofs.Checks.{AreDeclaring}
 use Rattle.go_typed_core.proofs.Steps.{among_each, among_either, among_left, among_right, is_named}

@@ -1,54 +1,54 @@
 -- The statements of a function fit that have no block, and its specifications.
 use Rattle.std.proofs.Common.{◌≡◌, ◌⊎◌, inl, inr, ℕ, Bool, true, false, not, ◌&&◌, List, [], ◌∷◌, map, Option, Some, None, is_some, Contains, refl, sym, ap, ◌∙◌, subst, if◌then◌else◌}
 use Rattle.std.proofs.lemmas.Bool.{and_parts}
-use Rattle.go_text_core.specs.Text.{is_blank}
-use Rattle.go_text_core.specs.declared.span.Span.{Span}
+use Rattle.go_clear_core.specs.text_core.Text.{is_blank}
+use Rattle.go_clear_core.specs.text_core.declared.span.Span.{Span}
 use Rattle.go_tree_nodes.specs.declared.names.Ident.{Ident}
 use Rattle.go_tree_nodes.specs.declared.decls.ValueKind.{ValueKind}
 use Rattle.go_tree_nodes.specs.declared.decls.ValueKind.TheVariants as value_kinds
 use Rattle.go_tree_nodes.specs.Rules.{HasEnough}
 use Rattle.go_tree_nodes.specs.Trees.{ExprTree, FileTree, FuncTree, Integer, Text, Named, Paren, Unary, Binary, Select, Call, Literal, StructLiteral, TypeTree, Separated, One, Then, SimpleTree, Alone, Step, Assign, Update, Define, NoParams, Param, NoResult, OneResult, Results, SignatureTree, Signed, ValueSpecTree}
-use Rattle.go_local_core.specs.Binding.{Local}
-use Rattle.go_local_core.specs.Steps.{Piece, Spec, Act, Condition, Given}
-use Rattle.go_walk_core.specs.Ends.{is_blank_target}
+use Rattle.go_clear_core.specs.local_core.Binding.{Local}
+use Rattle.go_clear_core.specs.local_core.Steps.{Piece, Spec, Act, Condition, Given}
+use Rattle.go_clear_core.specs.walk_core.Ends.{is_blank_target}
 use Rattle.go_term_core.specs.Terms.{Term, Sign}
-use Rattle.go_operand_core.specs.declared.types.Operand.{Operand}
-use Rattle.go_operand_core.specs.declared.types.ValueType.TheVariants as types
-use Rattle.go_denote_core.specs.declared.things.Stand.{Stand}
-use Rattle.go_denote_core.specs.declared.things.Stand.TheVariants as stands
-use Rattle.go_expr_core.specs.Places.{inside}
-use Rattle.go_expr_core.specs.Denoting.{written_type}
-use Rattle.go_piece_core.specs.Headers.{returned_names, returned_types}
-use Rattle.go_piece_core.specs.Pieces.{piece_values}
-use Rattle.go_piece_core.specs.Values.{variable}
+use Rattle.go_clear_core.specs.operand_core.declared.types.Operand.{Operand}
+use Rattle.go_clear_core.specs.operand_core.declared.types.ValueType.TheVariants as types
+use Rattle.go_clear_core.specs.denote_core.declared.things.Stand.{Stand}
+use Rattle.go_clear_core.specs.denote_core.declared.things.Stand.TheVariants as stands
+use Rattle.go_clear_core.specs.expr_core.Places.{inside}
+use Rattle.go_clear_core.specs.expr_core.Denoting.{written_type}
+use Rattle.go_clear_core.specs.piece_core.Headers.{returned_names, returned_types}
+use Rattle.go_clear_core.specs.piece_core.Pieces.{piece_values}
+use Rattle.go_clear_core.specs.piece_core.Values.{variable}
 use Rattle.go_handle_core.specs.Declarations.{Declaration}
 use Rattle.go_env_core.specs.declared.meaning.Meaning.{Meaning as NameMeaning}
 use Rattle.go_env_core.specs.Looks.{TheLooks}
 use Rattle.go_func_core.specs.Stands.{outer_looks}
 use Rattle.go_part_core.specs.Inputs.{InputModel, path_in}
 use Rattle.go_part_core.specs.Parts.{ContentOf, FileOf}
-use Rattle.go_instruction_core.specs.declared.letters.Word.{Word}
-use Rattle.go_instruction_core.specs.declared.letters.Word.TheVariants as words
-use Rattle.go_fragment_core.specs.declared.names.Gives.{Gives}
-use Rattle.go_fragment_core.specs.declared.names.Gives.TheVariants as gives
-use Rattle.go_fragment_core.specs.declared.names.Meaning.{Meaning}
-use Rattle.go_fragment_core.specs.declared.names.Meaning.TheVariants as meanings
-use Rattle.go_fragment_core.specs.declared.targets.Target.{Target}
-use Rattle.go_fragment_core.specs.declared.targets.Target.TheVariants as targets
-use Rattle.go_fragment_core.specs.Fragment.{expr_gives, is_one, is_other, meaning_gives, over, some_type_inside, type_word}
-use Rattle.go_fragment_core.specs.Inside.{names_inside, one_declared, one_target, one_value, params_inside, results_given, results_inside, signature_inside, simple_inside, value_spec_inside, values_inside}
-use Rattle.go_fragment_core.specs.Names.{CodeLooks, Frame, frame_of, is_slot, is_target, meant_target, slot_assigned, slot_of, slot_target}
-use Rattle.go_fragment_core.specs.Operators.{step_operator, update_operator}
-use Rattle.go_fragment_core.specs.Slots.{slots_of}
-use Rattle.go_code_core.specs.Code.{frame_in}
-use Rattle.go_means_core.specs.Meaning.{SourceOf, ToNothing, ToVariable, goal_of, meant_goal}
-use Rattle.go_fit_core.specs.Fitting.{DeclaredFit, ExprFits, GoalFits, IsGiven, ReturnFits, SimpleFits, SpecFits, TestFits, Typing, UpdatedFits, signature_gives}
-use Rattle.go_emit_core.specs.Emitted.{body_first, told_to}
-use Rattle.go_fold_core.specs.Parts.{parts}
-use Rattle.go_fold_core.specs.Reading.{IsOver}
-use Rattle.go_laws_core.specs.ConstantLaws.{code_names_of}
-use Rattle.go_laws_core.specs.Standing.{piece_exprs, pieces_of, stand_in_part, targets_listed}
-use Rattle.go_laws_core.proofs.ConstantLists.{HasItem, contained, has_right}
+use Rattle.go_clear_core.specs.instruction_core.declared.letters.Word.{Word}
+use Rattle.go_clear_core.specs.instruction_core.declared.letters.Word.TheVariants as words
+use Rattle.go_clear_core.specs.fragment_core.declared.names.Gives.{Gives}
+use Rattle.go_clear_core.specs.fragment_core.declared.names.Gives.TheVariants as gives
+use Rattle.go_clear_core.specs.fragment_core.declared.names.Meaning.{Meaning}
+use Rattle.go_clear_core.specs.fragment_core.declared.names.Meaning.TheVariants as meanings
+use Rattle.go_clear_core.specs.fragment_core.declared.targets.Target.{Target}
+use Rattle.go_clear_core.specs.fragment_core.declared.targets.Target.TheVariants as targets
+use Rattle.go_clear_core.specs.fragment_core.Fragment.{expr_gives, is_one, is_other, meaning_gives, over, some_type_inside, type_word}
+use Rattle.go_clear_core.specs.fragment_core.Inside.{names_inside, one_declared, one_target, one_value, params_inside, results_given, results_inside, signature_inside, simple_inside, value_spec_inside, values_inside}
+use Rattle.go_clear_core.specs.fragment_core.Names.{CodeLooks, Frame, frame_of, is_slot, is_target, meant_target, slot_assigned, slot_of, slot_target}
+use Rattle.go_clear_core.specs.fragment_core.Operators.{step_operator, update_operator}
+use Rattle.go_clear_core.specs.fragment_core.Slots.{slots_of}
+use Rattle.go_clear_core.specs.code_core.Code.{frame_in}
+use Rattle.go_clear_core.specs.means_core.Meaning.{SourceOf, ToNothing, ToVariable, goal_of, meant_goal}
+use Rattle.go_clear_core.specs.fit_core.Fitting.{DeclaredFit, ExprFits, GoalFits, IsGiven, ReturnFits, SimpleFits, SpecFits, TestFits, Typing, UpdatedFits, signature_gives}
+use Rattle.go_clear_core.specs.emit_core.Emitted.{body_first, told_to}
+use Rattle.go_clear_core.specs.fold_core.Parts.{parts}
+use Rattle.go_clear_core.specs.fold_core.Reading.{IsOver}
+use Rattle.go_clear_core.specs.laws_core.ConstantLaws.{code_names_of}
+use Rattle.go_clear_core.specs.laws_core.Standing.{piece_exprs, pieces_of, stand_in_part, targets_listed}
+use Rattle.go_clear_core.specs.laws_core.ConstantLists.{HasItem, contained, has_right}
 use Rattle.go_clear_core.specs.Statements.{IsClear, StandsOver, one_variable}
 use Rattle.go_clear_core.proofs.Statements.{assignments_over_one, conditions_over_bool, declarations_over_one, returns_over_results, updates_over_int}
 use Rattle.go_clear_core.proofs.Types.{types_keep_basics}

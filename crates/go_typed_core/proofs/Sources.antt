@@ -5,27 +5,27 @@ use Rattle.std.specs.List.{flat_map}
 use Rattle.go_tree_nodes.specs.Rules.{Wf_file}
 use Rattle.go_tree_nodes.specs.Spelling.{IsPlaced}
 use Rattle.go_tree_nodes.specs.Trees.{FileTree, FuncTree, TopTree}
-use Rattle.go_decl_core.specs.TopDecls.{top_decls}
-use Rattle.go_local_core.specs.Binding.{Local}
+use Rattle.go_clear_core.specs.decl_core.TopDecls.{top_decls}
+use Rattle.go_clear_core.specs.local_core.Binding.{Local}
 use Rattle.go_env_core.specs.declared.meaning.Meaning.{Meaning as NameMeaning}
 use Rattle.go_handle_core.specs.Declarations.{Declaration}
 use Rattle.go_func_core.specs.Functions.{walked_func}
 use Rattle.go_file_core.specs.Stands.{decl_funcs, file_funcs}
 use Rattle.go_ready_core.specs.Packages.{trees_in}
-use Rattle.go_fragment_core.specs.Inside.{in_fragment}
-use Rattle.go_fragment_core.specs.Names.{CodeLooks}
-use Rattle.go_code_core.specs.Code.{frame_in}
-use Rattle.go_means_core.specs.Meaning.{SourceOf}
-use Rattle.go_fit_core.specs.Laws.{FunctionFits}
-use Rattle.go_link_core.specs.Functions.{PlaceModel, all_functions, number_of}
+use Rattle.go_clear_core.specs.fragment_core.Inside.{in_fragment}
+use Rattle.go_clear_core.specs.fragment_core.Names.{CodeLooks}
+use Rattle.go_clear_core.specs.code_core.Code.{frame_in}
+use Rattle.go_clear_core.specs.means_core.Meaning.{SourceOf}
+use Rattle.go_clear_core.specs.fit_core.Laws.{FunctionFits}
+use Rattle.go_clear_core.specs.link_core.Functions.{PlaceModel, all_functions, number_of}
 use Rattle.go_part_core.specs.Parts.{FileOf, PartModel}
 use Rattle.go_meaning_core.specs.Looking.{looks_of}
-use Rattle.go_emit_core.specs.Emitted.{are_clean, body_first, body_uses, code_scene_over, declarations_in, objects_of, told_by}
-use Rattle.go_sources_core.specs.Sources.{package_sources, part_sources, sources_of}
-use Rattle.go_laws_core.specs.ConstantLaws.{code_names_of}
-use Rattle.go_laws_core.specs.Standing.{stand_in_part}
-use Rattle.go_laws_core.proofs.ConstantLists.{HasItem, contained, from_flat, has_get, has_left, has_of_all, has_right}
-use Rattle.go_laws_core.proofs.Declaring.{Declares, declared_in}
+use Rattle.go_clear_core.specs.emit_core.Emitted.{are_clean, body_first, body_uses, code_scene_over, declarations_in, objects_of, told_by}
+use Rattle.go_clear_core.specs.sources_core.Sources.{package_sources, part_sources, sources_of}
+use Rattle.go_clear_core.specs.laws_core.ConstantLaws.{code_names_of}
+use Rattle.go_clear_core.specs.laws_core.Standing.{stand_in_part}
+use Rattle.go_clear_core.specs.laws_core.ConstantLists.{HasItem, contained, from_flat, has_get, has_left, has_of_all, has_right}
+use Rattle.go_clear_core.specs.laws_core.Declaring.{Declares, declared_in}
 use Rattle.go_clear_core.proofs.Sources.{IsAt, at_file, of_decls}
 use Rattle.go_typed_core.specs.Functions.{IsFunction, source_with}
 use Rattle.go_typed_core.specs.Sources.{AreServed, IsAmongParts, SourcesFit}

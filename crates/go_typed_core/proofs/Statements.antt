@@ -2,29 +2,29 @@
 use Rattle.std.proofs.Common.{◌≡◌, inl, inr, ℕ, true, ◌&&◌, List, [], ◌∷◌, ◌++◌, Option, Some, None, Contains, subst}
 use Rattle.std.proofs.lemmas.Bool.{and_parts}
 use Rattle.std.specs.List.{flat_map}
-use Rattle.go_text_core.specs.declared.span.Span.{Span}
+use Rattle.go_clear_core.specs.text_core.declared.span.Span.{Span}
 use Rattle.go_tree_nodes.specs.declared.decls.ValueKind.{ValueKind}
 use Rattle.go_tree_nodes.specs.Rules.{IsPost, Wf_decl, Wf_else, Wf_branch, Wf_for, Wf_group, Wf_lines, Wf_specs, Wf_stmt, Wf_tops, Wf_value_spec}
 use Rattle.go_tree_nodes.specs.Trees as tree
 use Rattle.go_tree_nodes.specs.Trees.{DeclTree, Value, Types, Func, TopTree, FileTree, FuncTree, ExprTree, ValueSpecTree, Specs, Single, Group, SimpleTree, Alone, Step, Assign, Update, Define, ForTree, Forever, While, Clauses, StmtTree, BranchTree, ElseTree, Lines, Empty, Simple, Return, Break, Continue, Block, If, For, Branch, NoElse, ElseBlock, ElseIf, NoLines, Line}
-use Rattle.go_local_core.specs.Binding.{Local}
-use Rattle.go_local_core.specs.Outline.{branch_steps, else_steps, for_steps, group_steps, init_steps, lines_steps, simple_steps, some_condition_steps, some_simple_steps, specs_steps, stmt_steps}
-use Rattle.go_local_core.specs.Steps.{Piece, Act, Condition, Steps, Done, Check, Inner}
+use Rattle.go_clear_core.specs.local_core.Binding.{Local}
+use Rattle.go_clear_core.specs.local_core.Outline.{branch_steps, else_steps, for_steps, group_steps, init_steps, lines_steps, simple_steps, some_condition_steps, some_simple_steps, specs_steps, stmt_steps}
+use Rattle.go_clear_core.specs.local_core.Steps.{Piece, Act, Condition, Steps, Done, Check, Inner}
 use Rattle.go_env_core.specs.declared.meaning.Meaning.{Meaning as NameMeaning}
 use Rattle.go_part_core.specs.Inputs.{InputModel}
 use Rattle.go_part_core.specs.Parts.{ContentOf, FileOf}
 use Rattle.go_file_core.specs.Stands.{decl_funcs, file_funcs}
-use Rattle.go_fragment_core.specs.Inside.{branch_inside, else_inside, head_inside, init_inside, lines_inside, receiver_inside, signature_inside, simple_inside, some_simple_inside, stmt_inside, test_inside, value_lines_inside, value_spec_inside, value_specs_inside}
-use Rattle.go_fragment_core.specs.Fragment.{expr_gives, is_one}
-use Rattle.go_fragment_core.specs.Names.{CodeLooks, Frame}
-use Rattle.go_fragment_core.specs.Slots.{value_spec_slots}
-use Rattle.go_code_core.specs.Code.{frame_in, head_init, head_post, head_test}
-use Rattle.go_means_core.specs.Meaning.{SourceOf, params_of}
-use Rattle.go_fit_core.specs.Fitting.{BranchFits, ElseFits, InitFits, LinesFit, SimpleFits, SomeSimpleFits, SpecLinesFit, SpecsFit, StmtFits, TestFits, Typing, init_after, lines_after, simple_after, some_simple_after, specs_after, stmt_after}
-use Rattle.go_emit_core.specs.Emitted.{body_first, told_to}
-use Rattle.go_laws_core.specs.ConstantLaws.{code_names_of}
-use Rattle.go_laws_core.specs.Standing.{pieces_of}
-use Rattle.go_laws_core.proofs.ConstantLists.{HasItem, has}
+use Rattle.go_clear_core.specs.fragment_core.Inside.{branch_inside, else_inside, head_inside, init_inside, lines_inside, receiver_inside, signature_inside, simple_inside, some_simple_inside, stmt_inside, test_inside, value_lines_inside, value_spec_inside, value_specs_inside}
+use Rattle.go_clear_core.specs.fragment_core.Fragment.{expr_gives, is_one}
+use Rattle.go_clear_core.specs.fragment_core.Names.{CodeLooks, Frame}
+use Rattle.go_clear_core.specs.fragment_core.Slots.{value_spec_slots}
+use Rattle.go_clear_core.specs.code_core.Code.{frame_in, head_init, head_post, head_test}
+use Rattle.go_clear_core.specs.means_core.Meaning.{SourceOf, params_of}
+use Rattle.go_clear_core.specs.fit_core.Fitting.{BranchFits, ElseFits, InitFits, LinesFit, SimpleFits, SomeSimpleFits, SpecLinesFit, SpecsFit, StmtFits, TestFits, Typing, init_after, lines_after, simple_after, some_simple_after, specs_after, stmt_after}
+use Rattle.go_clear_core.specs.emit_core.Emitted.{body_first, told_to}
+use Rattle.go_clear_core.specs.laws_core.ConstantLaws.{code_names_of}
+use Rattle.go_clear_core.specs.laws_core.Standing.{pieces_of}
+use Rattle.go_clear_core.specs.laws_core.ConstantLists.{HasItem, has}
 use Rattle.go_clear_core.proofs.Clear.{functions_end_well}
 use Rattle.go_typed_core.specs.Fits.{FunctionsFit, IsServed}
 use Rattle.go_typed_core.specs.Functions.{IsFunction, source_with, typing_in}

@@ -2,19 +2,19 @@
 use Rattle.std.proofs.Common.{◌≡◌, ◌⊎◌, inl, inr, ℕ, zero, suc, ◌+◌, Bool, true, false, not, ◌&&◌, ◌||◌, List, [], ◌∷◌, ◌++◌, map, Option, Some, refl, sym, ap, ◌∙◌, subst, arith, if◌then◌else◌}
 use Rattle.std.specs.Prelude.{slice_get}
 use Rattle.std.proofs.lemmas.Bool.{and_parts}
-use Rattle.go_text_core.specs.Text.{is_blank}
-use Rattle.go_text_core.specs.declared.rule.Rule.TheVariants.{B1, B4}
-use Rattle.go_text_core.proofs.Each.{Each}
+use Rattle.go_clear_core.specs.text_core.Text.{is_blank}
+use Rattle.go_clear_core.specs.text_core.declared.rule.Rule.TheVariants.{B1, B4}
+use Rattle.go_clear_core.specs.text_core.Each.{Each}
 use Rattle.go_tree_nodes.specs.declared.names.Ident.{Ident}
-use Rattle.go_local_core.specs.Binding.{Local, bound, is_first, is_second}
-use Rattle.go_local_core.specs.Denoted.{IsAmong}
-use Rattle.go_local_core.specs.Faults.{ident_fault, name_faults, second_faults}
-use Rattle.go_local_core.specs.Law.{Rules, declared_from, law_out, locals_of_names}
-use Rattle.go_local_core.specs.Pieces.{ident_place, piece_declares}
-use Rattle.go_local_core.specs.Steps.{Piece, Newness, EachFirst, OneNew, Steps, Done, Check, Declare, Inner}
-use Rattle.go_fold_core.proofs.Inside.{none_left, none_right}
-use Rattle.go_laws_core.specs.Standing.{pieces_in}
-use Rattle.go_laws_core.proofs.ConstantLists.{HasItem, has_either, has_left, has_right}
+use Rattle.go_clear_core.specs.local_core.Binding.{Local, bound, is_first, is_second}
+use Rattle.go_clear_core.specs.local_core.Denoted.{IsAmong}
+use Rattle.go_clear_core.specs.local_core.Faults.{ident_fault, name_faults, second_faults}
+use Rattle.go_clear_core.specs.local_core.Law.{Rules, declared_from, law_out, locals_of_names}
+use Rattle.go_clear_core.specs.local_core.Pieces.{ident_place, piece_declares}
+use Rattle.go_clear_core.specs.local_core.Steps.{Piece, Newness, EachFirst, OneNew, Steps, Done, Check, Declare, Inner}
+use Rattle.go_clear_core.specs.fold_core.Inside.{none_left, none_right}
+use Rattle.go_clear_core.specs.laws_core.Standing.{pieces_in}
+use Rattle.go_clear_core.specs.laws_core.ConstantLists.{HasItem, has_either, has_left, has_right}
 use Rattle.go_typed_core.proofs.Checks.{AreDeclaring}
 
 -- lists

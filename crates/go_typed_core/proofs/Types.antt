@@ -1,28 +1,28 @@
 -- Types that are written are over what code takes them for.
 use Rattle.std.proofs.Common.{◌≡◌, inl, inr, ℕ, true, List, [], ◌∷◌, ◌++◌, map, Option, Some, None, Contains, refl, sym, ap, ◌∙◌, subst}
 use Rattle.std.proofs.lemmas.Bool.{and_parts}
-use Rattle.go_text_core.specs.declared.span.Span.{Span}
-use Rattle.go_text_core.proofs.Each.{Each}
+use Rattle.go_clear_core.specs.text_core.declared.span.Span.{Span}
+use Rattle.go_clear_core.specs.text_core.Each.{Each}
 use Rattle.go_tree_nodes.specs.declared.files.Receiver.{Receiver}
 use Rattle.go_tree_nodes.specs.declared.types.TypeName.{TypeName}
 use Rattle.go_tree_nodes.specs.declared.types.TypeName.TheVariants as type_names
 use Rattle.go_tree_nodes.specs.Trees.{FileTree, FuncTree, TypeTree, NamedType, Pointer, ParenType, Struct, Interface, ParamTrees, NoParams, Param, ResultTree, NoResult, OneResult, Results, SignatureTree, Signed}
 use Rattle.go_tree_nodes.specs.WrittenTypes.{params_types, result_types, signature_types, some_type}
-use Rattle.go_local_core.specs.Binding.{Local, bound}
-use Rattle.go_local_core.specs.Steps.{Piece, Header, Spec, Act, Condition, Given}
+use Rattle.go_clear_core.specs.local_core.Binding.{Local, bound}
+use Rattle.go_clear_core.specs.local_core.Steps.{Piece, Header, Spec, Act, Condition, Given}
 use Rattle.go_term_core.specs.Terms.{Term}
-use Rattle.go_decl_core.specs.declared.keys.DeclKey.{DeclKey}
+use Rattle.go_clear_core.specs.decl_core.declared.keys.DeclKey.{DeclKey}
 use Rattle.go_settle_core.specs.declared.kind.Kind.{Kind}
 use Rattle.go_inline_core.specs.Inline.{inline_of}
-use Rattle.go_denote_core.specs.declared.things.Outcome.{Outcome}
-use Rattle.go_denote_core.specs.declared.things.Outcome.TheVariants as outcomes
+use Rattle.go_clear_core.specs.denote_core.declared.things.Outcome.{Outcome}
+use Rattle.go_clear_core.specs.denote_core.declared.things.Outcome.TheVariants as outcomes
 use Rattle.go_literal_core.specs.Literals.{literal_type}
-use Rattle.go_expr_core.specs.Denoting.{named_type, type_name_answer, written_type}
-use Rattle.go_expr_core.specs.Uses.{Spot, params_spots, result_spots, signature_spots, type_name_spots, type_spots, use_of}
-use Rattle.go_expr_core.specs.declared.things.Use.{Use}
-use Rattle.go_piece_core.specs.Headers.{returned_types}
-use Rattle.go_piece_core.specs.Pieces.{piece_uses}
-use Rattle.go_piece_core.specs.Types.{some_type_uses}
+use Rattle.go_clear_core.specs.expr_core.Denoting.{named_type, type_name_answer, written_type}
+use Rattle.go_clear_core.specs.expr_core.Uses.{Spot, params_spots, result_spots, signature_spots, type_name_spots, type_spots, use_of}
+use Rattle.go_clear_core.specs.expr_core.declared.things.Use.{Use}
+use Rattle.go_clear_core.specs.piece_core.Headers.{returned_types}
+use Rattle.go_clear_core.specs.piece_core.Pieces.{piece_uses}
+use Rattle.go_clear_core.specs.piece_core.Types.{some_type_uses}
 use Rattle.go_handle_core.specs.Declarations.{Declaration}
 use Rattle.go_env_core.specs.declared.meaning.Meaning.{Meaning as NameMeaning}
 use Rattle.go_env_core.specs.Looks.{TheLooks, inline_type}
@@ -33,19 +33,19 @@ use Rattle.go_func_core.proofs.Alike.{types_same}
 use Rattle.go_func_core.proofs.Regions.{header_unseen}
 use Rattle.go_part_core.specs.Inputs.{InputModel}
 use Rattle.go_part_core.specs.Parts.{ContentOf, FileOf}
-use Rattle.go_instruction_core.specs.declared.letters.Word.{Word}
-use Rattle.go_fragment_core.specs.declared.names.Gives.TheVariants as gives
-use Rattle.go_fragment_core.specs.declared.names.Meaning.{Meaning}
-use Rattle.go_fragment_core.specs.declared.names.Meaning.TheVariants as meanings
-use Rattle.go_fragment_core.specs.Fragment.{over, type_name_word, type_of_meaning, type_word}
-use Rattle.go_fragment_core.specs.Inside.{results_inside, signature_inside, params_inside}
-use Rattle.go_fragment_core.specs.Names.{CodeLooks}
-use Rattle.go_fold_core.specs.Laws.{AreMeant, IsMeant}
-use Rattle.go_fold_core.specs.Reading.{IsOneOver, IsOver, IsTypeMeant}
-use Rattle.go_fit_core.specs.Fitting.{signature_gives}
-use Rattle.go_laws_core.specs.ConstantLaws.{code_names_of}
-use Rattle.go_laws_core.specs.Standing.{pieces_of, stand_in_part}
-use Rattle.go_laws_core.proofs.ConstantLists.{HasItem, contained, has, has_left, has_map, has_right}
+use Rattle.go_clear_core.specs.instruction_core.declared.letters.Word.{Word}
+use Rattle.go_clear_core.specs.fragment_core.declared.names.Gives.TheVariants as gives
+use Rattle.go_clear_core.specs.fragment_core.declared.names.Meaning.{Meaning}
+use Rattle.go_clear_core.specs.fragment_core.declared.names.Meaning.TheVariants as meanings
+use Rattle.go_clear_core.specs.fragment_core.Fragment.{over, type_name_word, type_of_meaning, type_word}
+use Rattle.go_clear_core.specs.fragment_core.Inside.{results_inside, signature_inside, params_inside}
+use Rattle.go_clear_core.specs.fragment_core.Names.{CodeLooks}
+use Rattle.go_clear_core.specs.fold_core.Laws.{AreMeant, IsMeant}
+use Rattle.go_clear_core.specs.fold_core.Reading.{IsOneOver, IsOver, IsTypeMeant}
+use Rattle.go_clear_core.specs.fit_core.Fitting.{signature_gives}
+use Rattle.go_clear_core.specs.laws_core.ConstantLaws.{code_names_of}
+use Rattle.go_clear_core.specs.laws_core.Standing.{pieces_of, stand_in_part}
+use Rattle.go_clear_core.specs.laws_core.ConstantLists.{HasItem, contained, has, has_left, has_map, has_right}
 use Rattle.go_typed_core.specs.Functions.{IsFunction, function_looks, meaning_there}
 use Rattle.go_typed_core.specs.Written.{ShowTheirTypes, TypesAreOver, own_types}
 use Rattle.go_typed_core.proofs.Outer.{MeansLocal, all_local}

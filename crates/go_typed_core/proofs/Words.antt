@@ -2,17 +2,17 @@
 use Rattle.std.proofs.Common.{◌≡◌, ℕ, List, Some, refl}
 use Rattle.go_term_core.specs.Terms.{Term}
 use Rattle.go_term_core.specs.declared.term.Basic.TheVariants as basics
-use Rattle.go_operand_core.specs.declared.types.TypeForm.{TypeForm}
-use Rattle.go_operand_core.specs.declared.types.TypeForm.TheVariants as forms
-use Rattle.go_operand_core.specs.declared.types.ValueType.{ValueType}
-use Rattle.go_operand_core.specs.declared.types.ValueType.TheVariants as value_types
-use Rattle.go_operand_core.specs.Values.{basic_under, form_basic}
-use Rattle.go_table_core.specs.Entries.{Entry, find_entry}
-use Rattle.go_decide_core.specs.Rules.{form_of, term_rules}
-use Rattle.go_instruction_core.specs.declared.letters.Word.{Word}
-use Rattle.go_instruction_core.specs.declared.letters.Word.TheVariants as words
+use Rattle.go_clear_core.specs.operand_core.declared.types.TypeForm.{TypeForm}
+use Rattle.go_clear_core.specs.operand_core.declared.types.TypeForm.TheVariants as forms
+use Rattle.go_clear_core.specs.operand_core.declared.types.ValueType.{ValueType}
+use Rattle.go_clear_core.specs.operand_core.declared.types.ValueType.TheVariants as value_types
+use Rattle.go_clear_core.specs.operand_core.Values.{basic_under, form_basic}
+use Rattle.go_clear_core.specs.table_core.Entries.{Entry, find_entry}
+use Rattle.go_clear_core.specs.decide_core.Rules.{form_of, term_rules}
+use Rattle.go_clear_core.specs.instruction_core.declared.letters.Word.{Word}
+use Rattle.go_clear_core.specs.instruction_core.declared.letters.Word.TheVariants as words
 use Rattle.go_meaning_core.specs.Words.{form_word, value_word, word_in}
-use Rattle.go_fold_core.specs.Reading.{IsOver, basic_of}
+use Rattle.go_clear_core.specs.fold_core.Reading.{IsOver, basic_of}
 
 form_over : (f : TypeForm Term) (w : Word) → form_basic f ≡ Some (basic_of w) → form_word f ≡ Some w
 form_over (forms.Basic basics.Int) words.Int e = refl

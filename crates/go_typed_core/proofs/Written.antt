@@ -1,54 +1,54 @@
 -- A name of a type that denotes a declaration denotes the type that it is where it is written.
 use Rattle.std.proofs.Common.{◌≡◌, ℕ, Bool, true, false, not, List, [], ◌∷◌, ◌++◌, Option, Some, None, is_some, refl, sym, ap, ◌∙◌, subst, append-nil, if◌then◌else◌}
 use Rattle.std.proofs.lemmas.Grind.{flat_map-append}
-use Rattle.go_text_core.specs.Text.{is_blank}
-use Rattle.go_text_core.specs.declared.rule.Rule.TheVariants.{N8, S8}
-use Rattle.go_text_core.specs.declared.span.Span.{Span}
-use Rattle.go_text_core.proofs.Each.{Each}
-use Rattle.go_universe_core.specs.declared.Predeclared.{Predeclared}
-use Rattle.go_universe_core.specs.declared.Predeclared.TheVariants as universe
-use Rattle.go_universe_core.specs.Universe.{found}
-use Rattle.go_decl_core.specs.declared.keys.DeclKey.{DeclKey}
-use Rattle.go_decl_core.specs.declared.keys.DeclRef.{DeclRef}
-use Rattle.go_decl_core.specs.declared.places.DeclKind.{DeclKind}
-use Rattle.go_decl_core.specs.declared.places.DeclKind.TheVariants as kinds
+use Rattle.go_clear_core.specs.text_core.Text.{is_blank}
+use Rattle.go_clear_core.specs.text_core.declared.rule.Rule.TheVariants.{N8, S8}
+use Rattle.go_clear_core.specs.text_core.declared.span.Span.{Span}
+use Rattle.go_clear_core.specs.text_core.Each.{Each}
+use Rattle.go_clear_core.specs.universe_core.declared.Predeclared.{Predeclared}
+use Rattle.go_clear_core.specs.universe_core.declared.Predeclared.TheVariants as universe
+use Rattle.go_clear_core.specs.universe_core.Universe.{found}
+use Rattle.go_clear_core.specs.decl_core.declared.keys.DeclKey.{DeclKey}
+use Rattle.go_clear_core.specs.decl_core.declared.keys.DeclRef.{DeclRef}
+use Rattle.go_clear_core.specs.decl_core.declared.places.DeclKind.{DeclKind}
+use Rattle.go_clear_core.specs.decl_core.declared.places.DeclKind.TheVariants as kinds
 use Rattle.go_tree_nodes.specs.declared.names.Ident.{Ident}
 use Rattle.go_tree_nodes.specs.declared.types.TypeName.{TypeName}
 use Rattle.go_tree_nodes.specs.declared.types.TypeName.TheVariants as type_names
 use Rattle.go_tree_nodes.specs.declared.usage.Usage.TheVariants as usages
 use Rattle.go_tree_nodes.specs.Trees.{FileTree}
 use Rattle.go_graph_core.specs.Packages.{trees_of}
-use Rattle.go_block_core.specs.Bindings.{key_of}
-use Rattle.go_block_core.specs.Blocks.{file_binding, file_has}
-use Rattle.go_block_core.specs.Tables.{in_block}
-use Rattle.go_block_core.specs.declared.binding.Binding.{Binding}
-use Rattle.go_block_core.specs.declared.binding.Target.{Target}
-use Rattle.go_block_core.specs.declared.binding.Target.TheVariants as targets
+use Rattle.go_clear_core.specs.block_core.Bindings.{key_of}
+use Rattle.go_clear_core.specs.block_core.Blocks.{file_binding, file_has}
+use Rattle.go_clear_core.specs.block_core.Tables.{in_block}
+use Rattle.go_clear_core.specs.block_core.declared.binding.Binding.{Binding}
+use Rattle.go_clear_core.specs.block_core.declared.binding.Target.{Target}
+use Rattle.go_clear_core.specs.block_core.declared.binding.Target.TheVariants as targets
 use Rattle.go_scope_core.specs.Models.{scopes_model}
 use Rattle.go_scope_core.proofs.Lookups.{by_parts, in_scope}
 use Rattle.go_names_core.specs.Scope.{some_meaning}
 use Rattle.go_names_core.specs.declared.meaning.Outside.{Outside}
 use Rattle.go_names_core.specs.declared.meaning.Outside.TheVariants as outsides
-use Rattle.go_local_core.specs.Binding.{Local, NameLook, bound}
+use Rattle.go_clear_core.specs.local_core.Binding.{Local, NameLook, bound}
 use Rattle.go_term_core.specs.declared.term.MemberPlace.TheVariants as places
 use Rattle.go_term_core.specs.Terms.{Term, NoType, Predeclared as Basic, ErrorType, Defined, PointerTo, StructOf, InterfaceOf, NoMethod, Sign, is_no_type}
 use Rattle.go_settle_core.specs.Settled.{defined_unless, kind_of_term}
-use Rattle.go_table_core.specs.Entries.{Entry, find_entry, term_in}
-use Rattle.go_decide_core.specs.Rules.{typed}
+use Rattle.go_clear_core.specs.table_core.Entries.{Entry, find_entry, term_in}
+use Rattle.go_clear_core.specs.decide_core.Rules.{typed}
 use Rattle.go_entry_core.specs.Meanings.{outside_meaning, plain_meaning, qualified_meaning, shown_type, type_in_binding, type_in_target, type_of_key, type_of_kind, type_of_predeclared, type_of_target, type_of_universe}
 use Rattle.go_entry_core.specs.Showing.{shown_in}
-use Rattle.go_denote_core.specs.declared.things.Answer.{Answer}
-use Rattle.go_denote_core.specs.declared.things.Denoted.{Denoted}
-use Rattle.go_denote_core.specs.declared.things.Denoted.TheVariants as denotes
-use Rattle.go_denote_core.specs.declared.things.Exported.TheVariants as exporteds
-use Rattle.go_denote_core.specs.declared.things.Found.TheVariants as founds
-use Rattle.go_denote_core.specs.declared.things.Outcome.{Outcome}
-use Rattle.go_denote_core.specs.declared.things.Outcome.TheVariants as outcomes
-use Rattle.go_denote_core.specs.declared.things.Stand.TheVariants as stands
-use Rattle.go_denote_core.specs.Answers.{found_answer, refused}
-use Rattle.go_denote_core.specs.Selectors.{dot_of, exported_answer, selector_answer}
-use Rattle.go_expr_core.specs.Denoting.{ident_answer, type_name_answer}
-use Rattle.go_expr_core.specs.Looks.{look_of_place}
+use Rattle.go_clear_core.specs.denote_core.declared.things.Answer.{Answer}
+use Rattle.go_clear_core.specs.denote_core.declared.things.Denoted.{Denoted}
+use Rattle.go_clear_core.specs.denote_core.declared.things.Denoted.TheVariants as denotes
+use Rattle.go_clear_core.specs.denote_core.declared.things.Exported.TheVariants as exporteds
+use Rattle.go_clear_core.specs.denote_core.declared.things.Found.TheVariants as founds
+use Rattle.go_clear_core.specs.denote_core.declared.things.Outcome.{Outcome}
+use Rattle.go_clear_core.specs.denote_core.declared.things.Outcome.TheVariants as outcomes
+use Rattle.go_clear_core.specs.denote_core.declared.things.Stand.TheVariants as stands
+use Rattle.go_clear_core.specs.denote_core.Answers.{found_answer, refused}
+use Rattle.go_clear_core.specs.denote_core.Selectors.{dot_of, exported_answer, selector_answer}
+use Rattle.go_clear_core.specs.expr_core.Denoting.{ident_answer, type_name_answer}
+use Rattle.go_clear_core.specs.expr_core.Looks.{look_of_place}
 use Rattle.go_handle_core.specs.Declarations.{Declaration, Package, InFile}
 use Rattle.go_face_core.specs.declared.face.Face.TheVariants as faces
 use Rattle.go_face_core.specs.declared.shown.ShownFace.{ShownFace}
@@ -67,11 +67,11 @@ use Rattle.go_summary_core.specs.Summaries.{SummaryModel}
 use Rattle.go_summary_core.specs.Views.{exports_told, faces_told, types_told}
 use Rattle.go_part_core.specs.Inputs.{InputModel, path_in}
 use Rattle.go_part_core.specs.Parts.{ContentOf, IsPart, package_seen, seen_by}
-use Rattle.go_fragment_core.specs.declared.names.Meaning.{Meaning}
-use Rattle.go_emit_core.specs.Emitted.{told_to}
-use Rattle.go_fold_core.specs.Laws.{HasDeclaration}
-use Rattle.go_fold_core.specs.Reading.{AreNamesRead, IsExportedMeant, IsFoundMeant, IsTypeMeant}
-use Rattle.go_laws_core.specs.Standing.{looks_among, stand_in_part}
+use Rattle.go_clear_core.specs.fragment_core.declared.names.Meaning.{Meaning}
+use Rattle.go_clear_core.specs.emit_core.Emitted.{told_to}
+use Rattle.go_clear_core.specs.fold_core.Laws.{HasDeclaration}
+use Rattle.go_clear_core.specs.fold_core.Reading.{AreNamesRead, IsExportedMeant, IsFoundMeant, IsTypeMeant}
+use Rattle.go_clear_core.specs.laws_core.Standing.{looks_among, stand_in_part}
 use Rattle.go_type_doc_core.specs.mirrors.Named.{IsNoTypeFace, is_type}
 use Rattle.go_type_doc_core.proofs.Known.{face_plain, face_typed}
 use Rattle.go_typed_core.specs.Functions.{known_types}

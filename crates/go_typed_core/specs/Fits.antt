@@ -2,32 +2,32 @@
 --
 -- docs/RULES.md, "Bodies of functions", "Stack code". The Go specification, "Declarations and scope", "Statements", "Expressions", "Calls".
 use Rattle.std.specs.Prelude.{◌≡◌, ℕ, true, List, ◌++◌, Option, Contains}
-use Rattle.go_text_core.specs.declared.span.Span.{Span}
+use Rattle.go_clear_core.specs.text_core.declared.span.Span.{Span}
 use Rattle.go_tree_nodes.specs.Trees.{ExprTree, FileTree, FuncTree, Integer, ItemTrees, Call}
-use Rattle.go_local_core.specs.Binding.{Local}
-use Rattle.go_local_core.specs.Steps.{Piece}
+use Rattle.go_clear_core.specs.local_core.Binding.{Local}
+use Rattle.go_clear_core.specs.local_core.Steps.{Piece}
 use Rattle.go_term_core.specs.Terms.{Term, Sign}
-use Rattle.go_denote_core.specs.declared.things.Stand.{Stand}
-use Rattle.go_denote_core.specs.declared.things.Stand.TheVariants as stands
+use Rattle.go_clear_core.specs.denote_core.declared.things.Stand.{Stand}
+use Rattle.go_clear_core.specs.denote_core.declared.things.Stand.TheVariants as stands
 use Rattle.go_handle_core.specs.Declarations.{Declaration}
 use Rattle.go_env_core.specs.declared.meaning.Meaning.{Meaning as NameMeaning}
-use Rattle.go_instruction_core.specs.declared.letters.Word.{Word}
-use Rattle.go_fragment_core.specs.declared.names.Meaning.{Meaning}
-use Rattle.go_fragment_core.specs.declared.names.Meaning.TheVariants as meanings
-use Rattle.go_fragment_core.specs.Constants.{folded}
-use Rattle.go_fragment_core.specs.Fragment.{all_ones}
-use Rattle.go_fragment_core.specs.Inside.{in_fragment}
-use Rattle.go_fragment_core.specs.Names.{callee_meaning}
-use Rattle.go_code_core.specs.Code.{frame_in, letters}
-use Rattle.go_means_core.specs.Meaning.{SourceOf}
-use Rattle.go_fit_core.specs.Fitting.{IsGiven, ReferenceFits, receiver_letters}
-use Rattle.go_fit_core.specs.Laws.{FunctionFits}
-use Rattle.go_fold_core.specs.Parts.{parts}
-use Rattle.go_fold_core.specs.Reading.{AreRead}
+use Rattle.go_clear_core.specs.instruction_core.declared.letters.Word.{Word}
+use Rattle.go_clear_core.specs.fragment_core.declared.names.Meaning.{Meaning}
+use Rattle.go_clear_core.specs.fragment_core.declared.names.Meaning.TheVariants as meanings
+use Rattle.go_clear_core.specs.fragment_core.Constants.{folded}
+use Rattle.go_clear_core.specs.fragment_core.Fragment.{all_ones, receiver_fits}
+use Rattle.go_clear_core.specs.fragment_core.Inside.{in_fragment}
+use Rattle.go_clear_core.specs.fragment_core.Names.{callee_meaning}
+use Rattle.go_clear_core.specs.code_core.Code.{frame_in, letters}
+use Rattle.go_clear_core.specs.means_core.Meaning.{SourceOf}
+use Rattle.go_clear_core.specs.fit_core.Fitting.{IsGiven, ReferenceFits, receiver_letters}
+use Rattle.go_clear_core.specs.fit_core.Laws.{FunctionFits}
+use Rattle.go_clear_core.specs.fold_core.Parts.{parts}
+use Rattle.go_clear_core.specs.fold_core.Reading.{AreReadOver}
 use Rattle.go_part_core.specs.Inputs.{InputModel}
 use Rattle.go_part_core.specs.Parts.{ContentOf, FileOf}
-use Rattle.go_laws_core.specs.ConstantLaws.{code_names_of}
-use Rattle.go_laws_core.specs.Standing.{piece_exprs, pieces_of}
+use Rattle.go_clear_core.specs.laws_core.ConstantLaws.{code_names_of}
+use Rattle.go_clear_core.specs.laws_core.Standing.{piece_exprs, pieces_of}
 use Rattle.go_clear_core.specs.Pieces.{ConstantsAreTyped}
 use Rattle.go_typed_core.specs.Functions.{IsFunction, function_looks, meaning_there, source_with, typing_in}
 use Rattle.go_typed_core.specs.Written.{ShowTheirTypes}
@@ -43,13 +43,13 @@ IsCallServed program s typing meanings.Println first receiver ws = Unit {0}
 IsCallServed program s typing meanings.Panic first receiver ws = Unit {0}
 IsCallServed program s typing meanings.Other first receiver ws = Unit {0}
 
--- what is asked of a function beside what the check says of it: that its calls lead to functions which take their arguments, that calls of methods give what
--- their signatures give, that constants are of types over what their values are, and that integer literals have values
+-- what is asked of a function beside what the check says of it: that its calls lead to functions which take their arguments, that calls of methods of
+-- operands over `int` and `bool` give what their signatures give, that constants are of types over what their values are, and that integer literals have values
 pub record IsServed (program : List SourceOf) (callees : List (Option ℕ)) (i : InputModel) (c : ContentOf) (n : ℕ) (t : FileTree) (f : FileOf) (g : FuncTree) (all : List (Local NameMeaning)) : Type 0 where
   pub calls : (p : Piece) → Contains (pieces_of g) p → (e : ExprTree) → Contains (piece_exprs p) e → (q : Stand) (x : ExprTree) (first : Span) (items : ItemTrees) (last : Span) → Contains (parts stands.«Value» e) (q, Call x first items last)
-      → all_ones (frame_in (code_names_of i c n f g) g) items ≡ true
+      → all_ones (frame_in (code_names_of i c n f g) g) items ≡ true → receiver_fits (frame_in (code_names_of i c n f g) g) x ≡ true
       → IsCallServed program (source_with (code_names_of i c n f g) callees g) (typing_in i c f) (callee_meaning (code_names_of i c n f g) x) first.start (receiver_letters (frame_in (code_names_of i c n f g) g) x) (letters (frame_in (code_names_of i c n f g) g) items)
-  pub methods : AreRead Term Sign Declaration (List ℕ) (function_looks i c n t all) (meaning_there i c n f)
+  pub methods : AreReadOver Term Sign Declaration (List ℕ) (function_looks i c n t all) (meaning_there i c n f)
   pub constants : ConstantsAreTyped Term Sign Declaration (List ℕ) (function_looks i c n t all)
   pub integers : (p : Piece) → Contains (pieces_of g) p → (e : ExprTree) → Contains (piece_exprs p) e → (q : Stand) (k : ℕ) (span : Span) → Contains (parts stands.«Value» e) (q, Integer k span)
       → IsGiven (folded (code_names_of i c n f g) (Integer k span))

@@ -5,13 +5,13 @@ use Rattle.std.specs.Prelude.{◌≡◌, ℕ, true, List, Option, Some, Contains
 use Rattle.go_tree_nodes.specs.Rules.{Wf_file}
 use Rattle.go_tree_nodes.specs.Spelling.{IsPlaced}
 use Rattle.go_tree_nodes.specs.Trees.{FileTree, FuncTree}
-use Rattle.go_local_core.specs.Binding.{Local}
-use Rattle.go_denote_core.specs.declared.things.Outcome.{Outcome}
-use Rattle.go_fragment_core.specs.declared.names.Meaning.{Meaning}
-use Rattle.go_fragment_core.specs.Names.{CodeLooks}
-use Rattle.go_means_core.specs.Meaning.{SourceOf}
-use Rattle.go_fit_core.specs.Fitting.{Typing}
-use Rattle.go_table_core.specs.Entries.{Entry}
+use Rattle.go_clear_core.specs.local_core.Binding.{Local}
+use Rattle.go_clear_core.specs.denote_core.declared.things.Outcome.{Outcome}
+use Rattle.go_clear_core.specs.fragment_core.declared.names.Meaning.{Meaning}
+use Rattle.go_clear_core.specs.fragment_core.Names.{CodeLooks}
+use Rattle.go_clear_core.specs.means_core.Meaning.{SourceOf}
+use Rattle.go_clear_core.specs.fit_core.Fitting.{Typing}
+use Rattle.go_clear_core.specs.table_core.Entries.{Entry}
 use Rattle.go_env_core.specs.declared.meaning.Meaning.{Meaning as NameMeaning}
 use Rattle.go_env_core.specs.Looks.{TheLooks}
 use Rattle.go_handle_core.specs.Declarations.{Declaration}
@@ -23,9 +23,9 @@ use Rattle.go_part_core.specs.Inputs.{InputModel, IsInput}
 use Rattle.go_part_core.specs.Parts.{ContentOf, FileOf, IsPart}
 use Rattle.go_meaning_core.specs.Looking.{locals_meant}
 use Rattle.go_meaning_core.specs.Scenes.{outcome_meaning}
-use Rattle.go_emit_core.specs.Emitted.{are_clean, code_scene_over, told_to}
-use Rattle.go_laws_core.specs.ConstantLaws.{ImportsAreOthers}
-use Rattle.go_laws_core.specs.Standing.{looks_among, stand_in_part}
+use Rattle.go_clear_core.specs.emit_core.Emitted.{are_clean, code_scene_over, told_to}
+use Rattle.go_clear_core.specs.laws_core.ConstantLaws.{ImportsAreOthers}
+use Rattle.go_clear_core.specs.laws_core.Standing.{looks_among, stand_in_part}
 use Rattle.go_clear_core.specs.Variables.{typing_of}
 
 -- a function of the file of a number of a package of which nothing is reported, where these are all of its declarations

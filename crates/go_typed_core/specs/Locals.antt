@@ -2,18 +2,18 @@
 --
 -- docs/RULES.md, "Bodies of functions", "Stack code". The Go specification, "Variable declarations", "Short variable declarations".
 use Rattle.std.specs.Prelude.{◌≡◌, ℕ, true, false, List, [], ◌∷◌, Some, None, Contains}
-use Rattle.go_text_core.specs.Text.{is_blank}
+use Rattle.go_clear_core.specs.text_core.Text.{is_blank}
 use Rattle.go_tree_nodes.specs.declared.names.Ident.{Ident}
 use Rattle.go_tree_nodes.specs.Trees.{FileTree, FuncTree}
-use Rattle.go_local_core.specs.Binding.{Local}
-use Rattle.go_local_core.specs.Pieces.{piece_declares}
-use Rattle.go_local_core.specs.Steps.{Piece}
-use Rattle.go_piece_core.specs.Pieces.{piece_values}
+use Rattle.go_clear_core.specs.local_core.Binding.{Local}
+use Rattle.go_clear_core.specs.local_core.Pieces.{piece_declares}
+use Rattle.go_clear_core.specs.local_core.Steps.{Piece}
+use Rattle.go_clear_core.specs.piece_core.Pieces.{piece_values}
 use Rattle.go_env_core.specs.declared.meaning.Meaning.{Meaning as NameMeaning}
-use Rattle.go_instruction_core.specs.declared.letters.Word.{Word}
+use Rattle.go_clear_core.specs.instruction_core.declared.letters.Word.{Word}
 use Rattle.go_part_core.specs.Inputs.{InputModel}
 use Rattle.go_part_core.specs.Parts.{ContentOf, FileOf}
-use Rattle.go_laws_core.specs.Standing.{pieces_of}
+use Rattle.go_clear_core.specs.laws_core.Standing.{pieces_of}
 use Rattle.go_clear_core.specs.Statements.{StandsOver}
 use Rattle.go_typed_core.specs.Functions.{IsFunction, function_looks, typing_in}
 

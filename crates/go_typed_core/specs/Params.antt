@@ -3,15 +3,15 @@
 -- docs/RULES.md, "Stack code". The Go specification, "Function types", "Method declarations".
 use Rattle.std.specs.Prelude.{◌≡◌, ℕ, true, List, Option}
 use Rattle.go_tree_nodes.specs.Trees.{FileTree, FuncTree}
-use Rattle.go_local_core.specs.Binding.{Local}
+use Rattle.go_clear_core.specs.local_core.Binding.{Local}
 use Rattle.go_env_core.specs.declared.meaning.Meaning.{Meaning as NameMeaning}
-use Rattle.go_fragment_core.specs.Inside.{in_fragment}
-use Rattle.go_code_core.specs.Code.{frame_in}
-use Rattle.go_means_core.specs.Meaning.{params_of}
-use Rattle.go_fit_core.specs.Fitting.{AreTypedAs, taken_by}
+use Rattle.go_clear_core.specs.fragment_core.Inside.{in_fragment}
+use Rattle.go_clear_core.specs.code_core.Code.{frame_in}
+use Rattle.go_clear_core.specs.means_core.Meaning.{params_of}
+use Rattle.go_clear_core.specs.fit_core.Fitting.{AreTypedAs, taken_by}
 use Rattle.go_part_core.specs.Inputs.{InputModel}
 use Rattle.go_part_core.specs.Parts.{ContentOf, FileOf}
-use Rattle.go_laws_core.specs.ConstantLaws.{code_names_of}
+use Rattle.go_clear_core.specs.laws_core.ConstantLaws.{code_names_of}
 use Rattle.go_typed_core.specs.Functions.{IsFunction, source_with, typing_in}
 use Rattle.go_typed_core.specs.Written.{ShowTheirTypes}
 

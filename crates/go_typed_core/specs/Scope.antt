@@ -5,24 +5,24 @@ use Rattle.std.specs.Prelude.{◌≡◌, ℕ, true, List, [], ◌++◌, Option, 
 use Rattle.std.specs.List.{flat_map}
 use Rattle.go_tree_nodes.specs.declared.names.Ident.{Ident}
 use Rattle.go_tree_nodes.specs.Trees.{FileTree, FuncTree, ExprTree, Named}
-use Rattle.go_local_core.specs.Binding.{Local}
-use Rattle.go_local_core.specs.Outline.{header_idents, lines_steps}
-use Rattle.go_local_core.specs.Steps.{Piece, Header, Spec, Act, Condition, Given, Steps, Done, Check, Declare, Inner}
-use Rattle.go_denote_core.specs.declared.things.Stand.{Stand}
-use Rattle.go_denote_core.specs.declared.things.Stand.TheVariants as stands
+use Rattle.go_clear_core.specs.local_core.Binding.{Local}
+use Rattle.go_clear_core.specs.local_core.Outline.{header_idents, lines_steps}
+use Rattle.go_clear_core.specs.local_core.Steps.{Piece, Header, Spec, Act, Condition, Given, Steps, Done, Check, Declare, Inner}
+use Rattle.go_clear_core.specs.denote_core.declared.things.Stand.{Stand}
+use Rattle.go_clear_core.specs.denote_core.declared.things.Stand.TheVariants as stands
 use Rattle.go_env_core.specs.declared.meaning.Meaning.{Meaning as NameMeaning}
-use Rattle.go_instruction_core.specs.declared.letters.Word.{Word}
-use Rattle.go_fragment_core.specs.declared.names.Meaning.TheVariants as meanings
-use Rattle.go_fragment_core.specs.Inside.{signature_inside}
-use Rattle.go_fragment_core.specs.Names.{CodeLooks}
-use Rattle.go_fragment_core.specs.Slots.{local_slot, simple_slots, value_spec_slots}
-use Rattle.go_fold_core.specs.Parts.{parts}
-use Rattle.go_means_core.specs.Meaning.{params_of}
-use Rattle.go_fit_core.specs.Fitting.{IsAmong}
+use Rattle.go_clear_core.specs.instruction_core.declared.letters.Word.{Word}
+use Rattle.go_clear_core.specs.fragment_core.declared.names.Meaning.TheVariants as meanings
+use Rattle.go_clear_core.specs.fragment_core.Inside.{signature_inside}
+use Rattle.go_clear_core.specs.fragment_core.Names.{CodeLooks}
+use Rattle.go_clear_core.specs.fragment_core.Slots.{local_slot, simple_slots, value_spec_slots}
+use Rattle.go_clear_core.specs.fold_core.Parts.{parts}
+use Rattle.go_clear_core.specs.means_core.Meaning.{params_of}
+use Rattle.go_clear_core.specs.fit_core.Fitting.{IsAmong}
 use Rattle.go_part_core.specs.Inputs.{InputModel}
 use Rattle.go_part_core.specs.Parts.{ContentOf, FileOf}
-use Rattle.go_laws_core.specs.ConstantLaws.{code_names_of}
-use Rattle.go_laws_core.specs.Standing.{piece_exprs}
+use Rattle.go_clear_core.specs.laws_core.ConstantLaws.{code_names_of}
+use Rattle.go_clear_core.specs.laws_core.Standing.{piece_exprs}
 use Rattle.go_typed_core.specs.Functions.{IsFunction}
 
 -- what a piece declares in code

@@ -3,21 +3,21 @@
 -- docs/RULES.md, "Stack code", "Programs". The Go specification, "Program execution".
 use Rattle.std.specs.Prelude.{◌≡◌, ℕ, true, List, map, Option, Some, Contains, slice_get}
 use Rattle.go_tree_nodes.specs.Trees.{FileTree, FuncTree}
-use Rattle.go_local_core.specs.Binding.{Local}
+use Rattle.go_clear_core.specs.local_core.Binding.{Local}
 use Rattle.go_env_core.specs.declared.meaning.Meaning.{Meaning as NameMeaning}
 use Rattle.go_handle_core.specs.Declarations.{Declaration}
-use Rattle.go_fragment_core.specs.Inside.{in_fragment}
-use Rattle.go_code_core.specs.Code.{frame_in}
-use Rattle.go_means_core.specs.Meaning.{SourceOf}
-use Rattle.go_fit_core.specs.Laws.{FunctionFits}
-use Rattle.go_link_core.specs.Functions.{PlaceModel, all_functions, number_of}
+use Rattle.go_clear_core.specs.fragment_core.Inside.{in_fragment}
+use Rattle.go_clear_core.specs.code_core.Code.{frame_in}
+use Rattle.go_clear_core.specs.means_core.Meaning.{SourceOf}
+use Rattle.go_clear_core.specs.fit_core.Laws.{FunctionFits}
+use Rattle.go_clear_core.specs.link_core.Functions.{PlaceModel, all_functions, number_of}
 use Rattle.go_part_core.specs.Inputs.{IsInput}
 use Rattle.go_part_core.specs.Parts.{FileOf, IsPart, PartModel}
 use Rattle.go_meaning_core.specs.Looking.{looks_of}
-use Rattle.go_emit_core.specs.Emitted.{body_uses, code_scene_over, declarations_in, objects_of, told_by, told_to}
-use Rattle.go_sources_core.specs.Sources.{sources_of}
-use Rattle.go_laws_core.specs.CodeLaws.{AreOfGrammar}
-use Rattle.go_laws_core.specs.ConstantLaws.{ImportsAreOthers}
+use Rattle.go_clear_core.specs.emit_core.Emitted.{body_uses, code_scene_over, declarations_in, objects_of, told_by, told_to}
+use Rattle.go_clear_core.specs.sources_core.Sources.{sources_of}
+use Rattle.go_clear_core.specs.laws_core.CodeLaws.{AreOfGrammar}
+use Rattle.go_clear_core.specs.laws_core.ConstantLaws.{ImportsAreOthers}
 use Rattle.go_typed_core.specs.Fits.{IsServed}
 use Rattle.go_typed_core.specs.Functions.{IsFunction}
 use Rattle.go_typed_core.specs.Written.{ShowTheirTypes}

@@ -2,40 +2,40 @@
 --
 -- docs/RULES.md, "Types inside functions", "Stack code". The Go specification, "Types", "Function types", "Declarations and scope".
 use Rattle.std.specs.Prelude.{◌≡◌, ℕ, true, List, [], Option, Some, Contains}
-use Rattle.go_decl_core.specs.declared.keys.DeclKey.{DeclKey}
-use Rattle.go_decl_core.specs.declared.keys.DeclRef.{DeclRef}
-use Rattle.go_block_core.specs.declared.binding.Binding.{Binding}
-use Rattle.go_block_core.specs.declared.binding.Target.TheVariants as targets
-use Rattle.go_block_core.specs.Blocks.{file_binding}
+use Rattle.go_clear_core.specs.decl_core.declared.keys.DeclKey.{DeclKey}
+use Rattle.go_clear_core.specs.decl_core.declared.keys.DeclRef.{DeclRef}
+use Rattle.go_clear_core.specs.block_core.declared.binding.Binding.{Binding}
+use Rattle.go_clear_core.specs.block_core.declared.binding.Target.TheVariants as targets
+use Rattle.go_clear_core.specs.block_core.Blocks.{file_binding}
 use Rattle.go_tree_nodes.specs.declared.files.Receiver.{Receiver}
 use Rattle.go_tree_nodes.specs.Trees.{FileTree, FuncTree, TypeTree}
 use Rattle.go_tree_nodes.specs.WrittenTypes.{signature_types, some_type}
-use Rattle.go_local_core.specs.Binding.{Local}
-use Rattle.go_local_core.specs.Steps.{Piece, Header, Spec, Act, Condition, Given}
+use Rattle.go_clear_core.specs.local_core.Binding.{Local}
+use Rattle.go_clear_core.specs.local_core.Steps.{Piece, Header, Spec, Act, Condition, Given}
 use Rattle.go_term_core.specs.Terms.{Term}
 use Rattle.go_settle_core.specs.Settled.{settled}
-use Rattle.go_table_core.specs.Entries.{Entry, find_entry, kinds_in}
-use Rattle.go_decide_core.specs.Rules.{typed}
+use Rattle.go_clear_core.specs.table_core.Entries.{Entry, find_entry, kinds_in}
+use Rattle.go_clear_core.specs.decide_core.Rules.{typed}
 use Rattle.go_entry_core.specs.Meanings.{shown_type, type_of_key}
 use Rattle.go_entry_core.specs.Showing.{shown_in}
-use Rattle.go_expr_core.specs.Denoting.{named_type, written_type}
-use Rattle.go_piece_core.specs.Headers.{returned_types}
+use Rattle.go_clear_core.specs.expr_core.Denoting.{named_type, written_type}
+use Rattle.go_clear_core.specs.piece_core.Headers.{returned_types}
 use Rattle.go_face_core.specs.declared.face.Face.TheVariants as faces
 use Rattle.go_face_core.specs.declared.shown.ShownFace.TheVariants as shown_faces
 use Rattle.go_face_core.specs.Packages.{exported_in, face_in}
 use Rattle.go_env_core.specs.declared.meaning.Meaning.{Meaning as NameMeaning}
-use Rattle.go_instruction_core.specs.declared.letters.Word.{Word}
-use Rattle.go_fragment_core.specs.declared.names.Gives.TheVariants as gives
-use Rattle.go_fragment_core.specs.Fragment.{type_name_word, type_word}
-use Rattle.go_fragment_core.specs.Inside.{signature_inside}
-use Rattle.go_fold_core.specs.Reading.{IsOneOver, IsOver}
-use Rattle.go_fit_core.specs.Fitting.{signature_gives}
+use Rattle.go_clear_core.specs.instruction_core.declared.letters.Word.{Word}
+use Rattle.go_clear_core.specs.fragment_core.declared.names.Gives.TheVariants as gives
+use Rattle.go_clear_core.specs.fragment_core.Fragment.{type_name_word, type_word}
+use Rattle.go_clear_core.specs.fragment_core.Inside.{signature_inside}
+use Rattle.go_clear_core.specs.fold_core.Reading.{IsOneOver, IsOver}
+use Rattle.go_clear_core.specs.fit_core.Fitting.{signature_gives}
 use Rattle.go_func_core.specs.Stands.{outer_looks}
 use Rattle.go_summary_core.specs.Views.{exports_told, faces_told}
 use Rattle.go_part_core.specs.Inputs.{InputModel}
 use Rattle.go_part_core.specs.Parts.{ContentOf, FileOf}
-use Rattle.go_laws_core.specs.ConstantLaws.{code_names_of}
-use Rattle.go_laws_core.specs.Standing.{pieces_of, stand_in_part}
+use Rattle.go_clear_core.specs.laws_core.ConstantLaws.{code_names_of}
+use Rattle.go_clear_core.specs.laws_core.Standing.{pieces_of, stand_in_part}
 use Rattle.go_typed_core.specs.Functions.{IsFunction, function_looks, known_types}
 
 -- what a term is among the types of a table, where it is a type

@@ -6,10 +6,10 @@ ghost use Rattle.go_typed_core.specs.Scope.{VariablesAreDeclared};
 ghost use Rattle.go_typed_core.specs.Sources.{SourcesFit};
 ghost use Rattle.go_typed_core.specs.Written.{TypesAreOver};
 
-use go_emit_core::{bodies_are_between_braces, objects_are_of_faultless};
-use go_laws_core::file_core::functions_are_placed;
-use go_laws_core::func_core::{functions_have_one_table, locals_are_declarations};
-use go_laws_core::whole_core::imports_bind_theirs;
+use go_clear_core::emit_core::{bodies_are_between_braces, objects_are_of_faultless};
+use go_file_core::functions_are_placed;
+use go_func_core::{functions_have_one_table, locals_are_declarations};
+use go_whole_core::imports_bind_theirs;
 
 /// In a package of which nothing is reported a type that is written in the header of a function or in a specification is over what code takes it for, and so
 /// are the type of a receiver and the one result of a function, where the packages that are reached show the types that their names mean.
@@ -69,7 +69,7 @@ pub fn variables_are_declared()
 }
 
 /// A function of which code is made fits, in a package of which nothing is reported, where its calls lead to functions that take their arguments, calls of
-/// methods give what their signatures give, constants are of types over what their values are, and integer literals have values.
+/// methods of operands over `int` and `bool` give what their signatures give, constants are of types over what their values are, and integer literals have values.
 ///
 /// The Go specification, "Declarations and scope", "Statements", "Expressions".
 pub fn functions_fit()

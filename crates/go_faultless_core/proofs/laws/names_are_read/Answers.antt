@@ -1,4 +1,4 @@
-use Rattle.go_faultless_core.proofs.Served.{names_read}
+use Rattle.go_faultless_core.proofs.Signs.{names_read}
 use Rattle.go_faultless_core.proofs.laws.names_are_read.Goals as goal
 
 pub returns : goal.returns
@@ -12,3 +12,4 @@ returns c =
       binds = c.imports_bind_theirs.ensures;
       between = c.bodies_are_between_braces.ensures;
     })
+    c.parts_are_fit.ensures c.check_is_local.ensures

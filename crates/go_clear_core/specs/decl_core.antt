@@ -1,0 +1,3 @@
+-- What the crates above name of go_decl_core.
+pub use Rattle.go_decl_core.specs.TopDecls as TopDecls
+pub use Rattle.go_decl_core.specs.declared as declared

@@ -1,0 +1,10 @@
+-- What the crates above name of go_expr_core.
+pub use Rattle.go_expr_core.specs.Denoting as Denoting
+pub use Rattle.go_expr_core.specs.Elements as Elements
+pub use Rattle.go_expr_core.specs.Faults as Faults
+pub use Rattle.go_expr_core.specs.Lists as Lists
+pub use Rattle.go_expr_core.specs.Looks as Looks
+pub use Rattle.go_expr_core.specs.Operators as Operators
+pub use Rattle.go_expr_core.specs.Places as Places
+pub use Rattle.go_expr_core.specs.Uses as Uses
+pub use Rattle.go_expr_core.specs.declared as declared

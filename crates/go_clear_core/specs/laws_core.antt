@@ -1,0 +1,24 @@
+-- What the crates above name of go_laws_core.
+pub use Rattle.go_laws_core.proofs.Agree as Agree
+pub use Rattle.go_laws_core.proofs.Answers as Answers
+pub use Rattle.go_laws_core.specs.Calling as Calling
+pub use Rattle.go_laws_core.proofs.Clean as Clean
+pub use Rattle.go_laws_core.specs.CodeLaws as CodeLaws
+pub use Rattle.go_laws_core.specs.ConstantLaws as ConstantLaws
+pub use Rattle.go_laws_core.proofs.ConstantLists as ConstantLists
+pub use Rattle.go_laws_core.proofs.ConstantMethods as ConstantMethods
+pub use Rattle.go_laws_core.proofs.Declaring as Declaring
+pub use Rattle.go_laws_core.proofs.Functions as Functions
+pub use Rattle.go_laws_core.proofs.Grammar as Grammar
+pub use Rattle.go_laws_core.proofs.Meanings as Meanings
+pub use Rattle.go_laws_core.proofs.Methods as Methods
+pub use Rattle.go_laws_core.proofs.Names as Names
+pub use Rattle.go_laws_core.proofs.Parts as Parts
+pub use Rattle.go_laws_core.proofs.Pieces as Pieces
+pub use Rattle.go_laws_core.proofs.Reading as Reading
+pub use Rattle.go_laws_core.specs.Standing as Standing
+pub use Rattle.go_laws_core.proofs.Tables as Tables
+pub use Rattle.go_laws_core.proofs.Terms as Terms
+pub use Rattle.go_laws_core.proofs.Uses as Uses
+pub use Rattle.go_laws_core.proofs.Wider as Wider
+pub use Rattle.go_laws_core.proofs.Within as Within

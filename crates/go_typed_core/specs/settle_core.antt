@@ -1,0 +1,3 @@
+-- What the crates above name of go_settle_core.
+pub use Rattle.go_settle_core.specs.Settled as Settled
+pub use Rattle.go_settle_core.specs.declared as declared
