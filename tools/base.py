@@ -146,7 +146,7 @@ class MarkedProof:
     """The same by a kit that keeps nothing: a library that is built has a mark beside it with the sum of what it was made from, and stands under that sum
     in a folder of this script, as links to the same files."""
 
-    STORE, MOST = os.path.expanduser("~/.cache/govisd/base"), 400
+    STORE, MOST = os.path.expanduser("~/.cache/govisd/base"), 200
 
     def __init__(self, crate, stamp):
         self.crate, self.stamp, self.mark = crate, stamp, f"{crate.folder}/out/rlib/built"
@@ -190,9 +190,10 @@ class MarkedProof:
 
 def linked(folder, to):
     """Puts links to a folder's files into another, in place of what is there."""
-    shutil.rmtree(to, ignore_errors=True)
+    for path in (to, f"{to}.new"):
+        shutil.rmtree(path, ignore_errors=True)
     os.makedirs(os.path.dirname(to), exist_ok=True)
-    shutil.copytree(folder, f"{to}.new", copy_function=os.link, dirs_exist_ok=True)
+    shutil.copytree(folder, f"{to}.new", copy_function=os.link)
     os.rename(f"{to}.new", to)
 
 
