@@ -58,6 +58,12 @@ class Daemon:
         with open(f"/proc/{self.process.pid}/status", encoding="ascii") as file:
             return next(int(line.split()[1]) for line in file if line.startswith("VmRSS")) / 1024
 
+    def spent(self):
+        """The processor time of the process in milliseconds."""
+        with open(f"/proc/{self.process.pid}/stat", encoding="ascii") as file:
+            fields = file.read().rpartition(")")[2].split()
+        return (int(fields[11]) + int(fields[12])) * 1000 / os.sysconf("SC_CLK_TCK")
+
 
 class Peer:
     """A connection whose requests are lines."""
@@ -496,6 +502,13 @@ def timed(work, count):
     return f"p50 {times[len(times) // 2]:.1f} ms, p99 {times[len(times) * 99 // 100]:.1f} ms"
 
 
+def timed_with_processor(daemon, work, count):
+    """The same, with what each run took of the daemon's processor time, which other work on the machine changes least."""
+    before = daemon.spent()
+    times = timed(work, count)
+    return f"{times}, {(daemon.spent() - before) / count:.1f} ms of processor time each"
+
+
 def package_of_workspace(module, number):
     """A package of some 5 KB that uses up to 60 of those before it."""
     imported = range(max(0, number - 60), number)
@@ -562,9 +575,9 @@ def edit_workspace(daemon, peers, packages):
         text = package_of_workspace(f"ex.com/m{number}", last)
         asker.ask(cmd="complete", path=f"ex.com/m{number}/p{last}", file="p.go", offset=text.index(".N") + 1)
 
-    print(f"speed: an edit of one body and its build {timed(body, 10)}; {daemon.resident():.0f} MB", flush=True)
-    print(f"speed: the next 190 {timed(body, 190)}; {daemon.resident():.0f} MB", flush=True)
-    print(f"speed: an edit of a constant that 60 packages import, and its build {timed(constant, 20)}", flush=True)
+    print(f"speed: an edit of one body and its build {timed_with_processor(daemon, body, 10)}; {daemon.resident():.0f} MB", flush=True)
+    print(f"speed: the next 190 {timed_with_processor(daemon, body, 190)}; {daemon.resident():.0f} MB", flush=True)
+    print(f"speed: an edit of a constant that 60 packages import, and its build {timed_with_processor(daemon, constant, 20)}", flush=True)
     failures, stop = Failures(), threading.Event()
 
     def goes_on(asker, number):

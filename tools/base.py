@@ -8,7 +8,8 @@
 
 It calls the kit's own `rt` for each step of the gate, and keeps what passes where `rt ci` keeps it: a gate on this machine takes it from there. Of a kit that
 keeps nothing (rattle-kit-13b) the libraries that pass are kept for this script alone, in ~/.cache/govisd/base, so that a new work tree on the same machine
-has them. It gives no verdict: `rt ci` is the judge. Crates on the longest chain get three jobs and a better priority. Logs lie in .git/base.
+has them. It gives no verdict: `rt ci` is the judge. Crates on the longest chain get three jobs and a better priority. Logs lie in .git/base, with the
+processor seconds of each crate in .git/base/seconds, for tools/gate.py; a crate that is named in .git/base/held is not begun, while somebody works on it.
 """
 import contextlib
 import hashlib
@@ -26,6 +27,19 @@ import time
 ROOT = os.path.dirname(os.path.dirname(os.path.abspath(__file__)))
 KIT = os.path.realpath(subprocess.run(["rt", "doc"], stdout=subprocess.PIPE, text=True, check=True).stdout.strip() + "/..")
 LOGS = f"{ROOT}/.git/base"
+
+# What the children took that a thread waited for.
+TAKEN = threading.local()
+
+
+def waited(pid, flags):
+    """As `os.waitpid`; it adds the processor seconds of a child that ended to those of the thread."""
+    found, status, usage = os.wait4(pid, flags)
+    TAKEN.seconds = getattr(TAKEN, "seconds", 0) + usage.ru_utime + usage.ru_stime if found else getattr(TAKEN, "seconds", 0)
+    return found, status
+
+
+os.waitpid = waited
 
 
 def load():
@@ -220,7 +234,11 @@ class Base:
         with self.lock:
             del self.running[crate.name]
             (self.proved if is_proved else self.failed)[crate.name] = stamp
-        print(f"{time.strftime('%H:%M:%S')} {crate.name} {'ok' if is_proved else 'FAILED'} {time.time() - start:.0f} s", flush=True)
+        taken = getattr(TAKEN, "seconds", 0)
+        if is_proved and taken > 5:
+            with open(f"{LOGS}/seconds", "a", encoding="utf-8") as file:
+                file.write(f"{crate.name} {taken:.0f}\n")
+        print(f"{time.strftime('%H:%M:%S')} {crate.name} {'ok' if is_proved else 'FAILED'} {time.time() - start:.0f} s, {taken:.0f} of processors", flush=True)
 
     def step(self):
         there = crates()
@@ -236,7 +254,8 @@ class Base:
             proved, running = {it for it, of in self.proved.items() if now.get(it) == of}, {*self.running}
         behind, left = self.behind(there), [it for it in there.values() if it.name not in proved]
         fails = lambda it: self.failed.get(it.name) == now[it.name]
-        ready = [it for it in left if it.name not in running and not fails(it) and all(dep.name in proved for dep in it.below())]
+        held = (rtlib.text_of(f"{LOGS}/held") or "").split()
+        ready = [it for it in left if it.name not in running and it.name not in held and not fails(it) and all(dep.name in proved for dep in it.below())]
         most = max([behind[it.name] for it in left if not fails(it)], default=0)
         for crate in sorted(ready, key=lambda it: -behind[it.name])[: max(self.lanes - len(running), 0)]:
             is_first = behind[crate.name] >= 0.95 * most

@@ -87,6 +87,10 @@ pub record Gets (b : BatchModel) (number : ℕ) (part : PartModel) (after : Batc
 abbrev pub IsForeign : BatchModel → ℕ → PartModel → Type 0
 IsForeign b number part = (n : ℕ) → Awaits b n number part → ⊥
 
+-- each input that is awaited under this number is this one
+abbrev pub IsKnown : BatchModel → ℕ → InputModel → Type 0
+IsKnown b number input = (n : ℕ) (i : InputModel) → slice_get b.slots n ≡ Some (Taken number i) → i ≡ input
+
 abbrev pub tell : ℕ → PartModel → Tell
 tell place part = record { place = place; part = part }
 

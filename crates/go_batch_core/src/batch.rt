@@ -6,7 +6,7 @@ ghost use Rattle.go_snap_core.specs.part_core.Inputs.{InputModel};
 ghost use Rattle.go_snap_core.specs.whole_core.Inputs.{AreParts, HasReached, IsInputAt, ReachesPackage};
 ghost use Rattle.go_snap_core.specs.Snapshots.{IsSnapshot};
 ghost use Rattle.go_batch_core.specs.declared.slot.Slot.TheVariants.{Taken};
-ghost use Rattle.go_batch_core.specs.Batches.{Awaits, IsBegun, IsBusy, IsEnding, IsForeign, IsNext, IsReady, NoneReady, actions_left, batch_with, with_part};
+ghost use Rattle.go_batch_core.specs.Batches.{Awaits, IsBegun, IsBusy, IsEnding, IsForeign, IsKnown, IsNext, IsReady, NoneReady, actions_left, batch_with, with_part};
 ghost use Rattle.go_batch_core.specs.Planning.{IsPlanned};
 ghost use Rattle.go_batch_core.specs.mirrors.Keeping.{AreFreshSlots, IsReadSlot, mark_of};
 
@@ -16,7 +16,8 @@ use crate::planned::{Planned, SharedReached};
 use crate::read::{ReadInput, ReadPart};
 use crate::slot::Slot;
 use crate::tell::{Tell, push_tell, told_with};
-use go_snap_core::graph_core::{Plan, Workspace};
+use go_head_core::ListedPlan;
+use go_snap_core::graph_core::Workspace;
 use go_snap_core::make_core::{Told, input_of, package_of};
 use go_snap_core::part_core::{Part, PartInput, Parts};
 use go_snap_core::whole_core::{inputs_stay, parts_come_in_order};
@@ -26,16 +27,15 @@ use std::alloc::{AllocError, Global};
 use std::marker::Model;
 
 // How many packages may be finished before what they tell is added.
-const MANY: usize = 64;
+const MANY: usize = 256;
 
 /// The batch that is compiled: its workspace, what is done with the action of each package, and the parts that are there. Contracts see these
 /// three. A call takes the time of the package's own imports, of what it reaches, and of the packages that import it; no call goes over all packages but
 /// `begin`, those that make the snapshot, and `next_at`, which copies a number for each. What a package tells that was finished is added to what is told
 /// by `tell`, or where an input is made.
-#[derive(Drop)]
 pub struct Batch {
     sources: Workspace,
-    plan: Plan,
+    plan: ListedPlan,
     reached: SharedReached,
     turns: Turns,
     slots: Vec<Slot>,
@@ -44,6 +44,22 @@ pub struct Batch {
     // What is told by packages that are finished, and not added yet.
     untold: Vec<Tell>,
     left: usize,
+}
+
+impl Drop for Batch {
+    fn drop(self) {
+        let Batch {
+            sources: _,
+            plan: _,
+            reached: _,
+            turns: _,
+            slots: _,
+            parts: _,
+            told: _,
+            untold: _,
+            left: _,
+        } = self;
+    }
 }
 
 impl Model for Batch {
@@ -93,7 +109,8 @@ fn is_awaited(slot: &Slot, number: u64, input: &PartInput) -> bool
 
 // Whether a slot awaits a part under this number.
 fn is_taken_under(slot: &Slot, number: u64) -> bool
-    ensures { IsTrue result → (input : InputModel) × (slot.now ≡ Taken number input) }
+    ensures taken { IsTrue result → (input : InputModel) × (slot.now ≡ Taken number input) }
+    ensures other { result ≡ false → (input : InputModel) → slot.now ≡ Taken number input → ⊥ }
 {
     match slot {
         Slot::Taken(taken, _) => *taken == number,
@@ -116,7 +133,7 @@ fn any_marked(numbers: &[usize], marks: &[bool]) -> bool
 }
 
 // Which packages may be taken, where these are the slots of a plan.
-fn turns_of(alloc: Global, plan: &Plan, slots: &[Slot]) -> Result<Turns, AllocError>
+fn turns_of(alloc: Global, plan: &ListedPlan, slots: &[Slot]) -> Result<Turns, AllocError>
     requires many { length slots.now ≡ length plan.now.outcomes }
     requires fresh { AreFreshSlots slots.now }
     ensures marks { IfOk result (λ t. t.marks ≡ map mark_of slots.now) }
@@ -200,7 +217,7 @@ impl Batch {
         let input = input_of(
             alloc,
             &self.sources,
-            &self.plan,
+            self.plan.as_plan(),
             self.reached.get(),
             place,
             parts,
@@ -325,6 +342,20 @@ impl Batch {
         let input = part.get().input();
         let place = package_of(self.sources.packages(), input.path().as_str())?;
         if is_awaited(&self.slots[place], number, input) {
+            Some(place)
+        } else {
+            None
+        }
+    }
+
+    /// The same where each input that is awaited under the number is known to be the one of the part: no input is looked at.
+    pub fn awaiting_known(&self, number: u64, part: &ReadPart) -> Option<usize>
+        requires { IsKnown self.now number part.now.input }
+        ensures { MatchOption result (IsForeign self.now number part.now) (λ place. Awaits self.now place number part.now) }
+    {
+        let input = part.get().input();
+        let place = package_of(self.sources.packages(), input.path().as_str())?;
+        if is_taken_under(&self.slots[place], number) {
             Some(place)
         } else {
             None

@@ -3,9 +3,9 @@ ghost use Rattle.std.specs.Prelude.{◌≡◌, IfOk};
 ghost use Rattle.go_head_core.specs.Heads.{HaveSameHeads};
 ghost use Rattle.go_batch_core.specs.Planning.{IsPlanned};
 
-use go_head_core::plans_stay;
+use go_head_core::{ListedPlan, plans_stay};
 use go_reach_core::Reached;
-use go_snap_core::graph_core::{Plan, Workspace, plan_imports};
+use go_snap_core::graph_core::{Workspace, plan_imports};
 use std::alloc::{AllocError, Global};
 use std::marker::Model;
 use std::sync::Arc;
@@ -64,7 +64,7 @@ impl SharedReached {
 /// The plan of a workspace, and what its packages reach by it. Both are shared.
 #[derive(Drop)]
 pub struct Planned {
-    pub plan: Plan,
+    pub plan: ListedPlan,
     pub reached: SharedReached,
 }
 
@@ -79,12 +79,11 @@ impl Planned {
     {
         // Its packages stand in order of path.
         let _packages = sources.packages();
-        let plan = plan_imports(alloc, sources)?;
-        let reached = plan.reached(alloc)?;
-        Ok(Planned {
-            plan,
-            reached: SharedReached::new(alloc, reached)?,
-        })
+        let drawn = plan_imports(alloc, sources)?;
+        let sets = drawn.reached(alloc)?;
+        let reached = SharedReached::new(alloc, sets)?;
+        let plan = ListedPlan::of(alloc, drawn)?;
+        Ok(Planned { plan, reached })
     }
 
     /// The same once more. It takes no memory.

@@ -40,7 +40,7 @@ pub(crate) fn has_same(
     ensures rows { IfOk result (λ is. IsTrue is → HaveSameRows one.now.plan other.now.plan «package» files) }
     ensures reached { IfOk result (λ is. IsTrue is → HaveSameReached one.now.reached other.now.reached «package») }
 {
-    if !same_rows(&one.plan, &other.plan, package, files) {
+    if !same_rows(one.plan.as_plan(), other.plan.as_plan(), package, files) {
         return Ok(false);
     }
     same_reached(alloc, one.reached.get(), other.reached.get(), package)

@@ -7,7 +7,6 @@ use go_snap_core::part_core::PartInput;
 use go_turn_core::Mark;
 
 /// What is done with the action of a package.
-#[derive(Drop)]
 pub enum Slot {
     /// The package is not assembled.
     NoAction,
@@ -17,6 +16,17 @@ pub enum Slot {
     Taken(u64, PartInput),
     /// Its part is there.
     Finished,
+}
+
+impl Drop for Slot {
+    fn drop(self) {
+        match self {
+            Slot::NoAction => {}
+            Slot::Untaken => {}
+            Slot::Taken(_, _) => {}
+            Slot::Finished => {}
+        }
+    }
 }
 
 impl Slot {

@@ -1,5 +1,5 @@
 //! What of the last snapshot is as it was in the batch that runs.
-ghost use Rattle.std.specs.Prelude.{◌≡◌, IfOk, IfSome, MatchOption, false, length, replicate, slice_set};
+ghost use Rattle.std.specs.Prelude.{◌≡◌, ◌↔◌, IfOk, IfSome, IsTrue, MatchOption, Some, false, length, replicate, slice_get, slice_set, true};
 ghost use Rattle.go_snap_core.specs.graph_core.Workspaces.{AreAllRead};
 ghost use Rattle.go_snap_core.specs.part_core.Parts.{PartModel};
 ghost use Rattle.go_batch_core.specs.Batches.{Awaits, IsReady};
@@ -23,11 +23,20 @@ struct Moves {
 /// Of each package of the batch that runs, by its number, what is known of it beside the last snapshot: whether it is the package of that number there,
 /// its imports come to the same, and it reaches the same numbers; whether it is finished and tells something else than there; and whether its action was
 /// handed out with the input of its earlier part. Contracts see the three lists of marks.
-#[derive(Drop)]
 pub struct Steady {
     same: Vec<bool>,
     moved: Moves,
     kept: Vec<bool>,
+}
+
+impl Drop for Steady {
+    fn drop(self) {
+        let Steady {
+            same: _,
+            moved: _,
+            kept: _,
+        } = self;
+    }
 }
 
 impl Model for Steady {
@@ -142,6 +151,13 @@ impl Steady {
         } else {
             None
         }
+    }
+
+    /// Whether the package of a number is the one of that number in the last snapshot, its imports come to the same, and it reaches the same numbers.
+    pub fn is_same(&self, place: usize) -> bool
+        ensures { IsTrue result ↔ (slice_get self.now.same place ≡ Some true) }
+    {
+        is_marked(&self.same, place)
     }
 
     /// Whether a part tells what the part of a number in the last snapshot tells. The time is linear in what the two tell.

@@ -7,10 +7,15 @@ use go_snap_core::part_core::Part;
 use std::alloc::{AllocError, Global};
 
 /// A package that tells something, by its number, with its part.
-#[derive(Drop)]
 pub struct Tell {
     pub place: usize,
     pub part: Part,
+}
+
+impl Drop for Tell {
+    fn drop(self) {
+        let Tell { place: _, part: _ } = self;
+    }
 }
 
 // Adds what a package tells.

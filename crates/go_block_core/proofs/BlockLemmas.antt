@@ -3,8 +3,7 @@ use Rattle.std.proofs.Common.{◌≡◌, ℕ, ◌+◌, ◌<◌, suc, Bool, Vec, 
 use Rattle.std.specs.Str.{bytes_eq}
 use Rattle.std.proofs.lemmas.List.{take_more, map_more, map-append, length-map}
 use Rattle.std.specs.Global.{Global}
-use Rattle.std.specs.declared.string.String.{String}
-use Rattle.indexmap.specs.IndexMap.{IndexMap}
+use Rattle.go_named_core.specs.Named.{Named}
 use Rattle.go_block_core.specs.Exports.{clause_name}
 use Rattle.go_block_core.specs.Tables.{block_of}
 use Rattle.go_tree_nodes.specs.Trees.{FileTree}
@@ -89,18 +88,17 @@ two_faults first mid new f g {f_holds = f_holds} {g_holds = g_holds} same_f same
 pub files_step : (files : List (Vec NamedImport Global)) (i : ℕ) (d : Vec NamedImport Global) → i < length files → d ≡ get_or files i d → map imports_in (take (i + 1) files) ≡ map imports_in (take i files) ++ d.items ∷ []
 files_step files i d lt is = map_more imports_in files i d lt ∙ ap (λ x. map imports_in (take i files) ++ imports_in x ∷ []) (sym is)
 
-module _ {Y S : Type 0} where
-  pub same_count : (ts : List (IndexMap (String Y) Binding S)) (fs : List (List NamedImport)) → map block_of ts ≡ file_blocks fs → length ts ≡ length fs
-  same_count ts fs e = sym (length-map ts block_of) ∙ (ap length e ∙ length-map fs file_block)
+pub same_count : (ts : List (Named Binding)) (fs : List (List NamedImport)) → map block_of ts ≡ file_blocks fs → length ts ≡ length fs
+same_count ts fs e = sym (length-map ts block_of) ∙ (ap length e ∙ length-map fs file_block)
 
-  pub tables_step : (old new : List (IndexMap (String Y) Binding S)) (t : IndexMap (String Y) Binding S) (files : List (Vec NamedImport Global)) (i : ℕ) (d : Vec NamedImport Global) → i < length files → d ≡ get_or files i d → map block_of old ≡ file_blocks (map imports_in (take i files)) → block_of t ≡ file_block d.items → new ≡ old ++ t ∷ [] → map block_of new ≡ file_blocks (map imports_in (take (i + 1) files))
-  tables_step old new t files i d lt is before table e =
-      ap (map block_of) e
-      ∙ (map-append block_of old (t ∷ [])
-      ∙ (ap (λ l. l ++ block_of t ∷ []) before
-      ∙ (ap (λ b. file_blocks (map imports_in (take i files)) ++ b ∷ []) table
-      ∙ (sym (map-append file_block (map imports_in (take i files)) (d.items ∷ []))
-      ∙ ap file_blocks (sym (files_step files i d lt is))))))
+pub tables_step : (old new : List (Named Binding)) (t : Named Binding) (files : List (Vec NamedImport Global)) (i : ℕ) (d : Vec NamedImport Global) → i < length files → d ≡ get_or files i d → map block_of old ≡ file_blocks (map imports_in (take i files)) → block_of t ≡ file_block d.items → new ≡ old ++ t ∷ [] → map block_of new ≡ file_blocks (map imports_in (take (i + 1) files))
+tables_step old new t files i d lt is before table e =
+    ap (map block_of) e
+    ∙ (map-append block_of old (t ∷ [])
+    ∙ (ap (λ l. l ++ block_of t ∷ []) before
+    ∙ (ap (λ b. file_blocks (map imports_in (take i files)) ++ b ∷ []) table
+    ∙ (sym (map-append file_block (map imports_in (take i files)) (d.items ∷ []))
+    ∙ ap file_blocks (sym (files_step files i d lt is))))))
 
 pub file_faults_step : (names : List (List ℕ × DeclRef)) (files : List (Vec NamedImport Global)) (i : ℕ) (d : Vec NamedImport Global) (number : ℕ) → i < length files → d ≡ get_or files i d → number ≡ length (map imports_in (take i files)) → block_file_faults names 0 (map imports_in (take (i + 1) files)) ≡ block_file_faults names 0 (map imports_in (take i files)) ++ bound_faults names number [] (file_bound d.items)
 file_faults_step names files i d number lt is count =

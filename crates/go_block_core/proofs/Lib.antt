@@ -16,5 +16,6 @@ pub mod Pieces
 pub mod Rising
 pub mod SortedOnce
 pub mod SpecLemmas
+pub mod Spelled
 pub mod TableLemmas
 pub mod WordLemmas

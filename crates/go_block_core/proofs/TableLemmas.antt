@@ -1,46 +1,34 @@
 -- Tables of names, as blocks.
-use Rattle.std.proofs.Common.{◌≡◌, ℕ, Bool, true, false, not, List, [], ◌∷◌, ◌++◌, map, Option, Some, None, is_some, refl, sym, ap, ◌∙◌, cond, Bor, append_assoc, append-nil}
+use Rattle.std.proofs.Common.{◌≡◌, ℕ, ◌+◌, ◌<◌, Bool, true, false, not, List, [], ◌∷◌, ◌++◌, map, length, get_or, drop, Option, Some, None, is_some, refl, sym, ap, ◌∙◌, cond, Bor, append_assoc, append-nil}
 use Rattle.std.specs.Prelude.{string_bytes, slice_get}
-use Rattle.std.specs.String.{string_eq}
 use Rattle.std.specs.Str.{bytes_eq, chars}
-use Rattle.std.specs.Map.{lookup}
 use Rattle.std.specs.declared.string.String.{String}
 use Rattle.std.proofs.lemmas.Bool.{true≢false}
 use Rattle.std.proofs.lemmas.Slice.Eq.{bytes_eq-Decides}
-use Rattle.std.proofs.lemmas.List.{map-append}
-use Rattle.indexmap.specs.IndexMap.{IndexMap, get, get_by, insert_entry}
-use Rattle.indexmap.proofs.CallerLemmas.{insert_entry-new}
+use Rattle.std.proofs.lemmas.List.{map-append, drop_more}
 use Rattle.go_open_core.specs.text_core.Text.{exported}
 use Rattle.go_decl_core.specs.declared.keys.DeclRef.{DeclRef}
 use Rattle.go_block_core.specs.Exports.{exported_names}
-use Rattle.go_block_core.specs.Tables.{block_of, in_block, has, with_first, names_in, without}
+use Rattle.go_block_core.specs.Tables.{in_block, has, with_first, names_in, without}
 use Rattle.go_block_core.specs.declared.binding.Binding.{Binding}
 use Rattle.go_block_core.specs.Blocks.{BlocksModel, in_some, file_has, file_binding, if_block, held_in}
 
 module _ {X : Type 0} where
-  lookup_bytes : {Y : Type 0} (name : List ℕ) (es : List (String Y × X)) → lookup (λ k. bytes_eq name (string_bytes k)) es ≡ lookup (bytes_eq name) (map (λ e. (string_bytes e.0, e.1)) es)
-  lookup_bytes name [] = refl
-  lookup_bytes name (e ∷ es) = ap (λ o. cond (bytes_eq name (string_bytes e.0)) (Some e.1) o) (lookup_bytes name es)
-
-  -- what a table has at a name is what its block has
-  pub in_table : {Y S : Type 0} (name : List ℕ) (table : IndexMap (String Y) X S) → get_by (λ k. bytes_eq name (string_bytes k)) table ≡ in_block (block_of table) name
-  in_table name table = lookup_bytes name table.entries
-
-  pub none_from_test : (o : Option X) → is_some o ≡ false → o ≡ None
+  none_from_test : (o : Option X) → is_some o ≡ false → o ≡ None
   none_from_test None h = refl
   none_from_test (Some d) h = absurd (true≢false h)
 
-  pub block_of-empty : {Y S : Type 0} (table : IndexMap (String Y) X S) → table.entries ≡ [] → block_of table ≡ []
-  block_of-empty table none = ap (map (λ e. (string_bytes e.0, e.1))) none
+  -- a name that a block has not
+  pub not_there : (block : List (List ℕ × X)) (name : List ℕ) → has block name ≡ false → in_block block name ≡ None
+  not_there block name absent = none_from_test (in_block block name) absent
 
   -- a new name goes last
-  pub block_of-insert : {Y S : Type 0} (old new : IndexMap (String Y) X S) (key : String Y) (name : List ℕ) (x : X) → string_bytes key ≡ name → has (block_of old) name ≡ false → new.entries ≡ insert_entry string_eq old.entries key x → block_of new ≡ with_first (block_of old) name x
-  block_of-insert old new key name x is_name absent e =
-      let gone : get string_eq old key ≡ None = ap (λ n. get_by (λ k. bytes_eq n (string_bytes k)) old) is_name ∙ (in_table name old ∙ none_from_test _ absent) in
-      ap (map (λ e. (string_bytes e.0, e.1))) (e ∙ insert_entry-new string_eq old key x gone)
-      ∙ (map-append (λ e. (string_bytes e.0, e.1)) old.entries ((key, x) ∷ [])
-      ∙ (ap (λ n. block_of old ++ (n, x) ∷ []) is_name
-      ∙ sym (ap (λ b. cond b (block_of old) (block_of old ++ (name, x) ∷ [])) absent)))
+  pub bound_last : (old new : List (List ℕ × X)) (name : List ℕ) (x : X) → has old name ≡ false → new ≡ old ++ (name, x) ∷ [] → new ≡ with_first old name x
+  bound_last old new name x absent more = more ∙ sym (ap (λ b. cond b old (old ++ (name, x) ∷ [])) absent)
+
+  -- and one that is there leaves the block as it is
+  pub bound_before : (block : List (List ℕ × X)) (name : List ℕ) (x : X) → has block name ≡ true → block ≡ with_first block name x
+  bound_before block name x there = sym (ap (λ b. cond b block (block ++ (name, x) ∷ [])) there)
 
 -- the names of a table, one after another
 
@@ -55,13 +43,45 @@ name_shown old new shown name seen rest whole more is step before =
     (ap (map (λ n. n.now)) more ∙ (map-append (λ n. n.now) old (shown ∷ []) ∙ ap (λ n. map (λ n. n.now) old ++ n ∷ []) is))
     step before
 
--- nothing is listed yet
-pub none_listed : {E : Type 0} (left : List E → List (List ℕ)) (shown : List (Bor (List ℕ))) (es all : List E) → shown ≡ [] → es ≡ all → map (λ n. n.now) shown ++ left es ≡ left all
-none_listed left shown es all none same = ap (λ ns. map (λ n. n.now) ns ++ left es) none ∙ ap left same
-
 -- nothing is left
 pub all_listed : {A : Type 0} (all seen whole : List A) → seen ≡ [] → all ++ seen ≡ whole → all ≡ whole
 all_listed all seen whole none before = sym (append-nil all) ∙ (ap (λ l. all ++ l) (sym none) ∙ before)
+
+-- what is left at a place
+pub left_at : {E : Type 0} (xs : List E) (i : ℕ) (e : E) → i < length xs → e ≡ get_or xs i e → drop i xs ≡ e ∷ drop (i + 1) xs
+left_at xs i e lt is = drop_more xs i e lt ∙ ap (λ x. x ∷ drop (i + 1) xs) (sym is)
+
+-- an entry of a table, as one of a block
+abbrev pub entry_of : {X Y : Type 0} → String Y × X → List ℕ × X
+entry_of e = (string_bytes e.0, e.1)
+
+-- the names of a table that another block has not, one after another
+module _ {X Y Z : Type 0} (other : List (List ℕ × Z)) (shown : List (Bor (List ℕ))) (left rest : List (String Y × X)) (e : String Y × X) (whole : List (List ℕ)) (step : left ≡ e ∷ rest) where
+  pub name_left_out : has other (string_bytes e.0) ≡ true → (new : List (Bor (List ℕ))) → new ≡ shown → map (λ n. n.now) shown ++ names_in (without other (map entry_of left)) ≡ whole → map (λ n. n.now) new ++ names_in (without other (map entry_of rest)) ≡ whole
+  name_left_out there new same before =
+      let behind = without other (map entry_of rest) in
+      let gone : names_in (without other (map entry_of left)) ≡ names_in behind = ap (λ es. names_in (without other (map entry_of es))) step ∙ ap (λ b. names_in (cond (not b) (entry_of e ∷ behind) behind)) there in
+      ap (λ ns. map (λ n. n.now) ns ++ names_in behind) same ∙ (ap (λ ns. map (λ n. n.now) shown ++ ns) (sym gone) ∙ before)
+
+  pub name_kept : has other (string_bytes e.0) ≡ false → (new : List (Bor (List ℕ))) (name : Bor (List ℕ)) → new ≡ shown ++ name ∷ [] → name.now ≡ string_bytes e.0 → map (λ n. n.now) shown ++ names_in (without other (map entry_of left)) ≡ whole → map (λ n. n.now) new ++ names_in (without other (map entry_of rest)) ≡ whole
+  name_kept absent new name more is before =
+      let behind = without other (map entry_of rest) in
+      let next : names_in (without other (map entry_of left)) ≡ string_bytes e.0 ∷ names_in behind = ap (λ es. names_in (without other (map entry_of es))) step ∙ ap (λ b. names_in (cond (not b) (entry_of e ∷ behind) behind)) absent in
+      name_shown shown new name (string_bytes e.0) _ _ _ more is next before
+
+-- the exported names of a table with their declarations, one after another
+module _ {Y : Type 0} (old : List (List ℕ × DeclRef)) (left rest : List (String Y × DeclRef)) (e : String Y × DeclRef) (whole : List (List ℕ × DeclRef)) (step : left ≡ e ∷ rest) where
+  pub exported_left_out : exported (chars (string_bytes e.0)) ≡ false → (new : List (List ℕ × DeclRef)) → new ≡ old → old ++ exported_names (map entry_of left) ≡ whole → new ++ exported_names (map entry_of rest) ≡ whole
+  exported_left_out hidden new same before =
+      let behind = exported_names (map entry_of rest) in
+      let gone : exported_names (map entry_of left) ≡ behind = ap (λ es. exported_names (map entry_of es)) step ∙ ap (λ b. cond b (entry_of e ∷ behind) behind) hidden in
+      ap (λ ns. ns ++ behind) same ∙ (ap (λ es. old ++ es) (sym gone) ∙ before)
+
+  pub exported_kept : exported (chars (string_bytes e.0)) ≡ true → (new : List (List ℕ × DeclRef)) → new ≡ old ++ entry_of e ∷ [] → old ++ exported_names (map entry_of left) ≡ whole → new ++ exported_names (map entry_of rest) ≡ whole
+  exported_kept shown new more before =
+      let behind = exported_names (map entry_of rest) in
+      let next : exported_names (map entry_of left) ≡ entry_of e ∷ behind = ap (λ es. exported_names (map entry_of es)) step ∙ ap (λ b. cond b (entry_of e ∷ behind) behind) shown in
+      listed_more old new (entry_of e) _ behind whole more next before
 
 -- what a block has at a name that another has not
 
@@ -87,38 +107,6 @@ module _ {X Z : Type 0} (other : List (List ℕ × Z)) (name : List ℕ) where
       kept_or_not (not (has other e.0)) name e (without other es)
       ∙ pick (bytes_eq name e.0) (has other e.0) (has other name) e.1 (in_block (without other es) name) (in_block es name)
       (λ same. ap (has other) (sym ((bytes_eq-Decides name e.0).0 same))) (in_without es)
-
--- an entry of a table, as one of a block
-abbrev pub entry_of : {X Y : Type 0} → String Y × X → List ℕ × X
-entry_of e = (string_bytes e.0, e.1)
-
--- the names of a table that another block has not, one after another
-module _ {X Y Z : Type 0} (other : List (List ℕ × Z)) (shown : List (Bor (List ℕ))) (left rest : List (String Y × X)) (key : String Y) (x : X) (whole : List (List ℕ)) (step : left ≡ (key, x) ∷ rest) where
-  pub name_left_out : has other (string_bytes key) ≡ true → map (λ n. n.now) shown ++ names_in (without other (map entry_of left)) ≡ whole → map (λ n. n.now) shown ++ names_in (without other (map entry_of rest)) ≡ whole
-  name_left_out there before =
-      let behind = without other (map entry_of rest) in
-      let gone : names_in (without other (map entry_of left)) ≡ names_in behind = ap (λ es. names_in (without other (map entry_of es))) step ∙ ap (λ b. names_in (cond (not b) (entry_of (key, x) ∷ behind) behind)) there in
-      ap (λ ns. map (λ n. n.now) shown ++ ns) (sym gone) ∙ before
-
-  pub name_kept : has other (string_bytes key) ≡ false → (new : List (Bor (List ℕ))) (name : Bor (List ℕ)) → new ≡ shown ++ name ∷ [] → name.now ≡ string_bytes key → map (λ n. n.now) shown ++ names_in (without other (map entry_of left)) ≡ whole → map (λ n. n.now) new ++ names_in (without other (map entry_of rest)) ≡ whole
-  name_kept absent new name more is before =
-      let behind = without other (map entry_of rest) in
-      let next : names_in (without other (map entry_of left)) ≡ string_bytes key ∷ names_in behind = ap (λ es. names_in (without other (map entry_of es))) step ∙ ap (λ b. names_in (cond (not b) (entry_of (key, x) ∷ behind) behind)) absent in
-      name_shown shown new name (string_bytes key) _ _ _ more is next before
-
--- the exported names of a table with their declarations, one after another
-module _ {Y : Type 0} (old : List (List ℕ × DeclRef)) (left rest : List (String Y × DeclRef)) (key : String Y) (d : DeclRef) (whole : List (List ℕ × DeclRef)) (step : left ≡ (key, d) ∷ rest) where
-  pub exported_left_out : exported (chars (string_bytes key)) ≡ false → old ++ exported_names (map entry_of left) ≡ whole → old ++ exported_names (map entry_of rest) ≡ whole
-  exported_left_out hidden before =
-      let behind = exported_names (map entry_of rest) in
-      let gone : exported_names (map entry_of left) ≡ behind = ap (λ es. exported_names (map entry_of es)) step ∙ ap (λ b. cond b (entry_of (key, d) ∷ behind) behind) hidden in
-      ap (λ es. old ++ es) (sym gone) ∙ before
-
-  pub exported_kept : exported (chars (string_bytes key)) ≡ true → (new : List (List ℕ × DeclRef)) → new ≡ old ++ (string_bytes key, d) ∷ [] → old ++ exported_names (map entry_of left) ≡ whole → new ++ exported_names (map entry_of rest) ≡ whole
-  exported_kept shown new more before =
-      let behind = exported_names (map entry_of rest) in
-      let next : exported_names (map entry_of left) ≡ entry_of (key, d) ∷ behind = ap (λ es. exported_names (map entry_of es)) step ∙ ap (λ b. cond b (entry_of (key, d) ∷ behind) behind) shown in
-      listed_more old new (string_bytes key, d) _ behind whole more next before
 
 -- what a look-up in a file answers
 

@@ -1,3 +1,4 @@
 -- Definitions that follow the code step by step, for its proof. No statement that a caller rests on needs them.
+pub mod Orders
 pub mod Shown
 pub mod Steps

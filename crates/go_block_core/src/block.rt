@@ -8,16 +8,16 @@ use crate::binding::Binding;
 use crate::exports::NamedDecl;
 use crate::fault::BlockFault;
 use crate::package_block::{exported_of, names_of};
-use crate::table::{find, has, names_in, names_without};
+use crate::table::{has, names_in, names_without};
 use go_decl_core::DeclRef;
-use indexmap::IndexMap;
+use go_named_core::NameTable;
 use std::alloc::{AllocError, Global};
 use std::marker::Model;
 
 /// The package block and the file blocks of a package, and the faults in them. Contracts see it as these three.
 pub struct Blocks {
-    pub(crate) package: IndexMap<String, DeclRef>,
-    pub(crate) files: Vec<IndexMap<String, Binding>>,
+    pub(crate) package: NameTable<DeclRef>,
+    pub(crate) files: Vec<NameTable<Binding>>,
     pub(crate) faults: Vec<BlockFault>,
 }
 
@@ -48,7 +48,7 @@ impl Blocks {
     pub fn package(&self, name: &str) -> Option<DeclRef>
         ensures { result ≡ in_block self.now.names name.now }
     {
-        find(&self.package, name).copied()
+        self.package.find(name).copied()
     }
 
     /// The names of the package block with their declarations, in order of file and number.
@@ -99,7 +99,7 @@ impl Blocks {
         ensures { option_copied result ≡ file_has self.now file name.now }
     {
         match self.files.get(file) {
-            Some(table) => find(table, name),
+            Some(table) => table.find(name),
             None => None,
         }
     }

@@ -2,8 +2,10 @@
 ghost use Rattle.std.specs.Prelude.{◌≡◌, IfOk, map};
 ghost use Rattle.go_block_core.specs.Exports.{name_and_decl};
 ghost use Rattle.go_block_core.specs.Blocks.{exports_of};
+ghost use Rattle.go_block_core.specs.Tables.{in_block};
 
 use crate::block::Blocks;
+use crate::name_order::{decl_of, order_of};
 use go_decl_core::DeclRef;
 use go_decl_core::path_core::ImportPath;
 use go_graph_core::Package;
@@ -30,6 +32,8 @@ struct ExportsContent {
     path: ImportPath,
     name: Name,
     names: Vec<NamedDecl>,
+    /// The places of the names, in order of spelling.
+    order: Vec<usize>,
 }
 
 /// What a package shows to those that import it: its path, the name in its clauses, and the exported names of its
@@ -48,12 +52,15 @@ impl Model for Exports {
     ghost use Rattle.std.specs.Prelude.{map};
     ghost use Rattle.std.specs.Arc.{arc_value};
     ghost use Rattle.go_block_core.specs.Exports.{ExportsModel, coded_exports, exports_model, name_and_decl};
+    ghost use Rattle.go_block_core.specs.mirrors.Orders.{IsNameOrder};
 
     ghost Value = { ExportsModel };
 
     ghost coded = { coded_exports };
 
     ghost view = { λ e. exports_model (arc_value e.content).path (arc_value e.content).name (map name_and_decl (arc_value e.content).names.items) };
+
+    ghost invariant = { λ e. IsNameOrder (map name_and_decl (arc_value e.content).names.items) (arc_value e.content).order.items };
 }
 
 impl Exports {
@@ -66,10 +73,15 @@ impl Exports {
     pub fn of(alloc: Global, package: &Package, blocks: &Blocks) -> Result<Exports, AllocError>
         ensures { IfOk result (λ exports. exports ≡ exports_of «package».now blocks.now) }
     {
+        let path = package.path().share()?;
+        let name = Name::from_text(alloc, package.name())?;
+        let names = blocks.exported(alloc)?;
+        let order = order_of(alloc, names.as_slice())?;
         let content = ExportsContent {
-            path: package.path().share()?,
-            name: Name::from_text(alloc, package.name())?,
-            names: blocks.exported(alloc)?,
+            path,
+            name,
+            names,
+            order,
         };
         Ok(Exports {
             content: Arc::new(alloc, content)?,
@@ -108,5 +120,16 @@ impl Exports {
         ensures { map name_and_decl result.now ≡ self.now.names }
     {
         self.content.names.as_slice()
+    }
+
+    /// The declaration of an exported name, and of two the first. It takes no memory, and time by the logarithm of the number of names.
+    pub fn decl(&self, name: &str) -> Option<DeclRef>
+        ensures { result ≡ in_block self.now.names name.now }
+    {
+        decl_of(
+            self.content.names.as_slice(),
+            self.content.order.as_slice(),
+            name,
+        )
     }
 }

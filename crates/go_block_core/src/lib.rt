@@ -17,6 +17,7 @@ mod fault;
 mod imports;
 mod laws;
 mod making;
+mod name_order;
 mod naming;
 mod package_block;
 mod table;
@@ -58,7 +59,7 @@ pub mod open_core {
 
 /// What the crates above name of `go_parse_core`.
 pub mod parse_core {
-    pub use go_graph_core::parse_core::{ParseError, Parsed, one_rule, one_tree, parse, tree_of};
+    pub use go_graph_core::parse_core::{one_rule, one_tree};
 }
 
 /// What the crates above name of `go_text_core`.

@@ -24,9 +24,9 @@ use crate::table::{bind_first, has};
 use go_decl_core::{DeclRef, TopDecl, outline};
 use go_graph_core::Package;
 use go_graph_core::parse_types::add;
+use go_named_core::NameTable;
 use go_open_core::text_core::{Name, is_exported};
 use go_tree_nodes::File;
-use indexmap::IndexMap;
 use std::alloc::{AllocError, Global};
 
 /// Whether a declaration of this name binds it.
@@ -46,7 +46,7 @@ fn is_malformed(is_main: bool, declared: &NamedPlace<'_>) -> bool
 
 /// Binds the name of a declaration, unless the table has it, and answers whether the table had it.
 fn declare(
-    table: &mut IndexMap<String, DeclRef>,
+    table: &mut NameTable<DeclRef>,
     alloc: Global,
     declared: &NamedPlace<'_>,
 ) -> Result<bool, AllocError>
@@ -62,7 +62,7 @@ fn declare(
 
 /// Declares a name in the package block.
 fn add_declared(
-    table: &mut IndexMap<String, DeclRef>,
+    table: &mut NameTable<DeclRef>,
     alloc: Global,
     is_main: bool,
     declared: &NamedPlace<'_>,
@@ -81,7 +81,7 @@ fn add_declared(
 
 /// Declares what a declaration of a file declares in the package block.
 fn add_top(
-    table: &mut IndexMap<String, DeclRef>,
+    table: &mut NameTable<DeclRef>,
     alloc: Global,
     is_main: bool,
     file: usize,
@@ -99,7 +99,7 @@ fn add_top(
 
 /// Declares what a file declares in the package block.
 fn add_file(
-    table: &mut IndexMap<String, DeclRef>,
+    table: &mut NameTable<DeclRef>,
     alloc: Global,
     is_main: bool,
     file: usize,
@@ -122,7 +122,7 @@ pub(crate) fn package_block(
     alloc: Global,
     package: &Package,
     faults: &mut Vec<BlockFault>,
-) -> Result<IndexMap<String, DeclRef>, AllocError>
+) -> Result<NameTable<DeclRef>, AllocError>
     ensures table { IfOk result (λ table. block_of table ≡ package_block (trees_of «package».now.1)) }
     ensures faults { OnOk result (faults.new.items ≡ faults.old.items ++ block_decl_faults (is_main_package (trees_of «package».now.1)) [] (package_declared (trees_of «package».now.1))) }
     // The tokens of each tree follow one another in its text.
@@ -130,7 +130,7 @@ pub(crate) fn package_block(
 {
     let is_main = package.name() == "main";
     let files = package.files();
-    let mut table = IndexMap::new(alloc);
+    let mut table = NameTable::new(alloc);
     for file in 0..files.len() {
         let tree = package.tree(file);
         let Ok(()) = add_file(&mut table, alloc, is_main, file, tree, faults) else {
@@ -144,9 +144,9 @@ pub(crate) fn package_block(
 
 /// Binds a name in a file block.
 fn add_bound(
-    table: &mut IndexMap<String, Binding>,
+    table: &mut NameTable<Binding>,
     alloc: Global,
-    names: &IndexMap<String, DeclRef>,
+    names: &NameTable<DeclRef>,
     file: usize,
     bound: BoundName<'_>,
     faults: &mut Vec<BlockFault>,
@@ -166,16 +166,16 @@ fn add_bound(
 /// package block has these names.
 fn file_block(
     alloc: Global,
-    names: &IndexMap<String, DeclRef>,
+    names: &NameTable<DeclRef>,
     file: usize,
     imports: &Vec<NamedImport>,
     faults: &mut Vec<BlockFault>,
-) -> Result<IndexMap<String, Binding>, AllocError>
+) -> Result<NameTable<Binding>, AllocError>
     ensures table { IfOk result (λ table. block_of table ≡ file_block imports.now.items) }
     ensures faults { OnOk result (faults.new.items ≡ faults.old.items ++ bound_faults (block_of names.now) file [] (file_bound imports.now.items)) }
 {
     let all = bindings(alloc, imports)?;
-    let mut table = IndexMap::new(alloc);
+    let mut table = NameTable::new(alloc);
     for bound in all {
         let Ok(()) = add_bound(&mut table, alloc, names, file, bound, faults) else {
             // By name: the drop of a table is then one call.
@@ -189,10 +189,10 @@ fn file_block(
 /// The blocks of all files. Adds the faults in them.
 pub(crate) fn file_blocks(
     alloc: Global,
-    names: &IndexMap<String, DeclRef>,
+    names: &NameTable<DeclRef>,
     files: &Vec<Vec<NamedImport>>,
     faults: &mut Vec<BlockFault>,
-) -> Result<Vec<IndexMap<String, Binding>>, AllocError>
+) -> Result<Vec<NameTable<Binding>>, AllocError>
     ensures tables { IfOk result (λ tables. map block_of tables.items ≡ file_blocks (map imports_in files.now.items)) }
     ensures faults { OnOk result (faults.new.items ≡ faults.old.items ++ block_file_faults (block_of names.now) 0 (map imports_in files.now.items)) }
 {
@@ -223,12 +223,12 @@ fn add_entry(
 /// The names of a table with their declarations, in order.
 pub(crate) fn names_of(
     alloc: Global,
-    table: &IndexMap<String, DeclRef>,
+    table: &NameTable<DeclRef>,
 ) -> Result<Vec<NamedDecl>, AllocError>
     ensures { IfOk result (λ names. map name_and_decl names.items ≡ block_of table.now) }
 {
     let mut names = Vec::new(alloc);
-    for (name, decl) in table {
+    for (name, decl) in table.entries() {
         add_entry(&mut names, alloc, name.as_str(), *decl)?;
     }
     Ok(names)
@@ -237,12 +237,12 @@ pub(crate) fn names_of(
 /// The exported names of a table with their declarations, in order.
 pub(crate) fn exported_of(
     alloc: Global,
-    table: &IndexMap<String, DeclRef>,
+    table: &NameTable<DeclRef>,
 ) -> Result<Vec<NamedDecl>, AllocError>
     ensures { IfOk result (λ names. map name_and_decl names.items ≡ exported_names (block_of table.now)) }
 {
     let mut names = Vec::new(alloc);
-    for (name, decl) in table {
+    for (name, decl) in table.entries() {
         let name = name.as_str();
         if is_exported(name) {
             add_entry(&mut names, alloc, name, *decl)?;

@@ -1,28 +1,21 @@
 //! Tables of names.
-ghost use Rattle.std.specs.Prelude.{◌≡◌, OnOk, IfOk, map, option_copied};
-ghost use Rattle.go_block_core.specs.Tables.{block_of, in_block, has, with_first, names_in, without};
+ghost use Rattle.std.specs.Prelude.{◌≡◌, OnOk, IfOk, map};
+ghost use Rattle.go_block_core.specs.Tables.{block_of, has, with_first, names_in, without};
 
 use go_graph_core::parse_types::add;
-use indexmap::IndexMap;
+use go_named_core::NameTable;
 use std::alloc::{AllocError, Global};
 
-/// What a table has at a name.
-pub(crate) fn find<'a, V>(table: &'a IndexMap<String, V>, name: &str) -> Option<&'a V>
-    ensures { option_copied result ≡ in_block (block_of table.now) name.now }
-{
-    table.get(name)
-}
-
 /// Whether a table has a name.
-pub(crate) fn has<V>(table: &IndexMap<String, V>, name: &str) -> bool
+pub(crate) fn has<V>(table: &NameTable<V>, name: &str) -> bool
     ensures { result ≡ has (block_of table.now) name.now }
 {
-    find(table, name).is_some()
+    table.find(name).is_some()
 }
 
 /// Binds a name, unless the table has it, and answers whether the table had it.
 pub(crate) fn bind_first<V: Drop>(
-    table: &mut IndexMap<String, V>,
+    table: &mut NameTable<V>,
     alloc: Global,
     name: &str,
     value: V,
@@ -33,20 +26,19 @@ pub(crate) fn bind_first<V: Drop>(
     if has(table, name) {
         return Ok(true);
     }
-    let key = String::from_str(alloc, name)?;
-    table.insert(key, value)?;
+    table.add(alloc, name, value)?;
     Ok(false)
 }
 
 /// The names of a table, in order.
 pub(crate) fn names_in<'a, V>(
     alloc: Global,
-    table: &'a IndexMap<String, V>,
+    table: &'a NameTable<V>,
 ) -> Result<Vec<&'a str>, AllocError>
     ensures { IfOk result (λ names. map (λ n. n.now) names.items ≡ names_in (block_of table.now)) }
 {
     let mut names = Vec::with_capacity(alloc, table.len())?;
-    for (name, _) in table {
+    for (name, _) in table.entries() {
         add(&mut names, name.as_str())?;
     }
     Ok(names)
@@ -55,13 +47,13 @@ pub(crate) fn names_in<'a, V>(
 /// The names of a table that another table has not, in order.
 pub(crate) fn names_without<'a, V, W>(
     alloc: Global,
-    table: &'a IndexMap<String, V>,
-    other: &IndexMap<String, W>,
+    table: &'a NameTable<V>,
+    other: &NameTable<W>,
 ) -> Result<Vec<&'a str>, AllocError>
     ensures { IfOk result (λ names. map (λ n. n.now) names.items ≡ names_in (without (block_of other.now) (block_of table.now))) }
 {
     let mut names = Vec::new(alloc);
-    for (name, _) in table {
+    for (name, _) in table.entries() {
         let name = name.as_str();
         if !has(other, name) {
             add(&mut names, name)?;

@@ -1,6 +1,6 @@
 //! Calls of the predeclared `panic`.
 ghost use Rattle.std.specs.Prelude.{◌≡◌, ℕ, ◌||◌, ◌&&◌, nat_eq, IfOk, OnOk};
-ghost use Rattle.indexmap.specs.IndexSet.{contains};
+ghost use Rattle.std.specs.HashSet.{contains};
 ghost use Rattle.go_tree_nodes.specs.Shapes.{shape};
 ghost use Rattle.go_body_core.specs.Ends.{is_panic_declaration, has_panic, panics_at, names_one, calls_one};
 
@@ -11,8 +11,8 @@ use go_env_core::select_core::EmbedPath;
 use go_env_core::walk_core::Panics;
 use go_tree_nodes::Expr;
 use go_universe_core::Predeclared;
-use indexmap::IndexSet;
 use std::alloc::{AllocError, Global};
+use std::collections::HashSet;
 
 // Whether a declaration is the predeclared `panic`.
 fn is_panic(decl: &Decl<'_>) -> bool
@@ -38,7 +38,7 @@ fn has_panic(outcome: &Outcome<Decl<'_>, EmbedPath>) -> bool
 }
 
 // Adds the offset of an occurrence that has it.
-fn add_panic(offsets: &mut IndexSet<usize>, used: &BodyUse<'_>) -> Result<(), AllocError>
+fn add_panic(offsets: &mut HashSet<usize>, used: &BodyUse<'_>) -> Result<(), AllocError>
     ensures { OnOk result ((offset : ℕ) → contains nat_eq offsets.new offset ≡ (contains nat_eq offsets.old offset || (nat_eq offset used.now.offset && has_panic used.now.outcome))) }
 {
     if !has_panic(&used.outcome) {
@@ -54,10 +54,10 @@ fn add_panic(offsets: &mut IndexSet<usize>, used: &BodyUse<'_>) -> Result<(), Al
 pub(crate) fn panic_offsets(
     alloc: Global,
     uses: &[BodyUse<'_>],
-) -> Result<IndexSet<usize>, AllocError>
+) -> Result<HashSet<usize>, AllocError>
     ensures { IfOk result (λ offsets. (offset : ℕ) → contains nat_eq offsets offset ≡ panics_at uses.now offset) }
 {
-    let mut offsets = IndexSet::new(alloc);
+    let mut offsets = HashSet::new(alloc);
     for used in uses {
         add_panic(&mut offsets, used)?;
     }
@@ -65,7 +65,7 @@ pub(crate) fn panic_offsets(
 }
 
 // Whether an expression is a name at one of these offsets, in parentheses or not.
-fn names_one(offsets: &IndexSet<usize>, expr: &Expr) -> bool
+fn names_one(offsets: &HashSet<usize>, expr: &Expr) -> bool
     ensures { result ≡ names_one (contains nat_eq offsets.now) (shape expr.now) }
 {
     match expr {
@@ -83,7 +83,7 @@ fn names_one(offsets: &IndexSet<usize>, expr: &Expr) -> bool
 }
 
 // Whether an expression is a call of such a name, in parentheses or not.
-fn calls_one(offsets: &IndexSet<usize>, expr: &Expr) -> bool
+fn calls_one(offsets: &HashSet<usize>, expr: &Expr) -> bool
     ensures { result ≡ calls_one (contains nat_eq offsets.now) (shape expr.now) }
 {
     match expr {
@@ -103,7 +103,7 @@ fn calls_one(offsets: &IndexSet<usize>, expr: &Expr) -> bool
 /// Calls of the predeclared `panic`, by the offsets at which occurrences have it.
 #[derive(Clone, Copy)]
 pub(crate) struct PanicCalls<'a> {
-    pub(crate) offsets: &'a IndexSet<usize>,
+    pub(crate) offsets: &'a HashSet<usize>,
 }
 
 impl<'a> Panics for PanicCalls<'a> {

@@ -1,7 +1,8 @@
 -- A path can be cut until it comes to no type of the table twice, whatever types are embedded.
-use Rattle.std.proofs.Common.{◌≡◌, ℕ, zero, suc, ◌+◌, ◌*◌, ◌<◌, ◌≤◌, Bool, false, ◌||◌, List, [], ◌∷◌, ◌++◌, length, Option, Some, None, refl, ap, subst, arith, ◌⊎◌, inl, inr}
+use Rattle.std.proofs.Common.{◌≡◌, ℕ, zero, suc, ◌+◌, ◌*◌, ◌<◌, ◌≤◌, Bool, false, ◌||◌, List, [], ◌∷◌, length, Option, Some, None, cond, refl, ap, subst, arith, ◌⊎◌, inl, inr}
 use Rattle.std.specs.Prelude.{nat_eq}
 use Rattle.std.specs.Map.{lookup}
+use Rattle.std.proofs.lemmas.Cmp.{nat_eq_equiv}
 use Rattle.go_term_core.specs.Terms.{Term, NoType, Predeclared, ErrorType, Defined, PointerTo, StructOf, InterfaceOf}
 use Rattle.go_term_core.proofs.Members.{In}
 use Rattle.go_mset_core.specs.table_core.Entries.{Entry, find_entry, term_in, underlying_in}
@@ -43,6 +44,9 @@ step_falls es t i p v s = let x = step_edge (find_entry es) t i p v s in subst (
 drops : (d l m : ℕ) → l < m → l * suc d + suc d ≤ m * suc d
 drops d l m h = grind arith
 
+marked_falls : (es : List Entry) (met : List (ℕ × ℕ)) (n : ℕ) (t : Term) → IsNumbered es n t → lookup (nat_eq n) met ≡ None → left es ((n, 0) ∷ met) < left es met
+marked_falls es met n t num none = left_falls es met ((n, 0) ∷ met) n 0 t num none (λ m. ap (λ b. cond b (Some 0) (lookup (nat_eq m) met)) (nat_eq_equiv.symm m n))
+
 -- what a path may cost from a type on
 abbrev cost : List Entry → List (ℕ × ℕ) → Term → ℕ
 cost es met t = left es met * suc (deepest es) + nesting t
@@ -55,7 +59,7 @@ over : (b : ℕ) (es : List Entry) (met : List (ℕ × ℕ)) (t : Term) (q : Lis
     → ((met' : List (ℕ × ℕ)) (v : Term) (rest : List ℕ) → cost es met' v ≤ b → Avoids es met' v rest u → Short es v u b) → Short es t u (suc b)
 over b es met t q u n num l h more =
     elim (last_visit es met n t num t q u h) [
-      | inl a ↦ absurd (marked es met n t q u num none a)
+      | inl a ↦ absurd (marked es met n t q u num a)
       | inr r ↦ elim r [
         | inl e ↦ ([], false, (e, refl), omega arith)
         | inr x ↦ onward x.0 x.1 x.2 x.3 x.4 x.5
@@ -65,19 +69,19 @@ over b es met t q u n num l h more =
     none : lookup (nat_eq n) met ≡ None
     none = starts es met t q u h n num
 
-    fewer : left es (met ++ (n, 0) ∷ []) * suc (deepest es) + suc (deepest es) ≤ left es met * suc (deepest es)
-    fewer = drops (deepest es) (left es (met ++ (n, 0) ∷ [])) (left es met) (left_falls es met n 0 t num none)
+    fewer : left es ((n, 0) ∷ met) * suc (deepest es) + suc (deepest es) ≤ left es met * suc (deepest es)
+    fewer = drops (deepest es) (left es ((n, 0) ∷ met)) (left es met) (marked_falls es met n t num none)
 
-    onward : (j : ℕ) (p : Bool) (v : Term) (rest : List ℕ) → Step (find_entry es) t j p v → Avoids es (met ++ (n, 0) ∷ []) v rest u → Short es t u (suc b)
+    onward : (j : ℕ) (p : Bool) (v : Term) (rest : List ℕ) → Step (find_entry es) t j p v → Avoids es ((n, 0) ∷ met) v rest u → Short es t u (suc b)
     onward j p v rest step a =
         let k = fewer in
         elim (step_falls es t j p v step) [
           | inl x ↦
               let low = x.1 in
-              let s = more (met ++ (n, 0) ∷ []) v rest (omega (arith, k, low, l)) a in
+              let s = more ((n, 0) ∷ met) v rest (omega (arith, k, low, l)) a in
               (j ∷ s.0, p || s.1, (v, p, s.1, step, s.2, refl), omega (arith, s.3))
           | inr y ↦
-              let s = more (met ++ (n, 0) ∷ []) v rest (omega (arith, k, y, l)) a in
+              let s = more ((n, 0) ∷ met) v rest (omega (arith, k, y, l)) a in
               (j ∷ s.0, p || s.1, (v, p, s.1, step, s.2, refl), omega (arith, s.3))
         ]
 
@@ -86,8 +90,8 @@ short b es met t [] u l h = ([], false, (h.1, refl), omega arith)
 short zero es met t (i ∷ q) u l h =
     elim (step_falls es t i h.1.1 h.1.0 h.1.2) [
       | inl x ↦
-          let f = left_falls es met x.0.0 0 t x.0.1 (h.0 x.0.0 x.0.1) in
-          let k = drops (deepest es) (left es (met ++ (x.0.0, 0) ∷ [])) (left es met) f in
+          let f = marked_falls es met x.0.0 t x.0.1 (h.0 x.0.0 x.0.1) in
+          let k = drops (deepest es) (left es ((x.0.0, 0) ∷ met)) (left es met) f in
           absurd (omega (arith, k, l))
       | inr y ↦ absurd (omega (arith, y, l))
     ]

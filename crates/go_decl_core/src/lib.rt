@@ -32,7 +32,9 @@ pub mod path_core {
 
 /// What the crates above name of `go_text_core`.
 pub mod text_core {
-    pub use go_path_core::text_core::{Name, Rule, add, boxed, is_blank, is_exported, same_id};
+    pub use go_path_core::text_core::{
+        Name, Rule, Span, add, boxed, is_blank, is_digit, is_exported, is_letter, same_id,
+    };
 }
 
 /// What the crates above name of `go_tree_core`.

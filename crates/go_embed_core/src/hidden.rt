@@ -13,11 +13,11 @@ use go_term_core::text_core::{Rule, is_blank};
 use go_type_core::path_core::ImportPath;
 use go_type_core::table_core::FieldTable;
 use go_type_core::{DeclaredMethod, Field, TypeTerm};
-use indexmap::IndexSet;
 use std::alloc::{AllocError, Global};
+use std::collections::HashSet;
 
 // Whether a name is among these.
-fn has_name(names: &IndexSet<&str>, name: &str) -> bool
+fn has_name(names: &HashSet<&str>, name: &str) -> bool
     ensures { result ≡ is_among_names (map (λ n. n.now) names.now.keys) name.now }
 {
     names.contains(name)
@@ -31,7 +31,7 @@ fn is_home(home: &ImportPath, path: &ImportPath) -> bool
 }
 
 // Adds a name to others.
-fn add_name<'a>(names: &mut IndexSet<&'a str>, name: &'a str) -> Result<(), AllocError>
+fn add_name<'a>(names: &mut HashSet<&'a str>, name: &'a str) -> Result<(), AllocError>
     ensures { OnOk result (SameNames (map (λ n. n.now) names.new.keys) (name.now ∷ map (λ n. n.now) names.old.keys)) }
 {
     match names.insert(name) {
@@ -52,7 +52,7 @@ fn take_name<'a>(
     path: &ImportPath,
     fields: &FieldTable<'_>,
     method: &'a DeclaredMethod,
-    names: &mut IndexSet<&'a str>,
+    names: &mut HashSet<&'a str>,
 ) -> Result<(), AllocError>
     ensures { OnOk result (SameNames (map (λ n. n.now) names.new.keys) (names_with path.now fields.now (member_shown method.now) (map (λ n. n.now) names.old.keys))) }
 {
@@ -68,10 +68,10 @@ fn own_names<'a>(
     path: &ImportPath,
     fields: &FieldTable<'_>,
     methods: &'a [DeclaredMethod],
-) -> Result<IndexSet<&'a str>, AllocError>
+) -> Result<HashSet<&'a str>, AllocError>
     ensures { IfOk result (λ names. SameNames (map (λ n. n.now) names.keys) (own_names path.now fields.now (map member_shown methods.now))) }
 {
-    let mut names = IndexSet::new(alloc);
+    let mut names = HashSet::new(alloc);
     for method in methods {
         take_name(path, fields, method, &mut names)?;
     }
@@ -81,7 +81,7 @@ fn own_names<'a>(
 // The faults of fields that have one of these names.
 fn named_faults(
     alloc: Global,
-    names: &IndexSet<&str>,
+    names: &HashSet<&str>,
     fields: &[Field],
 ) -> Result<Vec<MemberFault>, AllocError>
     ensures { IfOk result (λ faults. (ls : List Line) → faults.items ≡ named_faults (map (λ n. n.now) names.now.keys) (fields_in ls fields.now)) }

@@ -8,6 +8,5 @@ pub mod Outlining
 pub mod Placing
 pub mod Receiving
 pub mod Scoping
-pub mod Spelled
 pub mod Shown
 pub mod Worked

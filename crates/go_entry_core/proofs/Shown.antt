@@ -1,20 +1,21 @@
 -- Tables of what packages show.
-use Rattle.std.proofs.Common.{◌≡◌, ℕ, Bool, true, false, List, [], ◌∷◌, map, Option, Some, None, cond, refl, sym, ap, ◌∙◌, subst}
+use Rattle.std.proofs.Common.{◌≡◌, ℕ, suc, ◌+◌, ◌<◌, Bool, true, false, List, [], ◌∷◌, ◌++◌, map, length, get_or, set, Option, Some, None, cond, refl, sym, ap, ◌∙◌, arith}
 use Rattle.std.specs.Prelude.{string_bytes, if◌then◌else◌}
 use Rattle.std.specs.Str.{bytes_eq, chars}
 use Rattle.std.specs.String.{string_eq}
+use Rattle.std.specs.HashMap.{HashMap, get_by_text, Updates}
+use Rattle.std.specs.List.{position_from}
 use Rattle.std.specs.declared.string.String.{String}
 use Rattle.std.proofs.lemmas.Bool.{true≢false, false_from_ne_true}
 use Rattle.std.proofs.lemmas.Slice.Eq.{bytes_eq-Decides}
-use Rattle.indexmap.specs.IndexMap.{IndexMap, get_by, insert_entry}
+use Rattle.std.proofs.lemmas.Map.Text.{hash_map_updates_text}
 use Rattle.go_text_core.specs.Text.{exported}
 use Rattle.go_written_core.specs.decl_core.declared.keys.DeclRef.{DeclRef}
 use Rattle.go_scope_core.specs.block_core.Blocks.{exports_of}
-use Rattle.go_scope_core.specs.block_core.Exports.{ExportsModel, exported_names}
-use Rattle.go_scope_core.specs.block_core.Tables.{in_block, block_of}
-use Rattle.go_scope_core.specs.block_core_lemmas.TableLemmas.{in_table}
+use Rattle.go_scope_core.specs.block_core.Exports.{ExportsModel, exports_model, exported_names}
+use Rattle.go_scope_core.specs.block_core.Tables.{in_block}
 use Rattle.go_entry_core.specs.Showing.{names_shown, shown_in, with_shown, ShowsItsBlock, KeepsOthers}
-use Rattle.go_entry_core.specs.mirrors.Indexing.{AreKeyed, shown_of}
+use Rattle.go_entry_core.specs.mirrors.Indexing.{AreNumbered, number_of}
 
 -- equal texts
 
@@ -27,82 +28,122 @@ text_same a b h = (bytes_eq-Decides a b).1 h
 text_apart : (a b : List ℕ) → (a ≡ b → ⊥) → bytes_eq a b ≡ false
 text_apart a b h = false_from_ne_true (bytes_eq a b) (λ yes. h (same_text a b yes))
 
--- a package more
-
-abbrev as_block : {Y : Type 0} → List (String Y × ExportsModel) → List (List ℕ × ExportsModel)
-as_block es = map (λ e. (string_bytes e.0, e.1)) es
-
-abbrev Inserted : {Y : Type 0} → List (String Y × ExportsModel) → String Y → ExportsModel → Type 0
-Inserted es key e = (shown_of (as_block (insert_entry string_eq es key e)) ≡ with_shown (shown_of (as_block es)) e) × AreKeyed (as_block (insert_entry string_eq es key e))
-
-module _ {Y : Type 0} (x : String Y × ExportsModel) (es : List (String Y × ExportsModel)) (key : String Y) (e : ExportsModel) (is : string_bytes key ≡ e.path) (own : string_bytes x.0 ≡ x.1.path) (keyed : AreKeyed (as_block es)) where
-  here : bytes_eq (string_bytes key) (string_bytes x.0) ≡ true → Inserted (x ∷ es) key e
-  here t =
-      let made : insert_entry string_eq (x ∷ es) key e ≡ (x.0, e) ∷ es = ap (λ b. if b then (x.0, e) ∷ es else x ∷ insert_entry string_eq es key e) t in
-      let test : bytes_eq e.path x.1.path ≡ true = ap (λ (p : List ℕ). bytes_eq p x.1.path) (sym is) ∙ (ap (bytes_eq (string_bytes key)) (sym own) ∙ t) in
-      let shown : with_shown (shown_of (as_block (x ∷ es))) e ≡ e ∷ shown_of (as_block es) = ap (λ b. if b then e ∷ shown_of (as_block es) else x.1 ∷ with_shown (shown_of (as_block es)) e) test in
-      let path : string_bytes x.0 ≡ e.path = sym (same_text (string_bytes key) (string_bytes x.0) t) ∙ is in (
-        ap (λ (l : List (String Y × ExportsModel)). shown_of (as_block l)) made ∙ sym shown,
-        subst (λ (l : List (String Y × ExportsModel)). AreKeyed (as_block l)) (sym made) (path, keyed),
-      )
-
-  behind : bytes_eq (string_bytes key) (string_bytes x.0) ≡ false → Inserted es key e → Inserted (x ∷ es) key e
-  behind t rest =
-      let made : insert_entry string_eq (x ∷ es) key e ≡ x ∷ insert_entry string_eq es key e = ap (λ b. if b then (x.0, e) ∷ es else x ∷ insert_entry string_eq es key e) t in
-      let test : bytes_eq e.path x.1.path ≡ false = ap (λ (p : List ℕ). bytes_eq p x.1.path) (sym is) ∙ (ap (bytes_eq (string_bytes key)) (sym own) ∙ t) in
-      let shown : with_shown (shown_of (as_block (x ∷ es))) e ≡ x.1 ∷ with_shown (shown_of (as_block es)) e = ap (λ b. if b then e ∷ shown_of (as_block es) else x.1 ∷ with_shown (shown_of (as_block es)) e) test in (
-        ap (λ (l : List (String Y × ExportsModel)). shown_of (as_block l)) made ∙ (ap (λ (l : List ExportsModel). x.1 ∷ l) rest.0 ∙ sym shown),
-        subst (λ (l : List (String Y × ExportsModel)). AreKeyed (as_block l)) (sym made) (own, rest.1),
-      )
-
-inserted : {Y : Type 0} (es : List (String Y × ExportsModel)) (key : String Y) (e : ExportsModel) → string_bytes key ≡ e.path → AreKeyed (as_block es) → Inserted es key e
-inserted [] key e is keyed = (refl, (is, tt))
-inserted {Y} (x ∷ es) key e is keyed = by (bytes_eq (string_bytes key) (string_bytes x.0)) refl (inserted es key e is keyed.1)
+text_turned : (a b : List ℕ) → bytes_eq a b ≡ bytes_eq b a
+text_turned a b = by (bytes_eq a b) refl
   where
-    by : (b : Bool) → bytes_eq (string_bytes key) (string_bytes x.0) ≡ b → Inserted es key e → Inserted (x ∷ es) key e
-    by true t rest = here x es key e is keyed.0 keyed.1 t
-    by false t rest = behind x es key e is keyed.0 keyed.1 t rest
+    by : (c : Bool) → bytes_eq a b ≡ c → c ≡ bytes_eq b a
+    by true h = sym (text_same b a (sym (same_text a b h)))
+    by false h = sym (text_apart b a (λ same. true≢false (sym (text_same a b (sym same)) ∙ h)))
 
-pub table_more : {Y S : Type 0} (old new : IndexMap (String Y) ExportsModel S) (key : String Y) (e : ExportsModel) → string_bytes key ≡ e.path → AreKeyed (block_of old) → new.entries ≡ insert_entry string_eq old.entries key e
-    → (shown_of (block_of new) ≡ with_shown (shown_of (block_of old)) e) × AreKeyed (block_of new)
-table_more old new key e is keyed made =
-    let r = inserted old.entries key e is keyed in (
-      ap (λ l. shown_of (as_block l)) made ∙ r.0,
-      subst (λ l. AreKeyed (as_block l)) (sym made) r.1,
+-- the package of a path by its number
+
+abbrev paths_of : List ExportsModel → List (List ℕ)
+paths_of ps = map (λ p. p.path) ps
+
+record Found (ps : List ExportsModel) (path : List ℕ) (k n : ℕ) (d : ExportsModel) : Type 0 where
+  pub place : ℕ
+  pub is : n ≡ k + place
+  pub within : place < length ps
+  pub names : names_shown ps path ≡ (get_or ps place d).names
+  pub put : (x : ExportsModel) → path ≡ x.path → with_shown ps x ≡ set ps place x
+  pub paths : (x : ExportsModel) → path ≡ x.path → paths_of (set ps place x) ≡ paths_of ps
+
+found : (ps : List ExportsModel) (path : List ℕ) (k n : ℕ) (d : ExportsModel) → position_from (bytes_eq path) k (paths_of ps) ≡ Some n → Found ps path k n d
+found [] path k n d h = cc
+found (p ∷ ps) path k n d h = by (bytes_eq path p.path) refl h (found ps path (k + 1) n d)
+  where
+    by : (b : Bool) → bytes_eq path p.path ≡ b → cond b (Some k) (position_from (bytes_eq path) (k + 1) (paths_of ps)) ≡ Some n → (position_from (bytes_eq path) (k + 1) (paths_of ps) ≡ Some n → Found ps path (k + 1) n d) → Found (p ∷ ps) path k n d
+    by true t e rest = record {
+      place = 0;
+      is = (let same : k ≡ n = (let s : Some k ≡ Some n = e in cc) in omega (arith, same));
+      within = omega arith;
+      names = ap (λ b. if b then p.names else names_shown ps path) t;
+      put = λ x is. ap (λ b. if b then x ∷ ps else p ∷ with_shown ps x) (ap (λ (q : List ℕ). bytes_eq q p.path) (sym is) ∙ t);
+      paths = λ x is. ap (λ (q : List ℕ). q ∷ paths_of ps) (sym is ∙ same_text path p.path t);
+    }
+    by false t e rest = (let behind = rest e in record {
+      place = suc behind.place;
+      is = omega (arith, behind.is);
+      within = omega (arith, behind.within);
+      names = ap (λ b. if b then p.names else names_shown ps path) t ∙ behind.names;
+      put = λ x is. ap (λ b. if b then x ∷ ps else p ∷ with_shown ps x) (ap (λ (q : List ℕ). bytes_eq q p.path) (sym is) ∙ t) ∙ ap (λ (l : List ExportsModel). p ∷ l) (behind.put x is);
+      paths = λ x is. ap (λ (l : List (List ℕ)). p.path ∷ l) (behind.paths x is);
+    })
+
+pub number_within : (ps : List ExportsModel) (path : List ℕ) (n : ℕ) → number_of ps path ≡ Some n → n < length ps
+number_within ps path n h = let f = found ps path 0 n (exports_model [] [] []) h in omega (arith, f.is, f.within)
+
+-- another package takes its place
+pub numbered_again : {Y S : Type 0} (numbers : HashMap (String Y) ℕ S) (ps : List ExportsModel) (path : List ℕ) (n : ℕ) (e : ExportsModel) → AreNumbered numbers ps → number_of ps path ≡ Some n → path ≡ e.path
+    → (set ps n e ≡ with_shown ps e) × AreNumbered numbers (set ps n e)
+numbered_again numbers ps path n e before h is =
+    let f = found ps path 0 n e h in
+    let same : f.place ≡ n = omega (arith, f.is) in (
+      sym (f.put e is ∙ ap (λ (m : ℕ). set ps m e) same),
+      (λ q. before q ∙ ap (position_from (bytes_eq q) 0) (sym (f.paths e is) ∙ ap (λ (m : ℕ). paths_of (set ps m e)) same)),
     )
 
-pub table_same : {Y S : Type 0} (old new : IndexMap (String Y) ExportsModel S) → AreKeyed (block_of old) → new.entries ≡ old.entries → (shown_of (block_of new) ≡ shown_of (block_of old)) × AreKeyed (block_of new)
-table_same old new keyed same = (
-  ap (λ l. shown_of (as_block l)) same,
-  subst (λ l. AreKeyed (as_block l)) (sym same) keyed,
+-- a package whose path has none goes last
+
+last_shown : (ps : List ExportsModel) (e : ExportsModel) (k : ℕ) → position_from (bytes_eq e.path) k (paths_of ps) ≡ None → ps ++ e ∷ [] ≡ with_shown ps e
+last_shown [] e k h = refl
+last_shown (p ∷ ps) e k h = by (bytes_eq e.path p.path) refl h (last_shown ps e (k + 1))
+  where
+    by : (b : Bool) → bytes_eq e.path p.path ≡ b → cond b (Some k) (position_from (bytes_eq e.path) (k + 1) (paths_of ps)) ≡ None → (position_from (bytes_eq e.path) (k + 1) (paths_of ps) ≡ None → ps ++ e ∷ [] ≡ with_shown ps e)
+        → p ∷ (ps ++ e ∷ []) ≡ with_shown (p ∷ ps) e
+    by true t none rest = cc
+    by false t none rest = ap (λ (l : List ExportsModel). p ∷ l) (rest none) ∙ sym (ap (λ b. if b then e ∷ ps else p ∷ with_shown ps e) t)
+
+last_numbered : (ps : List ExportsModel) (e : ExportsModel) (q : List ℕ) (k : ℕ) → position_from (bytes_eq e.path) k (paths_of ps) ≡ None
+    → position_from (bytes_eq q) k (paths_of (ps ++ e ∷ [])) ≡ cond (bytes_eq e.path q) (Some (k + length ps)) (position_from (bytes_eq q) k (paths_of ps))
+last_numbered [] e q k h =
+    let none : k ≡ k + 0 = omega arith in
+    ap (λ b. cond b (Some k) None) (text_turned q e.path) ∙ ap (λ (n : ℕ). cond (bytes_eq e.path q) (Some n) None) none
+last_numbered (p ∷ ps) e q k h = by (bytes_eq e.path p.path) (bytes_eq q p.path) refl refl h (last_numbered ps e q (k + 1))
+  where
+    by : (a b : Bool) → bytes_eq e.path p.path ≡ a → bytes_eq q p.path ≡ b → cond a (Some k) (position_from (bytes_eq e.path) (k + 1) (paths_of ps)) ≡ None
+        → (position_from (bytes_eq e.path) (k + 1) (paths_of ps) ≡ None → position_from (bytes_eq q) (k + 1) (paths_of (ps ++ e ∷ [])) ≡ cond (bytes_eq e.path q) (Some (k + 1 + length ps)) (position_from (bytes_eq q) (k + 1) (paths_of ps)))
+        → cond b (Some k) (position_from (bytes_eq q) (k + 1) (paths_of (ps ++ e ∷ []))) ≡ cond (bytes_eq e.path q) (Some (k + suc (length ps))) (cond b (Some k) (position_from (bytes_eq q) (k + 1) (paths_of ps)))
+    by true b s t none rest = cc
+    by false true s t none rest =
+        let other : bytes_eq e.path q ≡ false = text_apart e.path q (λ same. true≢false (sym t ∙ (ap (λ (r : List ℕ). bytes_eq r p.path) (sym same) ∙ s))) in
+        sym (ap (λ c. cond c (Some (k + suc (length ps))) (Some k)) other)
+    by false false s t none rest =
+        let one : k + 1 + length ps ≡ k + suc (length ps) = omega arith in
+        rest none ∙ ap (λ (n : ℕ). cond (bytes_eq e.path q) (Some n) (position_from (bytes_eq q) (k + 1) (paths_of ps))) one
+
+pub numbered_last : {Y S : Type 0} (old new : HashMap (String Y) ℕ S) (ps : List ExportsModel) (key : String Y) (n : ℕ) (e : ExportsModel) → AreNumbered old ps → string_bytes key ≡ e.path → n ≡ length ps → number_of ps e.path ≡ None
+    → Updates string_eq old new key (Some n) → (ps ++ e ∷ [] ≡ with_shown ps e) × AreNumbered new (ps ++ e ∷ [])
+numbered_last old new ps key n e before is count none adds = (
+  last_shown ps e 0 none,
+  (λ q.
+      let first : n ≡ 0 + length ps = omega (arith, count) in
+      hash_map_updates_text (string_bytes key) old new (Some n) adds q
+      ∙ (ap (λ (k : List ℕ). cond (bytes_eq k q) (Some n) (get_by_text old q)) is
+      ∙ (ap (λ (o : Option ℕ). cond (bytes_eq e.path q) (Some n) o) (before q)
+      ∙ (ap (λ (m : ℕ). cond (bytes_eq e.path q) (Some m) (number_of ps q)) first ∙ sym (last_numbered ps e q 0 none))))),
 )
 
--- what a table has of a path
+-- what the package of a path shows
 
-abbrev names_or : Option ExportsModel → List (List ℕ × DeclRef)
-names_or None = []
-names_or (Some e) = e.names
+pub shown_there : (ps : List ExportsModel) (path name : List ℕ) (n : ℕ) (read : ExportsModel) → number_of ps path ≡ Some n → read ≡ get_or ps n read → exported (chars name) ≡ true → in_block read.names name ≡ shown_in ps path name
+shown_there ps path name n read at is visible =
+    let f = found ps path 0 n read at in
+    let same : n ≡ f.place = omega (arith, f.is) in
+    let names : names_shown ps path ≡ read.names = f.names ∙ sym (ap (λ (e : ExportsModel). e.names) (is ∙ ap (λ (m : ℕ). get_or ps m read) same)) in
+    sym (ap (λ b. if b then in_block (names_shown ps path) name else None) visible ∙ ap (λ (ns : List (List ℕ × DeclRef)). in_block ns name) names)
 
-names_at : (ps : List (List ℕ × ExportsModel)) (path : List ℕ) → AreKeyed ps → names_shown (shown_of ps) path ≡ names_or (in_block ps path)
-names_at [] path keyed = refl
-names_at (p ∷ ps) path keyed =
-    ap (λ (k : List ℕ). if bytes_eq path k then p.1.names else names_shown (shown_of ps) path) (sym keyed.0)
-    ∙ by (bytes_eq path p.0) (names_at ps path keyed.1)
+nothing_shown : (ps : List ExportsModel) (path : List ℕ) (k : ℕ) → position_from (bytes_eq path) k (paths_of ps) ≡ None → names_shown ps path ≡ []
+nothing_shown [] path k h = refl
+nothing_shown (p ∷ ps) path k h = by (bytes_eq path p.path) refl h (nothing_shown ps path (k + 1))
   where
-    by : (b : Bool) → names_shown (shown_of ps) path ≡ names_or (in_block ps path) → (if b then p.1.names else names_shown (shown_of ps) path) ≡ names_or (cond b (Some p.1) (in_block ps path))
-    by true h = refl
-    by false h = h
+    by : (b : Bool) → bytes_eq path p.path ≡ b → cond b (Some k) (position_from (bytes_eq path) (k + 1) (paths_of ps)) ≡ None → (position_from (bytes_eq path) (k + 1) (paths_of ps) ≡ None → names_shown ps path ≡ [])
+        → names_shown (p ∷ ps) path ≡ []
+    by true t none rest = cc
+    by false t none rest = ap (λ b. if b then p.names else names_shown ps path) t ∙ rest none
 
-pub shown_there : {Y S : Type 0} (table : IndexMap (String Y) ExportsModel S) (path name : List ℕ) (e : ExportsModel) → AreKeyed (block_of table) → get_by (λ k. bytes_eq path (string_bytes k)) table ≡ Some e → exported (chars name) ≡ true
-    → in_block e.names name ≡ shown_in (shown_of (block_of table)) path name
-shown_there table path name e keyed at visible =
-    let names : names_shown (shown_of (block_of table)) path ≡ e.names = names_at (block_of table) path keyed ∙ ap names_or (sym (in_table path table) ∙ at) in
-    sym (ap (λ b. if b then in_block (names_shown (shown_of (block_of table)) path) name else None) visible ∙ ap (λ (ns : List (List ℕ × DeclRef)). in_block ns name) names)
-
-pub shown_nowhere : {Y S : Type 0} (table : IndexMap (String Y) ExportsModel S) (path name : List ℕ) → AreKeyed (block_of table) → get_by (λ k. bytes_eq path (string_bytes k)) table ≡ None → None ≡ shown_in (shown_of (block_of table)) path name
-shown_nowhere table path name keyed at =
-    let names : names_shown (shown_of (block_of table)) path ≡ [] = names_at (block_of table) path keyed ∙ ap names_or (sym (in_table path table) ∙ at) in
-    sym (ap (λ (ns : List (List ℕ × DeclRef)). if exported (chars name) then in_block ns name else None) names ∙ neither (exported (chars name)))
+pub shown_nowhere : (ps : List ExportsModel) (path name : List ℕ) → number_of ps path ≡ None → None ≡ shown_in ps path name
+shown_nowhere ps path name at = sym (ap (λ (ns : List (List ℕ × DeclRef)). if exported (chars name) then in_block ns name else None) (nothing_shown ps path 0 at) ∙ neither (exported (chars name)))
   where
     neither : (b : Bool) → ◌≡◌ {A = Option DeclRef} (if b then None else None) None
     neither true = refl

@@ -8,7 +8,6 @@ pub mod Scoped
 pub mod Showing
 pub mod mirrors
 pub mod block_core
-pub mod block_core_lemmas
 pub mod decl_core
 pub mod graph_core
 pub mod parse_core

@@ -74,7 +74,7 @@ pub mod local_core {
 /// What the crates above name of `go_names_core`.
 pub mod names_core {
     pub use go_top_core::names_core::{
-        Checker, Meant, OpenNames, Outside, check_function, header_idents, listed_idents,
+        Checker, Meant, OpenNames, check_function, header_idents, listed_idents,
     };
 }
 

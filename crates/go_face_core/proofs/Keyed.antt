@@ -1,64 +1,96 @@
 -- Tables of what packages show.
-use Rattle.std.proofs.Common.{◌≡◌, ℕ, Bool, true, false, List, [], ◌∷◌, map, Option, Some, cond, refl, sym, ap, ◌∙◌, subst}
+use Rattle.std.proofs.Common.{◌≡◌, ℕ, suc, ◌+◌, ◌<◌, Bool, true, false, List, [], ◌∷◌, ◌++◌, length, get_or, set, Option, Some, None, cond, refl, sym, ap, ◌∙◌, arith}
 use Rattle.std.specs.Prelude.{string_bytes, if◌then◌else◌}
 use Rattle.std.specs.Str.{bytes_eq}
 use Rattle.std.specs.String.{string_eq}
+use Rattle.std.specs.HashMap.{HashMap, Updates}
+use Rattle.std.specs.List.{position_from}
+use Rattle.std.specs.Map.{keys_of}
 use Rattle.std.specs.declared.string.String.{String}
-use Rattle.indexmap.specs.IndexMap.{IndexMap, get_by, insert_entry}
-use Rattle.go_entry_core.specs.block_core.Tables.{in_block, block_of}
-use Rattle.go_entry_core.specs.block_core_lemmas.TableLemmas.{in_table}
-use Rattle.go_entry_core.proofs.Shown.{same_text}
-use Rattle.go_face_core.specs.Packages.{PackageFacesModel, package_in, with_faces}
-use Rattle.go_face_core.specs.mirrors.Tables.{AreKeyed, packages_of}
+use Rattle.std.proofs.lemmas.List.{length-map, map-append, map-set, set-get_or, get_or-map}
+use Rattle.go_face_core.specs.Packages.{PackageFacesModel, package_faces, package_in, with_faces}
+use Rattle.go_face_core.specs.mirrors.Tables.{ArePlaced, keyed, place_of}
+use Rattle.go_face_core.proofs.Placing.{found, missing, place_within, placed_last}
+use Rattle.go_entry_core.specs.block_core.Tables.{in_block}
 
-abbrev as_block : {Y : Type 0} → List (String Y × PackageFacesModel) → List (List ℕ × PackageFacesModel)
-as_block es = map (λ e. (string_bytes e.0, e.1)) es
-
-abbrev Inserted : {Y : Type 0} → List (String Y × PackageFacesModel) → String Y → PackageFacesModel → Type 0
-Inserted es key e = (packages_of (as_block (insert_entry string_eq es key e)) ≡ with_faces (packages_of (as_block es)) e) × AreKeyed (as_block (insert_entry string_eq es key e))
-
-module _ {Y : Type 0} (x : String Y × PackageFacesModel) (es : List (String Y × PackageFacesModel)) (key : String Y) (e : PackageFacesModel) (is : string_bytes key ≡ e.path) (own : string_bytes x.0 ≡ x.1.path) (keyed : AreKeyed (as_block es)) where
-  here : bytes_eq (string_bytes key) (string_bytes x.0) ≡ true → Inserted (x ∷ es) key e
-  here t =
-      let made : insert_entry string_eq (x ∷ es) key e ≡ (x.0, e) ∷ es = ap (λ b. if b then (x.0, e) ∷ es else x ∷ insert_entry string_eq es key e) t in
-      let test : bytes_eq e.path x.1.path ≡ true = ap (λ (p : List ℕ). bytes_eq p x.1.path) (sym is) ∙ (ap (bytes_eq (string_bytes key)) (sym own) ∙ t) in
-      let shown : with_faces (packages_of (as_block (x ∷ es))) e ≡ e ∷ packages_of (as_block es) = ap (λ b. if b then e ∷ packages_of (as_block es) else x.1 ∷ with_faces (packages_of (as_block es)) e) test in
-      let path : string_bytes x.0 ≡ e.path = sym (same_text (string_bytes key) (string_bytes x.0) t) ∙ is in (
-        ap (λ (l : List (String Y × PackageFacesModel)). packages_of (as_block l)) made ∙ sym shown,
-        subst (λ (l : List (String Y × PackageFacesModel)). AreKeyed (as_block l)) (sym made) (path, keyed),
-      )
-
-  behind : bytes_eq (string_bytes key) (string_bytes x.0) ≡ false → Inserted es key e → Inserted (x ∷ es) key e
-  behind t rest =
-      let made : insert_entry string_eq (x ∷ es) key e ≡ x ∷ insert_entry string_eq es key e = ap (λ b. if b then (x.0, e) ∷ es else x ∷ insert_entry string_eq es key e) t in
-      let test : bytes_eq e.path x.1.path ≡ false = ap (λ (p : List ℕ). bytes_eq p x.1.path) (sym is) ∙ (ap (bytes_eq (string_bytes key)) (sym own) ∙ t) in
-      let shown : with_faces (packages_of (as_block (x ∷ es))) e ≡ x.1 ∷ with_faces (packages_of (as_block es)) e = ap (λ b. if b then e ∷ packages_of (as_block es) else x.1 ∷ with_faces (packages_of (as_block es)) e) test in (
-        ap (λ (l : List (String Y × PackageFacesModel)). packages_of (as_block l)) made ∙ (ap (λ (l : List PackageFacesModel). x.1 ∷ l) rest.0 ∙ sym shown),
-        subst (λ (l : List (String Y × PackageFacesModel)). AreKeyed (as_block l)) (sym made) (own, rest.1),
-      )
-
-inserted : {Y : Type 0} (es : List (String Y × PackageFacesModel)) (key : String Y) (e : PackageFacesModel) → string_bytes key ≡ e.path → AreKeyed (as_block es) → Inserted es key e
-inserted [] key e is keyed = (refl, (is, tt))
-inserted {Y} (x ∷ es) key e is keyed = by (bytes_eq (string_bytes key) (string_bytes x.0)) refl (inserted es key e is keyed.1)
-  where
-    by : (b : Bool) → bytes_eq (string_bytes key) (string_bytes x.0) ≡ b → Inserted es key e → Inserted (x ∷ es) key e
-    by true t rest = here x es key e is keyed.0 keyed.1 t
-    by false t rest = behind x es key e is keyed.0 keyed.1 t rest
-
-pub table_more : {Y S : Type 0} (old new : IndexMap (String Y) PackageFacesModel S) (key : String Y) (e : PackageFacesModel) → string_bytes key ≡ e.path → AreKeyed (block_of old) → new.entries ≡ insert_entry string_eq old.entries key e
-    → (packages_of (block_of new) ≡ with_faces (packages_of (block_of old)) e) × AreKeyed (block_of new)
-table_more old new key e is keyed made =
-    let r = inserted old.entries key e is keyed in (
-      ap (λ l. packages_of (as_block l)) made ∙ r.0,
-      subst (λ l. AreKeyed (as_block l)) (sym made) r.1,
-    )
+abbrev entry : PackageFacesModel → List ℕ × PackageFacesModel
+entry p = (p.path, p)
 
 -- what a table has of a path
-package_at : (ps : List (List ℕ × PackageFacesModel)) (path : List ℕ) → AreKeyed ps → in_block ps path ≡ package_in (packages_of ps) path
-package_at [] path keyed = refl
-package_at (p ∷ ps) path keyed =
-    ap (λ (o : Option PackageFacesModel). cond (bytes_eq path p.0) (Some p.1) o) (package_at ps path keyed.1)
-    ∙ ap (λ (k : List ℕ). cond (bytes_eq path k) (Some p.1) (package_in (packages_of ps) path)) keyed.0
 
-pub table_at : {Y S : Type 0} (table : IndexMap (String Y) PackageFacesModel S) (path : List ℕ) → AreKeyed (block_of table) → get_by (λ k. bytes_eq path (string_bytes k)) table ≡ package_in (packages_of (block_of table)) path
-table_at table path keyed = in_table path table ∙ package_at (block_of table) path keyed
+in_keyed : (ps : List PackageFacesModel) (path : List ℕ) → in_block (keyed ps) path ≡ package_in ps path
+in_keyed [] path = refl
+in_keyed (p ∷ ps) path = ap (λ (o : Option PackageFacesModel). cond (bytes_eq path p.path) (Some p) o) (in_keyed ps path)
+
+pub package_within : (ps : List PackageFacesModel) (path : List ℕ) (n : ℕ) → place_of (keyed ps) path ≡ Some n → n < length ps
+package_within ps path n h =
+    let l = place_within (keyed ps) path n ([], package_faces [] [] []) h in
+    let size = length-map ps entry in
+    omega (arith, l, size)
+
+pub package_there : (ps : List PackageFacesModel) (path : List ℕ) (n : ℕ) (read : PackageFacesModel) → place_of (keyed ps) path ≡ Some n → read ≡ get_or ps n read → Some read ≡ package_in ps path
+package_there ps path n read h is =
+    let f = found (keyed ps) path 0 n (read.path, read) h in
+    let same : n ≡ f.place = omega (arith, f.is) in
+    let l = package_within ps path n h in
+    let size = length-map ps entry in
+    let at = get_or-map entry ps f.place read (read.path, read) (omega (arith, f.within, size)) in
+    ap Some (is ∙ ap (λ (m : ℕ). get_or ps m read) same) ∙ (sym (f.has ∙ ap (λ (e : List ℕ × PackageFacesModel). Some e.1) at) ∙ in_keyed ps path)
+
+pub package_missing : (ps : List PackageFacesModel) (path : List ℕ) → place_of (keyed ps) path ≡ None → None ≡ package_in ps path
+package_missing ps path h = sym (missing (keyed ps) path 0 h) ∙ in_keyed ps path
+
+-- another package takes its place
+
+put : (ps : List PackageFacesModel) (q : PackageFacesModel) (k n : ℕ) → position_from (bytes_eq q.path) k (keys_of (keyed ps)) ≡ Some n → (place : ℕ) × (n ≡ k + place) × (set ps place q ≡ with_faces ps q)
+put [] q k n h = cc
+put (p ∷ ps) q k n h = by (bytes_eq q.path p.path) refl h (put ps q (k + 1) n)
+  where
+    by : (b : Bool) → bytes_eq q.path p.path ≡ b → cond b (Some k) (position_from (bytes_eq q.path) (k + 1) (keys_of (keyed ps))) ≡ Some n
+        → (position_from (bytes_eq q.path) (k + 1) (keys_of (keyed ps)) ≡ Some n → (place : ℕ) × (n ≡ k + 1 + place) × (set ps place q ≡ with_faces ps q))
+        → (place : ℕ) × (n ≡ k + place) × (set (p ∷ ps) place q ≡ with_faces (p ∷ ps) q)
+    by true t e rest = (
+      0,
+      (let same : k ≡ n = (let s : Some k ≡ Some n = e in cc) in omega (arith, same)),
+      sym (ap (λ b. if b then q ∷ ps else p ∷ with_faces ps q) t),
+    )
+    by false t e rest = (let behind = rest e in (
+      suc behind.0,
+      omega (arith, behind.1),
+      ap (λ (l : List PackageFacesModel). p ∷ l) behind.2 ∙ sym (ap (λ b. if b then q ∷ ps else p ∷ with_faces ps q) t),
+    ))
+
+pub placed_again : {Y S : Type 0} (places : HashMap (String Y) ℕ S) (ps : List PackageFacesModel) (n : ℕ) (q : PackageFacesModel) → ArePlaced places (keyed ps) → place_of (keyed ps) q.path ≡ Some n
+    → (set ps n q ≡ with_faces ps q) × ArePlaced places (keyed (set ps n q))
+placed_again places ps n q before h =
+    let p = put ps q 0 n h in
+    let f = found (keyed ps) q.path 0 n (q.path, q) h in
+    let same : n ≡ p.0 = omega (arith, p.1) in
+    let same_place : f.place ≡ n = omega (arith, f.is) in
+    let keys : keys_of (keyed (set ps n q)) ≡ keys_of (keyed ps) =
+    ap keys_of (map-set entry ps n q)
+    ∙ (map-set (λ (e : List ℕ × PackageFacesModel). e.0) (keyed ps) n (q.path, q)
+    ∙ (ap (set (keys_of (keyed ps)) n) (sym (ap (λ (m : ℕ). get_or (keys_of (keyed ps)) m []) (sym same_place) ∙ f.key [])) ∙ set-get_or (keys_of (keyed ps)) n [])) in (
+      ap (λ (m : ℕ). set ps m q) same ∙ p.2,
+      (λ path. before path ∙ ap (position_from (bytes_eq path) 0) (sym keys)),
+    )
+
+-- a package whose path has none goes last
+
+last : (ps : List PackageFacesModel) (q : PackageFacesModel) (k : ℕ) → position_from (bytes_eq q.path) k (keys_of (keyed ps)) ≡ None → ps ++ q ∷ [] ≡ with_faces ps q
+last [] q k h = refl
+last (p ∷ ps) q k h = by (bytes_eq q.path p.path) refl h (last ps q (k + 1))
+  where
+    by : (b : Bool) → bytes_eq q.path p.path ≡ b → cond b (Some k) (position_from (bytes_eq q.path) (k + 1) (keys_of (keyed ps))) ≡ None
+        → (position_from (bytes_eq q.path) (k + 1) (keys_of (keyed ps)) ≡ None → ps ++ q ∷ [] ≡ with_faces ps q) → p ∷ (ps ++ q ∷ []) ≡ with_faces (p ∷ ps) q
+    by true t none rest = cc
+    by false t none rest = ap (λ (l : List PackageFacesModel). p ∷ l) (rest none) ∙ sym (ap (λ b. if b then q ∷ ps else p ∷ with_faces ps q) t)
+
+pub placed_more : {Y S : Type 0} (old new : HashMap (String Y) ℕ S) (ps : List PackageFacesModel) (key : String Y) (n : ℕ) (q : PackageFacesModel) → ArePlaced old (keyed ps) → string_bytes key ≡ q.path → n ≡ length ps → place_of (keyed ps) q.path ≡ None
+    → Updates string_eq old new key (Some n) → (ps ++ q ∷ [] ≡ with_faces ps q) × ArePlaced new (keyed (ps ++ q ∷ []))
+placed_more old new ps key n q before is count none adds =
+    let size = length-map ps entry in
+    let more = placed_last old new (keyed ps) key n (q.path, q) before is (omega (arith, count, size)) none adds in (
+      last ps q 0 none,
+      (λ path. more path ∙ ap (λ (es : List (List ℕ × PackageFacesModel)). place_of es path) (sym (map-append entry ps (q ∷ [])))),
+    )

@@ -5,6 +5,7 @@ pub mod Listing
 pub mod Locality
 pub mod Placed
 pub mod Places
+pub mod Placing
 pub mod SameNames
 pub mod Searching
 pub mod Seeing

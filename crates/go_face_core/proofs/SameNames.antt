@@ -1,5 +1,5 @@
 -- Lists that are compared by what they have at each place.
-use Rattle.std.proofs.Common.{◌≡◌, ◌<◌, ◌+◌, ℕ, suc, map, List, [], ◌∷◌, length, take, slice_get, Some, None, refl, ap, sym, ◌∙◌, arith}
+use Rattle.std.proofs.Common.{◌≡◌, ◌<◌, ◌+◌, ℕ, List, [], ◌∷◌, length, take, slice_get, Some, None, ap, sym, ◌∙◌, arith}
 use Rattle.std.proofs.lemmas.List.{take_more_same}
 use Rattle.std.proofs.lemmas.Option.{slice_get-get_or}
 
@@ -9,8 +9,3 @@ module _ {A : Type 0} where
   one_more [] ys n l m e t = absurd (omega (arith, l))
   one_more (x ∷ xs) ys n l m e t =
       take_more_same (x ∷ xs) ys n x l m t (ap (λ o. elim o [ None ↦ x | Some a ↦ a ]) (sym (slice_get-get_or (x ∷ xs) n x l) ∙ (e ∙ slice_get-get_or ys n x m)))
-
--- as many names as a table has
-pub as_many : {A B : Type 0} (f : A → B) (xs : List A) → length (map f xs) ≡ length xs
-as_many f [] = refl
-as_many f (x ∷ xs) = ap suc (as_many f xs)

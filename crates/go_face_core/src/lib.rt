@@ -10,6 +10,7 @@ mod holding;
 mod laws;
 mod lending;
 mod making;
+mod seen;
 mod settling;
 mod shown;
 mod table;
@@ -81,7 +82,7 @@ pub mod operand_core {
 
 /// What the crates above name of `go_parse_core`.
 pub mod parse_core {
-    pub use go_entry_core::parse_core::{ParseError, Parsed, one_rule, one_tree, parse, tree_of};
+    pub use go_entry_core::parse_core::{one_rule, one_tree};
 }
 
 /// What the crates above name of `go_scope_core`.

@@ -1,22 +1,19 @@
 //! What a package shows to those that import it, with faces.
-ghost use Rattle.std.specs.Prelude.{◌≡◌, ◌↔◌, IfOk, IsTrue, OnOk, map, slice_get};
+ghost use Rattle.std.specs.Prelude.{◌≡◌, ◌↔◌, IfOk, IsTrue, map};
 ghost use Rattle.std.specs.Option.{option_map};
-ghost use Rattle.go_entry_core.specs.block_core.Exports.{name_and_decl};
-ghost use Rattle.go_entry_core.specs.block_core.Tables.{has, in_block, block_of, with_first};
 ghost use Rattle.go_face_core.specs.Faces.{face_shown};
 ghost use Rattle.go_face_core.specs.Held.{declared_shown};
-ghost use Rattle.go_face_core.specs.Packages.{as_seen, decls_declared, face_among, face_by, names_seen, package_faces, seen_after, shown_by};
+ghost use Rattle.go_face_core.specs.Packages.{decls_declared, face_among, face_by, names_seen, package_faces, shown_by};
 ghost use Rattle.go_face_core.specs.Written.{DeclsRise};
 
 use crate::face::Face;
 use crate::lending::lend;
-use go_entry_core::block_core::{Blocks, DeclRef, NamedDecl};
+use crate::seen::SeenNames;
+use go_entry_core::block_core::{Blocks, DeclRef};
 use go_entry_core::decl_core::place_order;
 use go_handle_core::{SignatureRef, TypeRef};
 use go_path_core::ImportPath;
 use go_term_core::{Signature, TypeTerm};
-use go_text_core::is_exported;
-use indexmap::IndexMap;
 use std::alloc::{AllocError, Global};
 use std::marker::Model;
 use std::sync::Arc;
@@ -51,7 +48,7 @@ impl Drop for DeclaredFace {
 struct FacesContent {
     path: ImportPath,
     /// The names of the package block, each with its declaration where it is exported.
-    names: IndexMap<String, Option<DeclRef>>,
+    names: SeenNames,
     /// The faces, in order of file and number.
     faces: Vec<DeclaredFace>,
 }
@@ -71,7 +68,6 @@ impl Drop for PackageFaces {
 impl Model for PackageFaces {
     ghost use Rattle.std.specs.Prelude.{map};
     ghost use Rattle.std.specs.Arc.{arc_value};
-    ghost use Rattle.go_entry_core.specs.block_core.Tables.{block_of};
     ghost use Rattle.go_face_core.specs.Held.{declared_shown};
     ghost use Rattle.go_face_core.specs.Packages.{PackageFacesModel, decls_declared, package_faces};
     ghost use Rattle.go_face_core.specs.Written.{DeclsRise};
@@ -81,7 +77,7 @@ impl Model for PackageFaces {
 
     ghost coded = { coded_package_faces };
 
-    ghost view = { λ p. package_faces (arc_value p.content).path (block_of (arc_value p.content).names) (map declared_shown (arc_value p.content).faces.items) };
+    ghost view = { λ p. package_faces (arc_value p.content).path (arc_value p.content).names (map declared_shown (arc_value p.content).faces.items) };
 
     ghost invariant = { λ p. DeclsRise (decls_declared (map declared_shown (arc_value p.content).faces.items)) };
 }
@@ -95,97 +91,6 @@ fn face_among<'a>(faces: &'a [DeclaredFace], decl: DeclRef) -> Option<&'a Face<T
         Ok(place) => Some(&faces[place].face),
         Err(_) => None,
     }
-}
-
-// A name as other packages see it: with its declaration where it is exported.
-fn as_seen(name: &str, decl: DeclRef) -> Option<DeclRef>
-    ensures { result ≡ as_seen name.now decl }
-{
-    if is_exported(name) { Some(decl) } else { None }
-}
-
-// What a table of names has at a name.
-fn name_in_table(names: &IndexMap<String, Option<DeclRef>>, name: &str) -> Option<Option<DeclRef>>
-    ensures { result ≡ in_block (block_of names.now) name.now }
-{
-    names.get(name).copied()
-}
-
-// Adds a name as other packages see it, unless the table has it.
-fn add_name(
-    alloc: Global,
-    names: &mut IndexMap<String, Option<DeclRef>>,
-    name: &str,
-    decl: DeclRef,
-) -> Result<(), AllocError>
-    ensures { OnOk result (block_of names.new ≡ with_first (block_of names.old) name.now (as_seen name.now decl)) }
-{
-    if name_in_table(names, name).is_some() {
-        return Ok(());
-    }
-    let key = String::from_str(alloc, name)?;
-    names.insert(key, as_seen(name, decl))?;
-    Ok(())
-}
-
-// The names of a package block as other packages see them.
-fn names_seen(
-    alloc: Global,
-    block: &[NamedDecl],
-) -> Result<IndexMap<String, Option<DeclRef>>, AllocError>
-    ensures { IfOk result (λ names. block_of names ≡ names_seen (map name_and_decl block.now)) }
-{
-    let mut names = IndexMap::new(alloc);
-    for named in block {
-        add_name(alloc, &mut names, named.name.as_str(), named.decl)?;
-    }
-    Ok(names)
-}
-
-// The name at a place of a table with what the table has there, and none past the end.
-fn name_in(
-    names: &IndexMap<String, Option<DeclRef>>,
-    place: usize,
-) -> Option<(&str, Option<DeclRef>)>
-    ensures { option_map (λ e. (e.0.now, e.1)) result ≡ slice_get (block_of names.now) place }
-{
-    match names.get_index(place) {
-        Some((name, decl)) => Some((name.as_str(), *decl)),
-        None => None,
-    }
-}
-
-// Whether two tables have the same at a place.
-fn is_same_at(
-    names: &IndexMap<String, Option<DeclRef>>,
-    others: &IndexMap<String, Option<DeclRef>>,
-    place: usize,
-) -> bool
-    ensures { IsTrue result ↔ (slice_get (block_of names.now) place ≡ slice_get (block_of others.now) place) }
-{
-    match (name_in(names, place), name_in(others, place)) {
-        (Some((name, decl)), Some((other, declared))) => name == other && decl == declared,
-        (None, None) => true,
-        (Some(_), None) | (None, Some(_)) => false,
-    }
-}
-
-// Whether two tables have the same names in the same order.
-fn are_same_names(
-    names: &IndexMap<String, Option<DeclRef>>,
-    others: &IndexMap<String, Option<DeclRef>>,
-) -> bool
-    ensures { IsTrue result ↔ (block_of names.now ≡ block_of others.now) }
-{
-    if names.len() != others.len() {
-        return false;
-    }
-    for place in 0..names.len() {
-        if !is_same_at(names, others, place) {
-            return false;
-        }
-    }
-    true
 }
 
 impl PackageFaces {
@@ -204,8 +109,7 @@ impl PackageFaces {
         requires { DeclsRise (decls_declared (map declared_shown faces.items)) }
         ensures { IfOk result (λ p. p ≡ package_faces path (names_seen blocks.now.names) (map declared_shown faces.items)) }
     {
-        let block = blocks.names(alloc)?;
-        let names = names_seen(alloc, &block)?;
+        let names = SeenNames::of(alloc, blocks.names(alloc)?)?;
         let content = FacesContent { path, names, faces };
         Ok(PackageFaces {
             content: Arc::new(alloc, content)?,
@@ -244,7 +148,7 @@ impl PackageFaces {
     pub fn has_same_names(&self, other: &PackageFaces) -> bool
         ensures { IsTrue result ↔ (self.now.names ≡ other.now.names) }
     {
-        are_same_names(&self.content.names, &other.content.names)
+        self.content.names.is_same(&other.content.names)
     }
 
     /// What a declaration of the package is, by its file and its number: none where nothing is known of it. The time that it takes is
@@ -273,7 +177,7 @@ impl PackageFaces {
     pub fn shown(&self, name: &str) -> Result<ShownFace<'_>, AllocError>
         ensures { IfOk result (λ s. s ≡ shown_by self.now name.now) }
     {
-        match name_in_table(&self.content.names, name) {
+        match self.content.names.find(name) {
             Some(Some(decl)) => Ok(ShownFace::Shown(decl, self.face(decl)?)),
             Some(None) => Ok(ShownFace::Hidden),
             None => Ok(ShownFace::Absent),

@@ -1,40 +1,45 @@
 //! What packages show, by their paths.
 ghost use Rattle.std.specs.Prelude.{◌≡◌, [], OnOk, OnErr, option_copied};
 ghost use Rattle.go_face_core.specs.Packages.{package_in, with_faces};
+ghost use Rattle.go_face_core.specs.mirrors.Tables.{keyed, place_of};
 
 use crate::shown::PackageFaces;
 use go_path_core::ImportPath;
-use indexmap::IndexMap;
 use std::alloc::{AllocError, Global};
+use std::collections::HashMap;
 use std::marker::Model;
 
 /// What packages show to those that import them, by their paths. It holds one handle for each package, and copies no name and no face.
 /// Contracts see what the packages show, in the order in which their paths were added first.
 pub struct FaceTable {
-    packages: IndexMap<String, PackageFaces>,
+    packages: Vec<PackageFaces>,
+    /// The place of the package of each path.
+    places: HashMap<String, usize>,
 }
 
 impl Drop for FaceTable {
     fn drop(self) {
-        let FaceTable { packages: _ } = self;
+        let FaceTable {
+            packages: _,
+            places: _,
+        } = self;
     }
 }
 
 impl Model for FaceTable {
     ghost use Rattle.std.specs.Prelude.{List};
     ghost use Rattle.std.specs.Coded.{coded_list};
-    ghost use Rattle.go_entry_core.specs.block_core.Tables.{block_of};
     ghost use Rattle.go_face_core.specs.Packages.{PackageFacesModel};
     ghost use Rattle.go_face_core.specs.codes.FaceCodes.{coded_package_faces};
-    ghost use Rattle.go_face_core.specs.mirrors.Tables.{AreKeyed, packages_of};
+    ghost use Rattle.go_face_core.specs.mirrors.Tables.{ArePlaced, keyed};
 
     ghost Value = { List PackageFacesModel };
 
     ghost coded = { coded_list coded_package_faces };
 
-    ghost view = { λ t. packages_of (block_of t.packages) };
+    ghost view = { λ t. t.packages.items };
 
-    ghost invariant = { λ t. AreKeyed (block_of t.packages) };
+    ghost invariant = { λ t. ArePlaced t.places (keyed t.packages.items) };
 }
 
 impl FaceTable {
@@ -43,8 +48,16 @@ impl FaceTable {
         ensures { result ≡ [] }
     {
         FaceTable {
-            packages: IndexMap::new(alloc),
+            packages: Vec::new(alloc),
+            places: HashMap::new(alloc),
         }
+    }
+
+    // The place of the package of a path.
+    fn place(&self, path: &ImportPath) -> Option<usize>
+        ensures { result ≡ place_of (keyed self.now) path.now }
+    {
+        self.places.get(path.as_str()).copied()
     }
 
     /// Adds what a package shows, behind the other packages or in place of what was there under the package's path.
@@ -56,18 +69,25 @@ impl FaceTable {
         ensures ok { OnOk result (self.new ≡ with_faces self.old faces) }
         ensures err { OnErr result (self.new ≡ self.old) }
     {
+        if let Some(place) = self.place(faces.path()) {
+            self.packages[place] = faces;
+            return Ok(());
+        }
         let alloc = *self.packages.allocator();
         let path = String::from_str(alloc, faces.path().as_str())?;
-        match self.packages.insert(path, faces) {
-            Ok(_) => Ok(()),
-            Err(_) => Err(AllocError),
-        }
+        self.packages.reserve(1)?;
+        self.places.insert(path, self.packages.len())?;
+        self.packages.push(faces)?;
+        Ok(())
     }
 
     /// What the package of a path shows, or none where the table has no such package.
     pub fn locate(&self, path: &ImportPath) -> Option<&PackageFaces>
         ensures { option_copied result ≡ package_in self.now path.now }
     {
-        self.packages.get(path.as_str())
+        match self.place(path) {
+            Some(place) => Some(&self.packages[place]),
+            None => None,
+        }
     }
 }

@@ -36,7 +36,7 @@ use Rattle.go_called_core.specs.snap_core.Apart.{parts_apart}
 use Rattle.go_faultless_core.specs.Parts.{PartsAreSeenAlike}
 
 -- one more behind others that are apart from it
-apart_more : {A : Type 0} (R : A → A → Type 0) (xs : List A) (x : A) → AllPairs R xs → ((y : A) → Among xs y → R y x) → AllPairs R (xs ++ x ∷ [])
+pub apart_more : {A : Type 0} (R : A → A → Type 0) (xs : List A) (x : A) → AllPairs R xs → ((y : A) → Among xs y → R y x) → AllPairs R (xs ++ x ∷ [])
 apart_more R [] x pairs h = AllPairs-cons R x [] (all_from_among (R x) [] (λ y a. absurd a)) pairs
 apart_more {A = A} R (y ∷ xs) x pairs h =
     AllPairs-cons R y (xs ++ x ∷ []) (all_from_among (R y) (xs ++ x ∷ []) (λ z a. by z (among_cases xs (x ∷ []) z a)))

@@ -96,14 +96,14 @@ module _ (mean : Meaning) (f : InFile) (d : TopDeclTree) where
 
 module _ (means : Meanings) (path : List ℕ) (os : List FileOutline) (outlines : (o : FileOutline) → Among os o → IsOutline o) where
   -- where a method is written
-  record IsWritten (r : Received) : Type 0 where
-    file : ℕ × FileOutline
-    in_files : Among (enumerate_from 0 os) file
-    decl : TopDeclTree
-    in_file : Among file.1.decls decl
-    here : Among (decl_methods (means file.0) (file_at path file.0 file.1) decl decl.form) r
+  pub record IsWritten (r : Received) : Type 0 where
+    pub file : ℕ × FileOutline
+    pub in_files : Among (enumerate_from 0 os) file
+    pub decl : TopDeclTree
+    pub in_file : Among file.1.decls decl
+    pub here : Among (decl_methods (means file.0) (file_at path file.0 file.1) decl decl.form) r
 
-  written : (r : Received) → Among (package_methods means path os) r → IsWritten r
+  pub written : (r : Received) → Among (package_methods means path os) r → IsWritten r
   written r a =
       let q = among_flat (λ (q : ℕ × FileOutline). file_methods (means q.0) (file_at path q.0 q.1) q.1.decls) (enumerate_from 0 os) r a in
       let d = among_flat (λ (d : TopDeclTree). decl_methods (means q.0.0) (file_at path q.0.0 q.0.1) d d.form) q.0.1.decls r q.2 in
@@ -128,19 +128,25 @@ module _ (means : Meanings) (path : List ℕ) (os : List FileOutline) (outlines 
   -- the methods of the types as they are written
 
   module _ (rs : List Received) where
-    received_in : (key : DeclKey) (m : Member) → Among (methods_received key rs) m → (r : Received) × Among rs r × (r.member ≡ m)
+    -- a method is received by a type
+    abbrev IsReceived : DeclKey → Member → Type 0
+    IsReceived key m = (r : Received) × Among rs r × (r.member ≡ m) × (is_type_of key r.base ≡ true)
+
+    received_in : (key : DeclKey) (m : Member) → Among (methods_received key rs) m → IsReceived key m
     received_in key m a =
         let r = among_map (λ (r : Received). r.member) (filter (λ (r : Received). is_type_of key r.base) rs) m a in
         let s = among_filter (λ (r : Received). is_type_of key r.base) rs r.0 r.1 in
-        (r.0, s.0, r.2)
+        (r.0, s.0, r.2, s.1)
 
-    form_in : (mean : Meaning) (f : InFile) (d : TopDeclTree) (form : FormTree) (e : Entry) → Among (entry_of mean f rs d form) e → (m : Member) → Among e.methods m → (r : Received) × Among rs r × (r.member ≡ m)
+    form_in : (mean : Meaning) (f : InFile) (d : TopDeclTree) (form : FormTree) (e : Entry) → Among (entry_of mean f rs d form) e → (m : Member) → Among e.methods m → IsReceived e.key m
     form_in mean f d (ValueForm k v i) e a m b = absurd a
-    form_in mean f d (TypeForm t) e (inl same) m b = received_in (type_key f d.number) m (subst (λ (x : Entry). Among x.methods m) (sym same) b)
+    form_in mean f d (TypeForm t) e (inl same) m b =
+        let r = received_in (type_key f d.number) m (subst (λ (x : Entry). Among x.methods m) (sym same) b) in
+        subst (λ (x : Entry). IsReceived x.key m) same r
     form_in mean f d (TypeForm t) e (inr a) m b = absurd a
     form_in mean f d (FuncForm g) e a m b = absurd a
 
-    entry_in : (e : Entry) → Among (entries_with means path rs os) e → (m : Member) → Among e.methods m → (r : Received) × Among rs r × (r.member ≡ m)
+    entry_in : (e : Entry) → Among (entries_with means path rs os) e → (m : Member) → Among e.methods m → IsReceived e.key m
     entry_in e a m b =
         let q = among_flat (λ (q : ℕ × FileOutline). file_entries (means q.0) (file_at path q.0 q.1) rs q.1.decls) (enumerate_from 0 os) e a in
         let d = among_flat (λ (d : TopDeclTree). entry_of (means q.0.0) (file_at path q.0.0 q.0.1) rs d d.form) q.0.1.decls e q.2 in
@@ -187,18 +193,19 @@ module _ (means : Meanings) (path : List ℕ) (os : List FileOutline) (outlines 
   abbrev rs : List Received
   rs = package_methods means path os
 
-  -- a method of a table is one that is written, settled
-  record IsFrom (m : Member) : Type 0 where
-    received : Received
-    there : Among rs received
-    is : settled_member built.kind received.member ≡ m
+  -- a method of a table is one that is written, settled, and its type is the base of its receiver
+  pub record IsFrom (e : Entry) (m : Member) : Type 0 where
+    pub received : Received
+    pub there : Among rs received
+    pub is : settled_member built.kind received.member ≡ m
+    pub base : is_type_of e.key received.base ≡ true
 
-  from : (e : Entry) → Among own e → (m : Member) → Among e.methods m → IsFrom m
+  pub from : (e : Entry) → Among own e → (m : Member) → Among e.methods m → IsFrom e m
   from e a m b =
       let w = entry_from (entries_with means path rs os) far built.kind (entries_with means path rs os) own built.entries e a in
       let k = kept_of (entries_with means path rs os) far built.kind w.0 e w.2 m b in
       let r = entry_in means path os outlines rs w.0 w.1 k.0 k.1 in
-      record { received = r.0; there = r.1; is = ap (settled_member built.kind) r.2 ∙ k.2 }
+      record { received = r.0; there = r.1; is = ap (settled_member built.kind) r.2 ∙ k.2; base = subst (λ (key : DeclKey). is_type_of key r.0.base ≡ true) (sym w.2.key) r.3 }
 
   pub signs_same : (e f : Entry) → Among own e → Among own f → (m n : Member) → Among e.methods m → Among f.methods n
       → (a b : DeclRef) → m.place ≡ places.Declared a → n.place ≡ places.Declared b → a.file ≡ b.file → a.number ≡ b.number → m.sign ≡ n.sign

@@ -1,11 +1,12 @@
 -- Of a program that can be run all functions that are reached stand in the run fragment.
-use Rattle.std.proofs.Common.{◌≡◌, ◌⊎◌, inl, inr, ℕ, zero, suc, ◌+◌, ◌<◌, Bool, true, false, List, [], ◌∷◌, ◌++◌, length, map, get_or, Contains, Option, Some, None, refl, sym, ap, ◌∙◌, subst, arith, if◌then◌else◌}
+use Rattle.std.proofs.Common.{◌≡◌, inl, inr, ℕ, zero, suc, ◌+◌, Bool, true, false, List, [], ◌∷◌, ◌++◌, map, Contains, Option, Some, None, refl, sym, ap, ◌∙◌, subst, arith, if◌then◌else◌}
 use Rattle.std.specs.Prelude.{option_map, slice_get}
 use Rattle.std.specs.List.{flat_map}
 use Rattle.std.proofs.lemmas.Option.{slice_get-map}
 use Rattle.go_cycle_core.specs.declared.edge.Edge.{Edge}
 use Rattle.go_cycle_core.specs.Cycle.{Leads, Reaches}
 use Rattle.go_machine_core.specs.Programs.{LinkedOf}
+use Rattle.go_typed_core.specs.entry_core.Among.{Among, among_from, among_left, among_right, among_to}
 use Rattle.go_typed_core.specs.instruction_core.declared.instruction.Instruction.TheVariants as instructions
 use Rattle.go_called_core.specs.fragment_core.Inside.{in_fragment}
 use Rattle.go_called_core.specs.code_core.Code.{body_code, frame_in}
@@ -17,58 +18,26 @@ use Rattle.go_called_core.specs.meant_core.Laws.{ProgramsRunAsMeant, RunsAsMeant
 use Rattle.go_called_core.specs.fit_core.Laws.{IsReached, Begins, IsCalled, FittingMeansSomething}
 use Rattle.go_faultless_core.specs.Runs.{FitsWhereReached, ReachedProgramsRun}
 
--- items of lists
-
-abbrev Has : {A : Type 0} → List A → A → Type 0
-Has [] x = ⊥
-Has (y ∷ ys) x = (y ≡ x) ⊎ Has ys x
-
-has_at : {A : Type 0} (xs : List A) (x : A) (k : ℕ) → k < length xs → get_or xs k x ≡ x → Has xs x
-has_at [] x k lt e = absurd (omega (arith, lt))
-has_at (y ∷ ys) x zero lt e = inl e
-has_at (y ∷ ys) x (suc k) lt e = inr (has_at ys x k (omega (arith, lt)) e)
-
-has : {A : Type 0} (xs : List A) (x : A) → Contains xs x → Has xs x
-has xs x h = has_at xs x h.0 h.1 h.2
-
-contained : {A : Type 0} (xs : List A) (x : A) → Has xs x → Contains xs x
-contained [] x h = absurd h
-contained (y ∷ ys) x (inl e) = (let lt : 0 < suc (length ys) = omega arith in (0, lt, e))
-contained (y ∷ ys) x (inr h) =
-    let rest = contained ys x h in
-    let low = rest.1 in
-    let lt : suc rest.0 < suc (length ys) = omega (arith, low) in
-    (suc rest.0, lt, rest.2)
-
-has_left : {A : Type 0} (xs ys : List A) (x : A) → Has xs x → Has (xs ++ ys) x
-has_left [] ys x h = absurd h
-has_left (a ∷ xs) ys x (inl e) = inl e
-has_left (a ∷ xs) ys x (inr h) = inr (has_left xs ys x h)
-
-has_right : {A : Type 0} (xs ys : List A) (x : A) → Has ys x → Has (xs ++ ys) x
-has_right [] ys x h = h
-has_right (a ∷ xs) ys x h = inr (has_right xs ys x h)
-
 -- edges from functions to those that they refer to
 
-row_has : (n : ℕ) (row : List (Option ℕ)) (to : ℕ) → Has row (Some to) → Has (flat_map (edge_if n) row) (edge n to)
+row_has : (n : ℕ) (row : List (Option ℕ)) (to : ℕ) → Among row (Some to) → Among (flat_map (edge_if n) row) (edge n to)
 row_has n [] to h = absurd h
 row_has n (None ∷ row) to (inl e) = absurd (cc e)
 row_has n (None ∷ row) to (inr h) = row_has n row to h
 row_has n (Some m ∷ row) to (inl e) = let same : m ≡ to = cc e in inl (ap (edge n) same)
 row_has n (Some m ∷ row) to (inr h) = inr (row_has n row to h)
 
-edges_have : (rows : List (List (Option ℕ))) (n k : ℕ) (row : List (Option ℕ)) (to : ℕ) → slice_get rows k ≡ Some row → Has row (Some to) → Has (edges_from n rows) (edge (n + k) to)
+pub edges_have : (rows : List (List (Option ℕ))) (n k : ℕ) (row : List (Option ℕ)) (to : ℕ) → slice_get rows k ≡ Some row → Among row (Some to) → Among (edges_from n rows) (edge (n + k) to)
 edges_have [] n k row to is h = absurd cc
 edges_have (r ∷ rows) n zero row to is h =
     let same : r ≡ row = cc is in
     let sum : n ≡ n + 0 = omega arith in
-    has_left (flat_map (edge_if n) r) (edges_from (n + 1) rows) (edge (n + 0) to) (subst (λ m. Has (flat_map (edge_if n) r) (edge m to)) sum (row_has n r to (subst (λ l. Has l (Some to)) (sym same) h)))
+    among_left (flat_map (edge_if n) r) (edges_from (n + 1) rows) (edge (n + 0) to) (subst (λ m. Among (flat_map (edge_if n) r) (edge m to)) sum (row_has n r to (subst (λ l. Among l (Some to)) (sym same) h)))
 edges_have (r ∷ rows) n (suc k) row to is h =
     let sum : n + 1 + k ≡ n + suc k = omega arith in
-    has_right (flat_map (edge_if n) r) (edges_from (n + 1) rows) (edge (n + suc k) to) (subst (λ m. Has (edges_from (n + 1) rows) (edge m to)) sum (edges_have rows (n + 1) k row to is h))
+    among_right (flat_map (edge_if n) r) (edges_from (n + 1) rows) (edge (n + suc k) to) (subst (λ m. Among (edges_from (n + 1) rows) (edge m to)) sum (edges_have rows (n + 1) k row to is h))
 
-leads_further : (edges es : List Edge) (a b c : ℕ) → Leads edges es a b → Contains edges (edge b c) → Leads edges (es ++ edge b c ∷ []) a c
+pub leads_further : (edges es : List Edge) (a b c : ℕ) → Leads edges es a b → Contains edges (edge b c) → Leads edges (es ++ edge b c ∷ []) a c
 leads_further edges [] a b c h k = (k, sym h, refl)
 leads_further edges (e ∷ es) a b c h k = (h.0, h.1, leads_further edges es e.to b c h.2 k)
 
@@ -82,8 +51,8 @@ module _ (sources : List SourceOf) (starts : List ℕ) where
       slice_get-map (λ (f : LinkedOf). f.callees) (code_of_program sources) number
       ∙ ap (option_map (λ (f : LinkedOf). f.callees)) (slice_get-map linked_source sources number ∙ ap (option_map linked_source) is) in
       let sum : 0 + number ≡ number = omega arith in
-      contained edges (edge number callee)
-      (subst (λ n. Has edges (edge n callee)) sum (edges_have (map (λ (f : LinkedOf). f.callees) (code_of_program sources)) 0 number s.callees callee row (has s.callees (Some callee) c)))
+      among_to edges (edge number callee)
+      (subst (λ n. Among edges (edge n callee)) sum (edges_have (map (λ (f : LinkedOf). f.callees) (code_of_program sources)) 0 number s.callees callee row (among_from s.callees (Some callee) c)))
 
   reached_by : {number : ℕ} → IsReached sources starts number → (start : ℕ) × Contains starts start × Reaches edges start number
   reached_by {number} (Begins c) = (number, c, ([], refl))
@@ -92,7 +61,7 @@ module _ (sources : List SourceOf) (starts : List ℕ) where
       (r.0, r.1, (r.2.0 ++ edge number callee ∷ [], leads_further edges r.2.0 r.0 number callee r.2.1 (called_by number s callee is c)))
 
   -- what is reached and outside the fragment leads outside
-  leads_outside : (number : ℕ) (s : SourceOf) → IsReached sources starts number → slice_get sources number ≡ Some s → in_fragment (frame_in s.looks s.tree) s.tree ≡ false → ReachesOutside (code_of_program sources) starts
+  pub leads_outside : (number : ℕ) (s : SourceOf) → IsReached sources starts number → slice_get sources number ≡ Some s → in_fragment (frame_in s.looks s.tree) s.tree ≡ false → ReachesOutside (code_of_program sources) starts
   leads_outside number s reached is out =
       let r = reached_by reached in
       record {

@@ -42,7 +42,7 @@ use Rattle.go_called_core.specs.statement_core.Locality.{Each}
 module _ (Inside : List ℕ → Type 0) (es fs : List Entry) (same : (k : DeclKey) → Inside k.path → find_entry es k ≡ find_entry fs k) where
   -- types
 
-  under_same : (t : Term) → IsTermIn Inside t → underlying_in (find_entry es) t ≡ underlying_in (find_entry fs) t
+  pub under_same : (t : Term) → IsTermIn Inside t → underlying_in (find_entry es) t ≡ underlying_in (find_entry fs) t
   under_same NoType h = refl
   under_same (Predeclared b) h = refl
   under_same ErrorType h = refl
@@ -67,11 +67,11 @@ module _ (Inside : List ℕ → Type 0) (es fs : List Entry) (same : (k : DeclKe
 
   -- signatures
 
-  all_in : (ts : Terms) → AreTermsIn Inside ts → Each (IfAny (IsTermIn Inside)) (all_typed (find_entry es) ts)
+  pub all_in : (ts : Terms) → AreTermsIn Inside ts → Each (IfAny (IsTermIn Inside)) (all_typed (find_entry es) ts)
   all_in NoTerm h = tt
   all_in (ATerm t ts) h = (either (IfAny (IsTermIn Inside)) (is_type_term (find_entry es) t) _ _ h.0 tt, all_in ts h.1)
 
-  all_same : (ts : Terms) → AreTermsIn Inside ts → all_typed (find_entry es) ts ≡ all_typed (find_entry fs) ts
+  pub all_same : (ts : Terms) → AreTermsIn Inside ts → all_typed (find_entry es) ts ≡ all_typed (find_entry fs) ts
   all_same NoTerm h = refl
   all_same (ATerm t ts) h = λ j. (if not (is_no_type (under_same t h.0 j)) then Some t else None) ∷ all_same ts h.1 j
 
@@ -80,7 +80,7 @@ module _ (Inside : List ℕ → Type 0) (es fs : List Entry) (same : (k : DeclKe
   results_same (t ∷ []) h = (let same : some_word es t ≡ some_word fs t = some_word_same t h.0 in cc)
   results_same (t ∷ (u ∷ ts)) h = refl
 
-  sign_same : (g : Sign) → IsSignIn Inside g → sign_gives es g ≡ sign_gives fs g
+  pub sign_same : (g : Sign) → IsSignIn Inside g → sign_gives es g ≡ sign_gives fs g
   sign_same (SignOf ps rs) h = results_same (all_typed (find_entry es) rs) (all_in rs h.1) ∙ ap (results_give fs) (all_same rs h.1)
 
   -- declarations

@@ -1,12 +1,11 @@
 -- What the packages of a workspace show as a type is what its name means where a type is written.
 use Rattle.std.proofs.Common.{◌≡◌, inl, inr, ◌⊎◌, ℕ, suc, ◌<◌, ◌&&◌, Bool, true, false, List, [], ◌∷◌, ◌++◌, map, not, Option, Some, None, refl, sym, ap, subst, ◌∙◌, append-nil, arith, if◌then◌else◌, All}
-use Rattle.std.specs.Prelude.{AllPairs, Contains, nat_eq, nat_lt, slice_get}
+use Rattle.std.specs.Prelude.{Contains, nat_eq, nat_lt, slice_get}
 use Rattle.std.specs.Option.{option_map}
 use Rattle.std.specs.Str.{bytes_eq, chars}
 use Rattle.std.proofs.lemmas.Bool.{and_parts, eqb-true, false_from_ne_true, ltb-true, or_cases}
 use Rattle.std.proofs.lemmas.Grind.{flat_map-append}
 use Rattle.std.proofs.lemmas.List.Elements.{All-cons}
-use Rattle.std.proofs.lemmas.List.Kept.{AllPairs-cons}
 use Rattle.std.proofs.lemmas.Slice.Eq.{bytes_eq-Decides}
 use Rattle.go_called_core.specs.text_core.Text.{exported}
 use Rattle.go_called_core.specs.decl_core.declared.keys.DeclKey.{DeclKey}
@@ -28,7 +27,7 @@ use Rattle.go_called_core.specs.table_core.Entries.{Entry, find_entry, term_in}
 use Rattle.go_called_core.specs.decide_core.Rules.{typed}
 use Rattle.go_typed_core.specs.entry_core.Meanings.{shown_type, type_of_key, type_of_kind}
 use Rattle.go_typed_core.specs.entry_core.Showing.{shown_in}
-use Rattle.go_typed_core.specs.entry_core_lemmas.Shown.{shows_its_block}
+use Rattle.go_typed_core.specs.entry_core.Shown.{shows_its_block}
 use Rattle.go_tree_nodes.specs.Trees.{FileTree}
 use Rattle.go_typed_core.specs.entry_core.Entries.{package_meanings}
 use Rattle.go_typed_core.specs.entry_core.Outlines.{IsOutline, outline_of}
@@ -59,7 +58,7 @@ use Rattle.go_typed_core.specs.graph_core.PlanLaws.{has_plan}
 use Rattle.go_typed_core.specs.graph_core.Plans.{IsPlan, PlanModel}
 use Rattle.go_typed_core.specs.whole_core.Inputs.{ComesTo, ReachesPackage, Shown}
 use Rattle.go_typed_core.specs.whole_core.Known.{KnownAlike}
-use Rattle.go_typed_core.specs.whole_core.Lists.{all_from_among, among_all, pairs_head, pairs_tail}
+use Rattle.go_typed_core.specs.whole_core.Lists.{all_from_among, among_all}
 use Rattle.go_typed_core.specs.whole_core.LocalLaws.{CheckIsLocal, ImportsBindTheirs}
 use Rattle.go_typed_core.specs.whole_core.Order.{reaches_next, reaches_on}
 use Rattle.go_typed_core.specs.whole_core.Parts.{all_inside, none_reached, of_one, path_told, reach_paths, told_by, told_to as told_there, well_reached}
@@ -72,12 +71,12 @@ use Rattle.go_typed_core.specs.type_doc_core.Known.{IsNoType, face_plain, face_t
 use Rattle.go_typed_core.specs.Functions.{known_types}
 use Rattle.go_typed_core.specs.Written.{ShowTheirTypes, typed_in}
 use Rattle.go_faultless_core.specs.Parts.{PartsShowTheirTypes}
-use Rattle.go_faultless_core.proofs.Alike.{numbered_in}
+use Rattle.go_faultless_core.proofs.Alike.{apart_more, numbered_in}
 use Rattle.go_faultless_core.proofs.Dotted.{block_unique, bound_shown, exported_among, import_stands}
 
 -- settled types
 
-settled_same : (es : List Entry) (k : DeclKey) → typed_in es (Defined k) ≡ typed (find_entry es) (Defined k)
+pub settled_same : (es : List Entry) (k : DeclKey) → typed_in es (Defined k) ≡ typed (find_entry es) (Defined k)
 settled_same es k = by (term_in (find_entry es k)) refl
   where
     by : (u : Term) → term_in (find_entry es k) ≡ u → typed (find_entry es) (defined_unless (kind_of_term u) k) ≡ typed (find_entry es) (Defined k)
@@ -180,12 +179,12 @@ module _ (i : InputModel) (c : ContentOf) (part : IsPart i c) where
   abbrev scene : SceneModel
   scene = scene_in seen es
 
-  types_are : types_told (told_to i c) ≡ types_told i.reached ++ part.checked.types
+  pub types_are : types_told (told_to i c) ≡ types_told i.reached ++ part.checked.types
   types_are =
       flat_map-append (λ (s : SummaryModel). s.types.entries) i.reached (c.summary ∷ [])
       ∙ ap (λ l. types_told i.reached ++ l) (append-nil c.summary.types.entries ∙ ap (λ (s : SummaryModel). s.types.entries) part.summary)
 
-  declared : AreDeclared seen es c.declared
+  pub declared : AreDeclared seen es c.declared
   declared = subst (λ ks. AreDeclared seen es ks) (sym part.declared) (subst (λ ts. AreDeclared seen ts part.checked.declared) (sym types_are) part.is_checked.declared)
 
   pub faces_are : c.summary.faces ≡ package_shown (path_in i) c.blocks (decls_of scene.written) c.declared
@@ -194,7 +193,7 @@ module _ (i : InputModel) (c : ContentOf) (part : IsPart i c) where
       ∙ (part.is_checked.faces
       ∙ (ap (λ ts. package_shown (path_in i) c.blocks (decls_of (scene_in seen ts).written) part.checked.declared) (sym types_are) ∙ ap (λ ks. package_shown (path_in i) c.blocks (decls_of scene.written) ks) (sym part.declared)))
 
-  rises : DeclsRise (decls_of scene.written)
+  pub rises : DeclsRise (decls_of scene.written)
   rises = written_rises (package_meanings seen.shows seen.path seen.blocks) seen.path es (map outline_of (trees_in i.source)) (outlines_all (trees_in i.source))
 
   pub unique : (e : List ℕ × DeclRef) → Among c.blocks.names e → in_block c.blocks.names e.0 ≡ Some e.1
@@ -220,28 +219,28 @@ module _ (i : InputModel) (c : ContentOf) (part : IsPart i c) where
           let plain : IsNoType (own_face scene c.declared d) = face_plain seen (trees_of i.source.1) refl part.blocks.package_names es c.declared declared name d at e in
           absurd (subst IsNoType known plain)
 
-  -- a name that is seen behind a dot as a type
-  pub record IsSeen (name : List ℕ) (d : DeclRef) (t : Option Term) : Type 0 where
+  -- a name that is seen behind a dot
+  pub record IsSeen (name : List ℕ) (d : DeclRef) (f : TheFace) : Type 0 where
     pub there : in_block c.blocks.names name ≡ Some d
     pub out : exported (chars name) ≡ true
-    pub face : face_by c.summary.faces d ≡ Some (faces.«Type» t)
+    pub face : face_by c.summary.faces d ≡ Some f
 
   abbrev listed : List DeclaredOf
   listed = shown_among (exported_decls c.blocks.names) (decls_of scene.written) c.declared
 
-  pub name_seen : (name : List ℕ) (d : DeclRef) (t : Option Term) → shown_by c.summary.faces name ≡ shown_faces.Shown d (Some (faces.«Type» t)) → IsSeen name d t
-  name_seen name d t h = by (in_block c.blocks.names name) (exported (chars name)) refl refl
+  pub name_seen : (name : List ℕ) (d : DeclRef) (f : TheFace) → shown_by c.summary.faces name ≡ shown_faces.Shown d (Some f) → IsSeen name d f
+  name_seen name d f h = by (in_block c.blocks.names name) (exported (chars name)) refl refl
     where
-      here : shown_by (package_faces (path_in i) (names_seen c.blocks.names) listed) name ≡ shown_faces.Shown d (Some (faces.«Type» t))
+      here : shown_by (package_faces (path_in i) (names_seen c.blocks.names) listed) name ≡ shown_faces.Shown d (Some f)
       here = sym (ap (λ (m : PackageFacesModel). shown_by m name) faces_are) ∙ h
 
-      by : (o : Option DeclRef) (x : Bool) → in_block c.blocks.names name ≡ o → exported (chars name) ≡ x → IsSeen name d t
-      by None x k e = absurd (let no : shown_faces.Absent ≡ shown_faces.Shown d (Some (faces.«Type» t)) = sym (faces_show.absent (path_in i) c.blocks.names listed name k) ∙ here in cc no)
-      by (Some a) false k e = absurd (let no : shown_faces.Hidden ≡ shown_faces.Shown d (Some (faces.«Type» t)) = sym (faces_show.hidden (path_in i) c.blocks.names listed name a k e) ∙ here in cc no)
+      by : (o : Option DeclRef) (x : Bool) → in_block c.blocks.names name ≡ o → exported (chars name) ≡ x → IsSeen name d f
+      by None x k e = absurd (let no : shown_faces.Absent ≡ shown_faces.Shown d (Some f) = sym (faces_show.absent (path_in i) c.blocks.names listed name k) ∙ here in cc no)
+      by (Some a) false k e = absurd (let no : shown_faces.Hidden ≡ shown_faces.Shown d (Some f) = sym (faces_show.hidden (path_in i) c.blocks.names listed name a k e) ∙ here in cc no)
       by (Some a) true k e =
-          let both : shown_faces.Shown a (face_among listed a) ≡ shown_faces.Shown d (Some (faces.«Type» t)) = sym (faces_show.shown (path_in i) c.blocks.names listed name a k e) ∙ here in
+          let both : shown_faces.Shown a (face_among listed a) ≡ shown_faces.Shown d (Some f) = sym (faces_show.shown (path_in i) c.blocks.names listed name a k e) ∙ here in
           let one : a ≡ d = cc both in
-          let face : face_among listed a ≡ Some (faces.«Type» t) = cc both in
+          let face : face_among listed a ≡ Some f = cc both in
           record {
             there = k ∙ ap (λ (x : DeclRef). Some x) one;
             out = e;
@@ -249,7 +248,7 @@ module _ (i : InputModel) (c : ContentOf) (part : IsPart i c) where
           }
 
 -- of some packages the one that shows a name
-exported_from : (ss : List SummaryModel) (path name : List ℕ) (d : DeclRef) (o : Option TheFace) → exported_in (faces_told ss) path name ≡ shown_faces.Shown d o → (s : SummaryModel) × Among ss s × (path ≡ s.faces.path)
+pub exported_from : (ss : List SummaryModel) (path name : List ℕ) (d : DeclRef) (o : Option TheFace) → exported_in (faces_told ss) path name ≡ shown_faces.Shown d o → (s : SummaryModel) × Among ss s × (path ≡ s.faces.path)
 exported_from [] path name d o h = absurd (let no : shown_faces.Absent ≡ shown_faces.Shown d o = h in cc no)
 exported_from (s ∷ ss) path name d o h = by (bytes_eq path s.faces.path) refl h (λ k. exported_from ss path name d o k)
   where
@@ -257,18 +256,6 @@ exported_from (s ∷ ss) path name d o h = by (bytes_eq path s.faces.path) refl 
         → (exported_in (faces_told ss) path name ≡ shown_faces.Shown d o → (t : SummaryModel) × Among ss t × (path ≡ t.faces.path)) → (t : SummaryModel) × Among (s ∷ ss) t × (path ≡ t.faces.path)
     by true e h rest = (s, inl refl, (bytes_eq-Decides path s.faces.path).0 e)
     by false e h rest = (let r = rest h in (r.0, inr r.1, r.2))
-
--- one more behind others that are apart from it
-apart_more : {A : Type 0} (R : A → A → Type 0) (xs : List A) (x : A) → AllPairs R xs → ((y : A) → Among xs y → R y x) → AllPairs R (xs ++ x ∷ [])
-apart_more R [] x pairs h = AllPairs-cons R x [] (all_from_among (R x) [] (λ y a. absurd a)) pairs
-apart_more {A = A} R (y ∷ xs) x pairs h =
-    AllPairs-cons R y (xs ++ x ∷ []) (all_from_among (R y) (xs ++ x ∷ []) (λ z a. by z (among_cases xs (x ∷ []) z a)))
-    (apart_more R xs x (pairs_tail R y xs pairs) (λ z a. h z (inr a)))
-  where
-    by : (z : A) → Among xs z ⊎ Among (x ∷ []) z → R y z
-    by z (inl a) = pairs_head R y xs pairs z a
-    by z (inr (inl e)) = subst (R y) e (h y (inl refl))
-    by z (inr (inr never)) = absurd never
 
 module _ (local : CheckIsLocal) (bind : ImportsBindTheirs) (ps : List PackageModel) (parts : List (Option PartModel)) (well : IsWorkspace ps) (right : AreRight ps parts) (plan : PlanModel) (planned : IsPlan ps plan) where
   abbrev told : PartModel → List SummaryModel
@@ -316,7 +303,7 @@ module _ (local : CheckIsLocal) (bind : ImportsBindTheirs) (ps : List PackageMod
           is = t.2;
         }
 
-    alike : KnownAlike (Contains (reach_paths q.input)) (known_by (told q)) (known_by (told part))
+    pub alike : KnownAlike (Contains (reach_paths q.input)) (known_by (told q)) (known_by (told part))
     alike =
         known_alike (told q) (told part) (well_told m q at) (well_told n part there) (Contains (reach_paths q.input))
         (λ path h. (let t = told_both path (among_from (reach_paths q.input) path h) in inl (record { summary = t.summary; one = among_to (told q) t.summary t.one; other = among_to (told part) t.summary t.other; is = t.is })))
@@ -376,7 +363,7 @@ module _ (local : CheckIsLocal) (bind : ImportsBindTheirs) (ps : List PackageMod
         let path_is : path ≡ path_of s = f.2 ∙ (ap (λ (x : SummaryModel). x.faces.path) by.tells.is ∙ own.faces) in
         let e = exports_are by.number q by.tells.there in
         let here : path ≡ path_in q.input = path_is ∙ ap (λ (x : ExportsModel). x.path) e in
-        let seen = name_seen q.input q.content (right by.number q by.tells.there).made name d t (sym (tells.faces name) ∙ (ap (λ x. exported_in (faces_told i.reached) x name) (sym path_is) ∙ h)) in
+        let seen = name_seen q.input q.content (right by.number q by.tells.there).made name d (faces.«Type» t) (sym (tells.faces name) ∙ (ap (λ x. exported_in (faces_told i.reached) x name) (sym path_is) ∙ h)) in
         let shown_is : shown_in (exports_told i.reached) path name ≡ Some d =
         ap (λ x. shown_in (exports_told i.reached) x name) path_is
         ∙ (tells.names name

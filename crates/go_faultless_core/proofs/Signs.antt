@@ -2,7 +2,6 @@
 use Rattle.std.proofs.Common.{◌≡◌, inl, inr, ℕ, ◌&&◌, Bool, true, false, List, [], ◌∷◌, map, Option, Some, None, Ok, Err, Result, refl, sym, ap, ◌∙◌, subst, nat_eq, if◌then◌else◌}
 use Rattle.std.specs.Str.{bytes_eq}
 use Rattle.std.proofs.lemmas.Bool.{and_parts, eqb-true}
-use Rattle.std.proofs.lemmas.Slice.Eq.{bytes_eq-Decides}
 use Rattle.go_called_core.specs.text_core.declared.rule.Rule.{Rule}
 use Rattle.go_called_core.specs.decl_core.declared.keys.DeclKey.{DeclKey}
 use Rattle.go_called_core.specs.decl_core.declared.keys.DeclRef.{DeclRef}
@@ -13,13 +12,14 @@ use Rattle.go_term_core.specs.declared.term.Basic.TheVariants as basics
 use Rattle.go_term_core.specs.declared.term.MemberPlace.{MemberPlace}
 use Rattle.go_term_core.specs.declared.term.MemberPlace.TheVariants as places
 use Rattle.go_term_core.specs.Terms.{Defined, ErrorType, InterfaceOf, NoType, PointerTo, Predeclared, Sign, StructOf, Term}
-use Rattle.go_called_core.specs.table_core.Entries.{Entry, Member, declared_methods, find_entry, methods_in, same_decl, same_key, underlying_in}
+use Rattle.go_called_core.specs.table_core.Entries.{Entry, Member, declared_methods, find_entry, methods_in, same_key, underlying_in}
 use Rattle.go_called_core.specs.operand_core.declared.types.ValueType.{ValueType}
 use Rattle.go_called_core.specs.operand_core.declared.types.ValueType.TheVariants as value_types
 use Rattle.go_called_core.specs.operand_core.Values.{basic_under, default_type, form_basic}
 use Rattle.go_called_core.specs.denote_core.declared.things.Outcome.{Outcome}
 use Rattle.go_called_core.specs.denote_core.declared.things.Outcome.TheVariants as outcomes
 use Rattle.go_called_core.specs.denote_core.declared.things.Selection.TheVariants as selections
+use Rattle.go_type_core.specs.table_core.Keys.{same_key_true}
 use Rattle.go_embed_core.specs.Owners.{AMethodOf, Found, path_of_term}
 use Rattle.go_called_core.specs.decide_core.Selecting.{Choice, selected_of}
 use Rattle.go_called_core.specs.decide_core.Rules.{form_under, member_selection, selection_of, term_rules}
@@ -43,6 +43,7 @@ use Rattle.go_typed_core.specs.whole_core.Lists.{among_all}
 use Rattle.go_typed_core.specs.whole_core.LocalLaws.{CheckIsLocal, ImportsBindTheirs}
 use Rattle.go_typed_core.specs.whole_core.PartsWhole.{all_right}
 use Rattle.go_typed_core.specs.instruction_core.declared.letters.Word.{Word}
+use Rattle.go_called_core.specs.fragment_core.declared.names.Gives.{Gives}
 use Rattle.go_called_core.specs.fragment_core.declared.names.Meaning.{Meaning}
 use Rattle.go_called_core.specs.fragment_core.declared.names.Meaning.TheVariants as meanings
 use Rattle.go_typed_core.specs.lookup_core.Looking.{meaning_or_other}
@@ -50,7 +51,7 @@ use Rattle.go_typed_core.specs.lookup_core.Places.{decl_spot, spotted_meaning}
 use Rattle.go_typed_core.specs.meaning_core.Scenes.{method_meaning, methods_spotted}
 use Rattle.go_typed_core.specs.meaning_core.Words.{sign_gives}
 use Rattle.go_called_core.specs.emit_core.Emitted.{code_scene_over, told_to}
-use Rattle.go_called_core.specs.fold_core.Reading.{IsMethodMeant, IsSelectionMeant, basic_of}
+use Rattle.go_called_core.specs.fold_core.Reading.{IsMethodMeant, IsOver, IsSelectionMeant, basic_of}
 use Rattle.go_called_core.specs.laws_core.ConstantLaws.{PartsAreFit}
 use Rattle.go_called_core.specs.laws_core.ConstantLists.{contained}
 use Rattle.go_called_core.specs.laws_core.Methods.{told_methods}
@@ -58,7 +59,7 @@ use Rattle.go_called_core.specs.laws_core.ConstantMethods.{method_found}
 use Rattle.go_called_core.specs.laws_core.Reading.{sign_read}
 use Rattle.go_typed_core.specs.Functions.{function_looks, known_types, meaning_there}
 use Rattle.go_typed_core.proofs.Ready.{AreGiven, read}
-use Rattle.go_faultless_core.specs.Called.{IsMethodDeclared, MethodsAreDeclared}
+use Rattle.go_faultless_core.specs.Called.{IsMethodDeclared, MethodsAreDeclared, MethodsGiveTheirs}
 use Rattle.go_faultless_core.specs.Served.{NamesAreRead}
 use Rattle.go_faultless_core.proofs.Alike.{numbered_in, told_part, well_one}
 use Rattle.go_faultless_core.proofs.Methods.{signs_same}
@@ -66,34 +67,33 @@ use Rattle.go_faultless_core.proofs.Selected.{own_method}
 
 -- the types of a table
 
-of_path : (path : List ℕ) (es : List Entry) → AreOf path es → (e : Entry) → Among es e → e.key.path ≡ path
+pub of_path : (path : List ℕ) (es : List Entry) → AreOf path es → (e : Entry) → Among es e → e.key.path ≡ path
 of_path path [] h e a = absurd a
 of_path path (x ∷ es) h e (inl same) = ap (λ (y : Entry). y.key.path) (sym same) ∙ h.0
 of_path path (x ∷ es) h e (inr a) = of_path path es h.1 e a
 
--- the entry of a key is of its package
-record IsEntryOf (es : List Entry) (k : DeclKey) (e : Entry) : Type 0 where
-  there : Among es e
-  home : e.key.path ≡ k.path
+-- the entry of a key has this key
+pub record IsEntryOf (es : List Entry) (k : DeclKey) (e : Entry) : Type 0 where
+  pub there : Among es e
+  pub key : e.key ≡ k
 
-key_path : (j k : DeclKey) → same_key j k ≡ true → j.path ≡ k.path
-key_path j k h = (bytes_eq-Decides j.path k.path).0 (and_parts (bytes_eq j.path k.path) (same_decl j.decl k.decl) h).0
-
-entry_of : (es : List Entry) (k : DeclKey) (e : Entry) → find_entry es k ≡ Some e → IsEntryOf es k e
+pub entry_of : (es : List Entry) (k : DeclKey) (e : Entry) → find_entry es k ≡ Some e → IsEntryOf es k e
 entry_of [] k e h = absurd (let no : None ≡ Some e = h in cc)
 entry_of (x ∷ es) k e h = by (same_key x.key k) refl h (λ rest. entry_of es k e rest)
   where
     by : (b : Bool) → same_key x.key k ≡ b → (if b then Some x else find_entry es k) ≡ Some e → (find_entry es k ≡ Some e → IsEntryOf es k e) → IsEntryOf (x ∷ es) k e
     by true at is rest =
         let same : x ≡ e = cc is in
-        record { there = inl same; home = ap (λ (y : Entry). y.key.path) (sym same) ∙ key_path x.key k at }
-    by false at is rest = (let r = rest is in record { there = inr r.there; home = r.home })
+        record { there = inl same; key = ap (λ (y : Entry). y.key) (sym same) ∙ same_key_true x.key k at }
+    by false at is rest = (let r = rest is in record { there = inr r.there; key = r.key })
 
 -- a method that is declared of a type is one of an entry
 record IsDeclaredOf (es : List Entry) (t : Term) (m : Member) : Type 0 where
   entry : Entry
+  known : find_entry es entry.key ≡ Some entry
   there : Among es entry
   here : Among entry.methods m
+  is : t ≡ Defined entry.key
   home : entry.key.path ≡ path_of_term t
 
 key_methods : (es : List Entry) (k : DeclKey) (m : Member) → Among (declared_methods (find_entry es) (Defined k)) m → IsDeclaredOf es (Defined k) m
@@ -101,7 +101,16 @@ key_methods es k m a = by (find_entry es k) refl
   where
     by : (o : Option Entry) → find_entry es k ≡ o → IsDeclaredOf es (Defined k) m
     by None e = absurd (subst (λ (o : Option Entry). Among (methods_in o) m) e a)
-    by (Some x) e = (let r = entry_of es k x e in record { entry = x; there = r.there; here = subst (λ (o : Option Entry). Among (methods_in o) m) e a; home = r.home })
+    by (Some x) e =
+        let r = entry_of es k x e in
+        record {
+          entry = x;
+          known = ap (find_entry es) r.key ∙ e;
+          there = r.there;
+          here = subst (λ (o : Option Entry). Among (methods_in o) m) e a;
+          is = ap Defined (sym r.key);
+          home = ap (λ (j : DeclKey). j.path) r.key;
+        }
 
 type_methods : (es : List Entry) (t : Term) (m : Member) → Among (declared_methods (find_entry es) t) m → IsDeclaredOf es t m
 type_methods es NoType m a = absurd a
@@ -178,6 +187,24 @@ module _ (fit : PartsAreFit) (ws : List PackageModel) (parts : List (Option Part
         part_signs t.part t.there e other.entry (in_part e s.2) (in_part other.entry in_summary) m other.member of_e in_entry d other.decl at other.place (eqb-true d.file other.decl.file place.0) (eqb-true d.number other.decl.number place.1) in
         other.is ∙ ap (λ g. meanings.Method (sign_gives es g)) (sym same)
 
+    -- what a declared method comes to in code gives what its signature gives
+    spot_gives : (g : Sign) (given : Gives) (o : Option Meaning) → ((k : Meaning) → o ≡ Some k → k ≡ meanings.Method (sign_gives es g)) → meaning_or_other o ≡ meanings.Method given → sign_gives es g ≡ given
+    spot_gives g given None h is = absurd (let no : meanings.Other ≡ meanings.Method given = is in cc no)
+    spot_gives g given (Some k) h is = (let same : meanings.Method (sign_gives es g) ≡ meanings.Method given = sym (h k refl) ∙ is in cc same)
+
+    place_gives : (e : Entry) → Among es e → (m : Member) → Among e.methods m → (place : MemberPlace) → m.place ≡ place → (given : Gives)
+        → method_meaning (code_scene_over (told_to p.input p.content) p.input p.content) (InFile e.key.path place) ≡ meanings.Method given → sign_gives es m.sign ≡ given
+    place_gives e in_e m of_e (places.Declared d) at given is = spot_gives m.sign given (spotted_meaning (methods_spotted es es) (decl_spot e.key.path d)) (λ k found. method_gives e in_e m of_e d at k found) is
+    place_gives e in_e m of_e (places.Local l) at given is = absurd (let no : meanings.Other ≡ meanings.Method given = is in cc no)
+
+    pub declared_gives : (n : ℕ) (f : FileOf) (d : Declaration) (path : List ℕ) (s : Sign) (receiver : Word) → IsMethodDeclared p.input p.content d path s receiver
+        → (given : Gives) → meaning_there p.input p.content n f (outcomes.Selected d path) ≡ meanings.Method given → sign_gives es s ≡ given
+    declared_gives n f d path s receiver x given is =
+        let direct = subst (λ (q : List ℕ). meaning_there p.input p.content n f (outcomes.Selected d q) ≡ meanings.Method given) x.alone is in
+        let own = subst (λ (e : Declaration). meaning_there p.input p.content n f (outcomes.Selected e []) ≡ meanings.Method given) x.declared direct in
+        ap (sign_gives es) x.sign
+        ∙ place_gives x.entry (entry_of es x.entry.key x.entry x.known).there x.member (among_from x.entry.methods x.member x.there) x.member.place refl given own
+
     module _ (n : ℕ) (t : FileTree) (f : FileOf) (all : List (Local NameMeaning)) where
       abbrev looks : TheLooks
       looks = function_looks p.input p.content n t all
@@ -221,10 +248,10 @@ module _ (i : InputModel) (c : ContentOf) where
   abbrev types : List Entry
   types = known_types i c
 
-  chosen : (u : Term) (b : Basic) → underlying_in (find_entry types) u ≡ Predeclared b → (name : List ℕ) (r : Result Choice Rule) → selected_of types u name (path_in i) ≡ r → (d : Declaration) (path : List ℕ) (s : Sign) (needs_pointer by_pointer : Bool)
-      → selection_of declaration_found (λ (q : List ℕ). q) (find_entry types) r ≡ selections.Method d path s needs_pointer by_pointer → IsMethodDeclared i c d path s
-  chosen u b under name (Err rule) e d path s needs_pointer by_pointer is = absurd (cc is)
-  chosen u b under name (Ok k) e d path s needs_pointer by_pointer is =
+  chosen : (u : Term) (b : Basic) → underlying_in (find_entry types) u ≡ Predeclared b → (receiver : Word) → IsOver (term_rules types (path_in i)) receiver (Some u) → (name : List ℕ) (r : Result Choice Rule) → selected_of types u name (path_in i) ≡ r → (d : Declaration) (path : List ℕ) (s : Sign) (needs_pointer by_pointer : Bool)
+      → selection_of declaration_found (λ (q : List ℕ). q) (find_entry types) r ≡ selections.Method d path s needs_pointer by_pointer → IsMethodDeclared i c d path s receiver
+  chosen u b under receiver over name (Err rule) e d path s needs_pointer by_pointer is = absurd (cc is)
+  chosen u b under receiver over name (Ok k) e d path s needs_pointer by_pointer is =
       let o = own_method types u b under name (path_in i) k e in
       let m = type_methods types u o.member o.there in
       let own = subst (λ (f : Found). member_selection declaration_found (λ (q : List ℕ). q) (find_entry types) k.path k.passes f ≡ selections.Method d path s needs_pointer by_pointer) o.is is in
@@ -233,7 +260,8 @@ module _ (i : InputModel) (c : ContentOf) where
       let sign : o.member.sign ≡ s = cc own in
       record {
         entry = m.entry;
-        known = among_to types m.entry m.there;
+        known = m.known;
+        over = subst (λ (v : Term). IsOver (term_rules types (path_in i)) receiver (Some v)) m.is over;
         member = o.member;
         there = among_to m.entry.methods o.member m.here;
         alone = sym through ∙ o.own;
@@ -244,9 +272,12 @@ module _ (i : InputModel) (c : ContentOf) where
 pub methods_declared : MethodsAreDeclared
 methods_declared i c n t all d path s receiver h =
     let under = operand_under (known_types i c) (path_in i) (value_types.Typed h.0) receiver h.2 h.0 refl in
-    chosen i c h.0 under.0 under.1 h.1 (selected_of (known_types i c) h.0 h.1 (path_in i)) refl d path s h.3 h.4 h.5
+    chosen i c h.0 under.0 under.1 receiver h.2 h.1 (selected_of (known_types i c) h.0 h.1 (path_in i)) refl d path s h.3 h.4 h.5
 
--- the law
+-- the laws
+
+pub methods_give : PartsAreFit → CheckIsLocal → ImportsBindTheirs → MethodsGiveTheirs
+methods_give fit local bind ws parts well made p h n f d path s receiver x given is = declared_gives fit ws parts well made local bind p (among_from (somes parts) p h) n f d path s receiver x given is
 
 pub names_read : AreGiven → PartsAreFit → CheckIsLocal → NamesAreRead
 names_read laws fit local ws parts well made p h n t f g all func = record {

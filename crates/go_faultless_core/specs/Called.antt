@@ -4,8 +4,9 @@
 use Rattle.std.specs.Prelude.{◌≡◌, ◌⊎◌, ℕ, Bool, List, [], ◌∷◌, map, Option, Some, Contains}
 use Rattle.go_tree_nodes.specs.Trees.{FileTree, FuncTree}
 use Rattle.go_called_core.specs.local_core.Binding.{Local}
-use Rattle.go_term_core.specs.Terms.{Sign}
-use Rattle.go_called_core.specs.table_core.Entries.{Entry, Member}
+use Rattle.go_term_core.specs.Terms.{Defined, Sign}
+use Rattle.go_called_core.specs.table_core.Entries.{Entry, Member, find_entry}
+use Rattle.go_called_core.specs.decide_core.Rules.{term_rules}
 use Rattle.go_called_core.specs.denote_core.declared.things.Exported.TheVariants as exporteds
 use Rattle.go_called_core.specs.denote_core.declared.things.Found.TheVariants as founds
 use Rattle.go_called_core.specs.denote_core.declared.things.Outcome.TheVariants as outcomes
@@ -15,11 +16,12 @@ use Rattle.go_typed_core.specs.handle_core.Declarations.{Declaration, InFile}
 use Rattle.go_typed_core.specs.env_core.declared.meaning.Meaning.{Meaning as NameMeaning}
 use Rattle.go_typed_core.specs.env_core.Looks.{TheLooks}
 use Rattle.go_typed_core.specs.graph_core.Workspaces.{IsWorkspace, PackageModel}
-use Rattle.go_typed_core.specs.part_core.Inputs.{InputModel}
+use Rattle.go_typed_core.specs.part_core.Inputs.{InputModel, path_in}
 use Rattle.go_typed_core.specs.part_core.Parts.{ContentOf, FileOf, PartModel}
 use Rattle.go_typed_core.specs.part_core.Slots.{somes}
 use Rattle.go_typed_core.specs.whole_core.Inputs.{AreParts}
 use Rattle.go_typed_core.specs.instruction_core.declared.letters.Word.{Word}
+use Rattle.go_typed_core.specs.meaning_core.Words.{sign_gives}
 use Rattle.go_called_core.specs.fragment_core.declared.names.Gives.{Gives}
 use Rattle.go_called_core.specs.fragment_core.declared.names.Meaning.TheVariants as meanings
 use Rattle.go_called_core.specs.means_core.Meaning.{SourceOf}
@@ -53,10 +55,11 @@ abbrev pub IsMethodOf : {T S D P : Type 0} → Looks T S D P → D → P → S �
 IsMethodOf {T} {S} {D} {P} looks d path s receiver =
     (t : T) × (name : List ℕ) × IsOver looks.types receiver (Some t) × (needs_pointer : Bool) × (by_pointer : Bool) × (looks.select t name ≡ selections.Method d path s needs_pointer by_pointer)
 
--- a declaration is that of a method of this signature of a type that a package knows, to which no embedded field leads
-pub record IsMethodDeclared (i : InputModel) (c : ContentOf) (d : Declaration) (path : List ℕ) (s : Sign) : Type 0 where
+-- a declaration is that of a method of this signature of a type that a package knows, over this, to which no embedded field leads
+pub record IsMethodDeclared (i : InputModel) (c : ContentOf) (d : Declaration) (path : List ℕ) (s : Sign) (receiver : Word) : Type 0 where
   pub entry : Entry
-  pub known : Contains (known_types i c) entry
+  pub known : find_entry (known_types i c) entry.key ≡ Some entry
+  pub over : IsOver (term_rules (known_types i c) (path_in i)) receiver (Some (Defined entry.key))
   pub member : Member
   pub there : Contains entry.methods member
   pub alone : path ≡ []
@@ -67,7 +70,14 @@ pub record IsMethodDeclared (i : InputModel) (c : ContentOf) (d : Declaration) (
 abbrev pub MethodsAreDeclared : Type 0
 MethodsAreDeclared =
     (i : InputModel) (c : ContentOf) (n : ℕ) (t : FileTree) (all : List (Local NameMeaning)) (d : Declaration) (path : List ℕ) (s : Sign) (receiver : Word) → IsMethodOf (function_looks i c n t all) d path s receiver
-    → IsMethodDeclared i c d path s
+    → IsMethodDeclared i c d path s receiver
+
+-- in a workspace what it comes to in code, where that is a method, gives what its signature gives
+abbrev pub MethodsGiveTheirs : Type 0
+MethodsGiveTheirs =
+    (ws : List PackageModel) (parts : List (Option PartModel)) → IsWorkspace ws → AreParts ws parts → (p : PartModel) → Contains (somes parts) p
+    → (n : ℕ) (f : FileOf) (d : Declaration) (path : List ℕ) (s : Sign) (receiver : Word) → IsMethodDeclared p.input p.content d path s receiver
+    → (given : Gives) → meaning_there p.input p.content n f (outcomes.Selected d path) ≡ meanings.Method given → sign_gives (known_types p.input p.content) s ≡ given
 
 -- it is a function of the program, which takes a word over the receiver and words over the parameters of the signature, and gives this
 pub record IsMethodKept (program : List SourceOf) (number_of : Declaration → Option ℕ) (looks : TheLooks) (d : Declaration) (s : Sign) (receiver : Word) (g : Gives) : Type 0 where

@@ -30,7 +30,6 @@ pub mod laws_core
 pub mod link_core
 pub mod local_core
 pub mod lookup_core
-pub mod machine_core
 pub mod meaning_core
 pub mod means_core
 pub mod meant_core
@@ -50,6 +49,7 @@ pub mod statement_core
 pub mod summary_core
 pub mod table_core
 pub mod text_core
+pub mod token_core
 pub mod typed_core
 pub mod typed_core_lemmas
 pub mod universe_core

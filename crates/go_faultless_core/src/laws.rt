@@ -1,7 +1,7 @@
 //! Laws of the functions of workspaces and of the runs of their programs, with nothing to run.
-ghost use Rattle.go_faultless_core.specs.Called.{CallsAreServed, MethodsAreDeclared};
+ghost use Rattle.go_faultless_core.specs.Called.{CallsAreServed, MethodsAreDeclared, MethodsGiveTheirs};
 ghost use Rattle.go_faultless_core.specs.Parts.{PartsAreAmong, PartsAreSeenAlike, PartsShowTheirTypes};
-ghost use Rattle.go_faultless_core.specs.Runs.{FaultlessProgramsRun, ReachedProgramsRun};
+ghost use Rattle.go_faultless_core.specs.Runs.{ReachedProgramsRun};
 ghost use Rattle.go_faultless_core.specs.Served.{ConstantsAreServed, FunctionsAreServed, IntegersAreGiven, NamesAreRead};
 
 use go_called_core::emit_core::{bodies_are_between_braces, objects_are_of_faultless};
@@ -9,13 +9,11 @@ use go_called_core::fit_core::fitting_means_something;
 use go_called_core::func_core::{functions_have_one_table, locals_are_declarations};
 use go_called_core::laws_core::parts_are_fit;
 use go_called_core::meant_core::programs_run_as_meant;
-use go_called_core::sources_core::objects_are_code_of_sources;
 use go_called_core::{
     calls_refer_to_theirs, functions_keep_types, integers_have_values, parts_are_read,
-    parts_tell_kept, starts_take_nothing,
+    parts_tell_kept,
 };
 use go_typed_core::file_core::functions_are_placed;
-use go_typed_core::functions_fit;
 use go_typed_core::whole_core::{check_is_local, imports_bind_theirs};
 
 /// The names of the files of a workspace come in code to the same over what all its packages tell and over what those tell that a package reaches.
@@ -88,12 +86,24 @@ pub fn names_are_read()
     objects_are_of_faultless();
 }
 
-/// A method of a type over `int` or `bool`, to a function of a package, is one that is declared of a type that the package knows, of the signature that is there.
+/// A method of a type over `int` or `bool`, to a function of a package, is one that is declared of a type over this that the package knows, of the signature that
+/// is there.
 ///
 /// The Go specification, "Method declarations", "Selectors".
 pub fn methods_are_declared()
     ensures { MethodsAreDeclared }
 {}
+
+/// What such a method comes to in the code of a package of a workspace gives what its signature gives.
+///
+/// The Go specification, "Method declarations", "Calls".
+pub fn methods_give_theirs()
+    ensures { MethodsGiveTheirs }
+{
+    parts_are_fit();
+    check_is_local();
+    imports_bind_theirs();
+}
 
 /// The calls of a function lead to functions that take their arguments, and receivers, where the functions and methods to which it refers are there, and take and
 /// give words of the signatures by which its calls were checked.
@@ -133,22 +143,4 @@ pub fn reached_programs_run()
 {
     fitting_means_something();
     programs_run_as_meant();
-}
-
-/// A program of a snapshot that can be run comes to what its sources mean, where the functions and methods to which the functions that are reached refer are there,
-/// and take and give words of the signatures by which their calls were checked.
-///
-/// The Go specification, "Packages", "Program initialization and execution".
-pub fn faultless_programs_run()
-    ensures { FaultlessProgramsRun }
-{
-    parts_are_among();
-    functions_are_served();
-    calls_are_served();
-    functions_fit();
-    functions_have_one_table();
-    functions_are_placed();
-    starts_take_nothing();
-    objects_are_code_of_sources();
-    reached_programs_run();
 }

@@ -1,4 +1,4 @@
-//! Programs of workspaces of which nothing is reported run as their sources mean: laws with nothing to run.
+//! What functions of workspaces of which nothing is reported are asked beside their check, and the runs of programs of functions that fit: laws with nothing to run.
 //!
 //! The Go specification, "Packages", "Program initialization and execution".
 #![tactic(auto)]
@@ -6,8 +6,8 @@
 mod laws;
 
 pub use laws::{
-    calls_are_served, constants_are_served, faultless_programs_run, functions_are_served,
-    integers_are_given, methods_are_declared, names_are_read, parts_are_among,
+    calls_are_served, constants_are_served, functions_are_served, integers_are_given,
+    methods_are_declared, methods_give_theirs, names_are_read, parts_are_among,
     parts_are_seen_alike, parts_show_their_types, reached_programs_run,
 };
 

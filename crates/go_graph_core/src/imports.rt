@@ -85,7 +85,7 @@ pub(crate) fn standings(
 /// What an import of a path comes to, cycles left aside.
 fn path_target(
     packages: &[PackageSource],
-    paths: &PathTable,
+    paths: &PathTable<'_>,
     standings: &[Standing],
     from: &ImportPath,
     path: &PathText<'_>,
@@ -112,7 +112,7 @@ fn path_target(
 /// What an import of a text comes to, cycles left aside.
 fn text_target(
     packages: &[PackageSource],
-    paths: &PathTable,
+    paths: &PathTable<'_>,
     standings: &[Standing],
     from: &ImportPath,
     text: &str,
@@ -131,7 +131,7 @@ fn text_target(
 /// What an import of these bytes comes to, cycles left aside.
 fn target(
     packages: &[PackageSource],
-    paths: &PathTable,
+    paths: &PathTable<'_>,
     standings: &[Standing],
     from: &ImportPath,
     text: &[u8],
@@ -151,7 +151,7 @@ fn target(
 fn spec_target(
     alloc: Global,
     packages: &[PackageSource],
-    paths: &PathTable,
+    paths: &PathTable<'_>,
     standings: &[Standing],
     from: &ImportPath,
     spec: &ImportSpec,
@@ -177,7 +177,7 @@ fn add_targets(
     targets: &mut Vec<ImportOutcome>,
     alloc: Global,
     packages: &[PackageSource],
-    paths: &PathTable,
+    paths: &PathTable<'_>,
     standings: &[Standing],
     from: &ImportPath,
     specs: &ImportSpecs,
@@ -205,7 +205,7 @@ fn add_targets(
 fn file_targets(
     alloc: Global,
     packages: &[PackageSource],
-    paths: &PathTable,
+    paths: &PathTable<'_>,
     standings: &[Standing],
     from: &ImportPath,
     file: &SourceFile,
@@ -237,7 +237,7 @@ fn file_targets(
 fn package_targets(
     alloc: Global,
     packages: &[PackageSource],
-    paths: &PathTable,
+    paths: &PathTable<'_>,
     standings: &[Standing],
     source: &PackageSource,
 ) -> Result<Vec<Vec<ImportOutcome>>, AllocError>
@@ -261,7 +261,7 @@ fn package_targets(
 fn targets_by(
     alloc: Global,
     packages: &[PackageSource],
-    paths: &PathTable,
+    paths: &PathTable<'_>,
     standings: &[Standing],
 ) -> Result<Vec<Vec<Vec<ImportOutcome>>>, AllocError>
     requires well { IsWorkspace packages.now }

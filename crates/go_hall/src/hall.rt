@@ -12,7 +12,7 @@ use go_graph_core::Workspace;
 use go_hall_core::board_core::BoardReader;
 use go_hall_core::sched_core::{Event, SessionId, TicketState};
 use go_hall_core::submit_core::{ModuleTree, Ticket};
-use go_hall_core::{Counted, Named, Submits};
+use go_hall_core::{Counted, Named, Stamps, Submits};
 use go_path_core::Module;
 use go_text_core::Rule;
 use std::alloc::Global;
@@ -20,7 +20,6 @@ use std::sync::ledger::Blank;
 use std::sync::{Condvar, Mutex, Wait};
 
 /// The core, its history and the board, which sessions and workers share.
-#[derive(Drop)]
 pub struct Hall<L: Named> {
     pub(crate) alloc: Global,
     pub(crate) state: Mutex<Counted<L>>,
@@ -28,6 +27,17 @@ pub struct Hall<L: Named> {
     pub(crate) work: Condvar,
     // and builds for their batch.
     pub(crate) built: Condvar,
+}
+
+impl<L: Named> Drop for Hall<L> {
+    fn drop(self) {
+        let Hall {
+            alloc: _,
+            state: _,
+            work: _,
+            built: _,
+        } = self;
+    }
 }
 
 // Whether a submission may still be published.
@@ -45,10 +55,11 @@ impl<L: Named> Hall<L> {
     /// # Errors
     ///
     /// `Rule::M0` where memory is wanting.
-    pub fn new(alloc: Global, blank: Blank) -> Result<Hall<L>, Rule>
-        requires { (blank.name ≡ L.name) × (blank.parts ≡ L.parts) × (L.all ≡ L.parts) × (1048576 < L.all) }
+    pub fn new(alloc: Global, blank: Blank, stamps: Stamps) -> Result<Hall<L>, Rule>
+        requires ledger { (blank.name ≡ L.name) × (blank.parts ≡ L.parts) × (L.all ≡ L.parts) × (1048576 < L.all) }
+        requires stamps { stamps.seen.book ≡ L.book }
     {
-        let state = Counted::new(alloc, blank)?;
+        let state = Counted::new(alloc, blank, stamps)?;
         Ok(Hall {
             alloc,
             state: Mutex::new(state),

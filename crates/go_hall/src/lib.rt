@@ -14,5 +14,5 @@ pub use worker::{Gate, OpenGate, WorkEnd, work};
 
 /// What the crates above name of `go_hall_core`.
 pub mod hall_core {
-    pub use go_hall_core::Named;
+    pub use go_hall_core::{Named, Stamps};
 }

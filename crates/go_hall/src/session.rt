@@ -31,7 +31,6 @@ pub struct Built {
 
 /// A session of a hall: a module that it holds, the draft of its tree, and a reader of the board. Contracts see its number, its draft, what it saw of
 /// the board and was told of it, and how often it submitted.
-#[derive(Drop)]
 pub struct Session<'a, L: Named> {
     hall: &'a Hall<L>,
     alloc: Global,
@@ -40,6 +39,19 @@ pub struct Session<'a, L: Named> {
     // A look at the board has it while it runs.
     reader: Option<BoardReader>,
     mine: Submits<L>,
+}
+
+impl<'a, L: Named> Drop for Session<'a, L> {
+    fn drop(self) {
+        let Session {
+            hall: _,
+            alloc: _,
+            id: _,
+            draft: _,
+            reader: _,
+            mine: _,
+        } = self;
+    }
 }
 
 impl<'a, L: Named> Model for Session<'a, L> {

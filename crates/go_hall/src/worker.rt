@@ -2,9 +2,9 @@
 ghost use Rattle.std.specs.Prelude.{◌≡◌, IfErr, IfOk, IfSome};
 
 use crate::hall::Hall;
-use go_hall_core::Named;
 use go_hall_core::batch_core::{ReadPart, rebuild};
 use go_hall_core::sched_core::{Action, Reply};
+use go_hall_core::{Errand, Named};
 use go_text_core::Rule;
 use std::alloc::Global;
 use std::sync::{CondvarTimeouts, Wait};
@@ -28,7 +28,8 @@ pub trait Gate {
         ensures err { IfErr result (λ rule. rule ≡ Rule.M0) };
 }
 
-/// A gate that is never closed. Where the package was published with the same input, its part is the one of then; else it is compiled.
+/// A gate that is never closed. Where the package was published with the same input, its part is the one of then; else it is compiled. Inputs that seem to
+/// be others are not compared.
 #[derive(Clone, Copy)]
 pub struct OpenGate;
 
@@ -39,7 +40,12 @@ impl Gate for OpenGate {
         alloc: Global,
         action: &Action,
     ) -> Result<Option<ReadPart>, Rule> {
-        match rebuild(alloc, &action.input, action.earlier.as_ref()) {
+        let earlier = if action.other {
+            None
+        } else {
+            action.earlier.as_ref()
+        };
+        match rebuild(alloc, &action.input, earlier) {
             Ok(part) => Ok(Some(part)),
             Err(_) => Err(Rule::M0),
         }
@@ -57,47 +63,51 @@ pub enum WorkEnd {
 
 // Waits for the next action that has work to do: one that the core knows to have its earlier part is finished at once, where memory is at hand. `None` where
 // the hall is stopped. Where memory is wanting it tries again a millisecond later, or where something changed.
-fn next<L: Named, R: Wait + Clock>(rt: &R, hall: &Hall<L>) -> Option<Action> {
+fn next<L: Named, R: Wait + Clock>(rt: &R, hall: &Hall<L>) -> Option<Errand<L>> {
     let mut state = hall.state.lock(rt);
     for _ in rt.forever() {
         if state.is_stopped() {
             return None;
         }
         match state.take(rt) {
-            Reply::Act(action) => {
-                let kept = match action.kept {
-                    Some(place) => state.finish_kept(rt, place, action.number),
+            Ok(errand) => {
+                let kept = match errand.action.kept {
+                    Some(place) => state.finish_kept(rt, place, errand.action.number),
                     None => None,
                 };
                 match kept {
                     None => {
                         // Others may be ready beside it.
                         hall.work.notify_all();
-                        return Some(action);
+                        return Some(errand);
                     }
                     Some(Reply::Published(_)) => hall.built.notify_all(),
                     Some(_) => {}
                 }
             }
-            Reply::Published(_) => hall.built.notify_all(),
-            Reply::Refused(_) => {
-                state = hall
-                    .work
-                    .wait_timeout(rt, state, Duration::from_millis(1))
-                    .0;
-            }
-            _ => state = hall.work.wait(rt, state),
+            Err(reply) => match reply {
+                Reply::Published(_) => hall.built.notify_all(),
+                Reply::Refused(_) => {
+                    state = hall
+                        .work
+                        .wait_timeout(rt, state, Duration::from_millis(1))
+                        .0;
+                }
+                _ => state = hall.work.wait(rt, state),
+            },
         }
     }
     unreachable!()
 }
 
 // Hands a part in. Where memory is wanting, its batch is given back. Workers are waked for the actions behind it, and builds where a batch is over.
-fn finish<L: Named, R: Wait>(rt: &R, hall: &Hall<L>, action: &Action, part: ReadPart) {
+fn finish<L: Named, R: Wait>(rt: &R, hall: &Hall<L>, errand: &Errand<L>, part: ReadPart)
+    requires { part.input ≡ errand.now.action.input }
+{
     let mut state = hall.state.lock(rt);
-    let is_over = match state.finish(rt, action.number, part) {
+    let is_over = match state.finish(rt, errand, part) {
         Reply::Refused(Rule::M0) => {
-            state.give_back(action.generation);
+            state.give_back(errand.action.generation);
             true
         }
         Reply::Published(_) => true,
@@ -124,16 +134,16 @@ pub fn work<L: Named, G: Gate, R: Threads + Wait + Clock + Sync>(
     gate: &G,
 ) -> WorkEnd {
     for _ in rt.forever() {
-        let Some(action) = next(rt, hall) else {
+        let Some(errand) = next(rt, hall) else {
             return WorkEnd::Stopped;
         };
-        match gate.part(rt, hall.alloc, &action) {
-            Ok(Some(part)) => finish(rt, hall, &action, part),
+        match gate.part(rt, hall.alloc, &errand.action) {
+            Ok(Some(part)) => finish(rt, hall, &errand, part),
             Ok(None) => {
-                give_back(rt, hall, &action);
+                give_back(rt, hall, &errand.action);
                 return WorkEnd::GateClosed;
             }
-            Err(_) => give_back(rt, hall, &action),
+            Err(_) => give_back(rt, hall, &errand.action),
         }
     }
     unreachable!()

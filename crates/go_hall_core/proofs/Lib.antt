@@ -3,3 +3,4 @@ pub mod Pushes
 pub mod Refusals
 pub mod Replays
 pub mod Rooms
+pub mod Stamps

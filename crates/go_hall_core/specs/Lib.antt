@@ -4,5 +4,6 @@ pub mod Kept
 pub mod batch_core
 pub mod board_core
 pub mod board_core_lemmas
+pub mod mirrors
 pub mod sched_core
 pub mod submit_core

@@ -1,9 +1,12 @@
-//! The lock's value, with the ledger of the submits.
-ghost use Rattle.std.specs.Prelude.{◌≡◌, ◌⊎◌, ℕ, ◌<◌, ◌+◌, [], false, true, IfErr, IfOk, MatchOption, OnErr, OnOk, length};
+//! The lock's value, with the ledger of the submits, and with stamps for the actions that are handed out.
+ghost use Rattle.std.specs.Prelude.{◌≡◌, ◌⊎◌, ℕ, ◌<◌, ◌+◌, [], false, true, IfErr, IfOk, IsTrue, MatchOption, MatchResult, OnErr, OnOk, length};
+ghost use Rattle.std.specs.Option.{ForSome};
 ghost use Rattle.go_board_core.specs.part_core.Parts.{PartModel};
 ghost use Rattle.std.specs.List.{sum_by};
+ghost use Rattle.go_sched_core.specs.Outs.{KnowsInput};
 ghost use Rattle.go_sched_core.specs.Service.{Service, empty, open_rule, submit_rule, ticket_of};
 ghost use Rattle.go_sched_core.specs.Steps.{Replay, accepts};
+ghost use Rattle.go_sched_core.specs.declared.event.Action.{Action};
 ghost use Rattle.go_hall_core.specs.Counts.{opens_in, submits_in};
 ghost use Rattle.go_hall_core.specs.Kept.{IsRefusal, Recorded};
 
@@ -12,21 +15,25 @@ use go_board_core::BoardReader;
 use go_board_core::submit_core::{ModuleTree, Ticket};
 use go_path_core::Module;
 use go_sched_core::batch_core::ReadPart;
-use go_sched_core::{Event, Reply, SessionId, TicketState};
+use go_sched_core::{Action, Event, Reply, SessionId, TicketState};
+use go_stamp_core::{NamesBook, Stamp, StampBook, Stamper};
 use go_text_core::Rule;
 use std::alloc::Global;
 use std::marker::{Brand, Model};
 use std::sync::Wait;
 use std::sync::ledger::{Blank, Book, Ledger, Share};
 
-/// The ledger of a hall's submits, with all its parts.
-pub trait Named: Ledger {
+/// The ledger of a hall's submits, with all its parts, and the book of its stamps.
+pub trait Named: Ledger + NamesBook {
     ghost all: { ℕ };
 }
 
 impl Named for Brand {
     ghost all = { 0 };
 }
+
+/// A book for the stamps of a hall's actions.
+pub type Stamps = StampBook<Action>;
 
 /// How many submits a session made.
 #[derive(Drop)]
@@ -37,12 +44,40 @@ pub struct Submits<L: Named> {
     ghost counted: { share.amount ≡ count },
 }
 
-/// The lock's value, with the book of the submits and the parts that no session has. Contracts see what `HallState` keeps.
-#[derive(Drop)]
+/// An action that was handed out, with the hall's stamp where there is one.
+pub struct Errand<L: Named> {
+    pub action: Action,
+    stamp: Option<Stamp<L, Action>>,
+    ghost stamped: { ForSome stamp (λ a. a ≡ action) },
+}
+
+impl<L: Named> Drop for Errand<L> {
+    fn drop(self) {
+        let Errand {
+            action: _,
+            stamp: _,
+        } = self;
+    }
+}
+
+/// The lock's value, with the book of the submits and the parts that no session has, and with the stamper of the actions that are handed out. Contracts see what
+/// `HallState` keeps.
 pub struct Counted<L: Named> {
     state: HallState,
     book: Book<L>,
     rest: Share<L>,
+    stamper: Stamper<L, Action>,
+}
+
+impl<L: Named> Drop for Counted<L> {
+    fn drop(self) {
+        let Counted {
+            state: _,
+            book: _,
+            rest: _,
+            stamper: _,
+        } = self;
+    }
 }
 
 impl<L: Named> Model for Counted<L> {
@@ -50,6 +85,7 @@ impl<L: Named> Model for Counted<L> {
     ghost use Rattle.go_hall_core.specs.Counts.{opens_in, submits_in};
     ghost use Rattle.go_hall_core.specs.Coding.{coded_kept};
     ghost use Rattle.go_hall_core.specs.Kept.{Kept};
+    ghost use Rattle.go_hall_core.specs.mirrors.Stamped.{AreStamped};
 
     ghost Value = { Kept };
 
@@ -57,20 +93,27 @@ impl<L: Named> Model for Counted<L> {
 
     ghost view = { λ s. s.state };
 
-    ghost invariant = { λ s. (s.book.total ≡ submits_in s.state.history) × (s.rest.amount ≡ 0) × (s.rest.parts + opens_in s.state.history ≡ L.all) × (1048576 < L.all) };
+    ghost invariant = { λ s. (s.book.total ≡ submits_in s.state.history) × (s.rest.amount ≡ 0) × (s.rest.parts + opens_in s.state.history ≡ L.all) × (1048576 < L.all) × AreStamped s.stamper s.state.service };
 }
 
 impl<L: Named> Counted<L> {
     /// # Errors
     ///
     /// `Rule::M0` where memory is wanting.
-    pub fn new(alloc: Global, blank: Blank) -> Result<Counted<L>, Rule>
-        requires { (blank.name ≡ L.name) × (blank.parts ≡ L.parts) × (L.all ≡ L.parts) × (1048576 < L.all) }
+    pub fn new(alloc: Global, blank: Blank, stamps: Stamps) -> Result<Counted<L>, Rule>
+        requires ledger { (blank.name ≡ L.name) × (blank.parts ≡ L.parts) × (L.all ≡ L.parts) × (1048576 < L.all) }
+        requires stamps { stamps.seen.book ≡ L.book }
         ensures ok { IfOk result (λ s. s ≡ record { service = empty; history = []; stopped = false }) }
     {
         let state = HallState::new(alloc)?;
         let (book, rest) = blank.open::<L>();
-        Ok(Counted { state, book, rest })
+        let stamper = stamps.named::<L>();
+        Ok(Counted {
+            state,
+            book,
+            rest,
+            stamper,
+        })
     }
 
     /// As `HallState::open`, with a share of the submits.
@@ -142,18 +185,45 @@ impl<L: Named> Counted<L> {
         self.state.close(id, reader)
     }
 
-    /// As `HallState::take`.
-    pub fn take<R: Wait>(&mut self, rt: &R) -> Reply
-        ensures { Recorded self.old Event.Take result self.new }
+    /// As `HallState::take`. An action that is handed out is stamped.
+    ///
+    /// # Errors
+    ///
+    /// The reply, where no action is handed out.
+    pub fn take<R: Wait>(&mut self, rt: &R) -> Result<Errand<L>, Reply>
+        ensures recorded { MatchResult result (λ e. Recorded self.old Event.Take (Reply.Act e.action) self.new) (λ reply. Recorded self.old Event.Take reply self.new) }
+        ensures none { IfErr result (λ reply. (action : Action) → reply ≡ Reply.Act action → ⊥) }
     {
-        self.state.take(rt)
+        match self.state.take(rt) {
+            Reply::Act(action) => {
+                let stamp = self.stamper.stamp(&action);
+                Ok(Errand { action, stamp })
+            }
+            reply => Err(reply),
+        }
     }
 
-    /// As `HallState::finish`.
-    pub fn finish<R: Wait>(&mut self, rt: &R, number: u64, part: ReadPart) -> Reply
-        ensures { Recorded self.old (Event.Finish number part) result self.new }
+    // Whether this hall stamped the action of an errand.
+    fn has_stamped(&self, errand: &Errand<L>) -> bool
+        ensures { IsTrue result → KnowsInput self.now.service errand.now.action.number errand.now.action.input }
     {
-        self.state.finish(rt, number, part)
+        match &errand.stamp {
+            Some(stamp) => self.stamper.has_given(stamp),
+            None => false,
+        }
+    }
+
+    /// As `HallState::finish`, by a part of the input of an errand's action. Where the hall stamped the action, no input is looked at.
+    pub fn finish<R: Wait>(&mut self, rt: &R, errand: &Errand<L>, part: ReadPart) -> Reply
+        requires { part.input ≡ errand.now.action.input }
+        ensures { Recorded self.old (Event.Finish errand.now.action.number part) result self.new }
+    {
+        let number = errand.action.number;
+        if self.has_stamped(errand) {
+            self.state.finish_known(rt, number, part)
+        } else {
+            self.state.finish(rt, number, part)
+        }
     }
 
     /// As `HallState::finish_kept`.
@@ -199,6 +269,7 @@ impl<L: Named> Counted<L> {
             state,
             mut book,
             mut rest,
+            stamper: _,
         } = self;
         for one in all {
             let Submits { count: _, share } = one;

@@ -6,7 +6,7 @@ mod desk;
 mod laws;
 mod state;
 
-pub use counted::{Counted, Named, Submits};
+pub use counted::{Counted, Errand, Named, Stamps, Submits};
 pub use desk::Desk;
 pub use laws::replay_counts;
 pub use state::HallState;

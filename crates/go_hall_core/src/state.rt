@@ -1,6 +1,7 @@
 //! The lock's value.
 ghost use Rattle.std.specs.Prelude.{if◌then◌else◌, ◌+◌, ◌≡◌, ◌⊎◌, ◌<◌, ◌≤◌, ◌++◌, ◌∷◌, [], false, true, IfErr, IfOk, MatchOption, OnOk, length, vec_capacity, vec_len};
 ghost use Rattle.go_board_core.specs.part_core.Parts.{PartModel};
+ghost use Rattle.go_sched_core.specs.Outs.{KnowsInput};
 ghost use Rattle.go_sched_core.specs.Service.{Service, empty, open_rule, submit_rule, ticket_of};
 ghost use Rattle.go_sched_core.specs.Steps.{Replay, Step, accepts};
 ghost use Rattle.go_hall_core.specs.Kept.{IsRefusal, Recorded, late, owed};
@@ -17,7 +18,6 @@ use std::marker::Model;
 use std::sync::Wait;
 
 /// The core, the events that it accepted, and the board. Contracts see the core, the history and whether the hall is stopped.
-#[derive(Drop)]
 pub struct HallState {
     core: Core,
     history: Vec<Event>,
@@ -25,6 +25,18 @@ pub struct HallState {
     desk: Option<Desk>,
     readers: Vec<BoardReader>,
     stopped: bool,
+}
+
+impl Drop for HallState {
+    fn drop(self) {
+        let HallState {
+            core: _,
+            history: _,
+            desk: _,
+            readers: _,
+            stopped: _,
+        } = self;
+    }
 }
 
 impl Model for HallState {
@@ -193,6 +205,24 @@ impl HallState {
             ready,
             Event::Finish(number, part),
         )
+    }
+
+    /// The same where the action's input is known to be the part's, if it is not finished: no input is looked at.
+    pub fn finish_known<R: Wait>(&mut self, rt: &R, number: u64, part: ReadPart) -> Reply
+        requires { KnowsInput self.old.service number part.input }
+        ensures { Recorded self.old (Event.Finish number part) result self.new }
+    {
+        let Ok(()) = self.history.reserve(self.core.sessions() + 3) else {
+            return Reply::Refused(Rule::M0);
+        };
+        let ready = match self.core.prepare_known(number, part) {
+            Ok(ready) => ready,
+            Err(reply) => return reply,
+        };
+        let Ok(()) = show(rt, &mut self.desk, &ready) else {
+            return Reply::Refused(Rule::M0);
+        };
+        written(&mut self.core, &mut self.history, ready)
     }
 
     /// Finishes an action that was handed out with the input of the last published part of its package, the one of this number, by this part: which is not

@@ -4,3 +4,4 @@ pub mod Texts
 pub mod Marking
 pub mod RowByRow
 pub mod Replacing
+pub mod Spanning

@@ -6,10 +6,14 @@
 
 mod heads;
 mod laws;
+mod listed;
 mod marks;
 mod outside;
 mod rows;
+mod spans;
 
 pub use laws::{outcomes_stay, plans_stay};
+pub use listed::ListedPlan;
 pub use marks::{Compared, compare};
 pub use rows::same_rows;
+pub use spans::span_of;

@@ -1,54 +1,29 @@
 -- A map of names with one name more, and the loop over a list of names.
-use Rattle.std.proofs.Common.{◌≡◌, ℕ, ◌+◌, ◌<◌, ◌≤◌, Bool, true, false, List, [], ◌∷◌, length, map, drop, get_or, Option, Some, None, refl, sym, ap, ◌∙◌, cond, if◌then◌else◌}
+use Rattle.std.proofs.Common.{◌≡◌, ℕ, ◌+◌, ◌<◌, ◌≤◌, Bool, true, false, List, [], ◌∷◌, length, map, drop, get_or, Option, Some, None, refl, sym, ap, ◌∙◌, cond}
 use Rattle.std.specs.Prelude.{string_bytes}
 use Rattle.std.specs.Borrow.{Bor}
 use Rattle.std.specs.Str.{bytes_eq}
 use Rattle.std.specs.String.{string_eq}
+use Rattle.std.specs.HashMap.{HashMap, Updates}
 use Rattle.std.specs.Map.{lookup}
 use Rattle.std.specs.declared.string.String.{String}
-use Rattle.std.proofs.lemmas.Bool.{true≢false}
 use Rattle.std.proofs.lemmas.Slice.Eq.{bytes_eq-Decides}
+use Rattle.std.proofs.lemmas.Cmp.{nat_list_eq_equiv}
 use Rattle.std.proofs.lemmas.List.{drop_more, drop_all}
-use Rattle.indexmap.specs.IndexMap.{insert_entry}
+use Rattle.std.proofs.lemmas.Map.Text.{hash_map_updates_text}
 use Rattle.go_index_core.specs.declared.spellings.Spelling.{Spelling}
 use Rattle.go_index_core.specs.Spelled.{spelling, joined, spelled_if, spelled_from, spelled, spelled_in, AreSpelled}
 
 same_bytes : (x y : List ℕ) → bytes_eq x y ≡ true → x ≡ y
 same_bytes x y h = (bytes_eq-Decides x y).0 h
 
-bytes_apart : (x y : List ℕ) → bytes_eq x y ≡ false → x ≡ y → ⊥
-bytes_apart x y apart same = true≢false (sym ((bytes_eq-Decides x y).1 same) ∙ apart)
+bytes_turned : (x y : List ℕ) → bytes_eq x y ≡ bytes_eq y x
+bytes_turned x y = nat_list_eq_equiv.symm x y
 
 -- what a map has at a name
 pub in_names : {Y : Type 0} (name : List ℕ) (es : List (String Y × Spelling)) → lookup (λ k. bytes_eq name (string_bytes k)) es ≡ spelled_in (map (λ e. (string_bytes e.0, e.1)) es) name
 in_names name [] = refl
 in_names name (e ∷ es) = ap (λ o. cond (bytes_eq name (string_bytes e.0)) (Some e.1) o) (in_names name es)
-
-found_inserted : {Y : Type 0} (es : List (String Y × Spelling)) (k : String Y) (v : Spelling) (other : List ℕ)
-    → spelled_in (map (λ e. (string_bytes e.0, e.1)) (insert_entry string_eq es k v)) other ≡ (if bytes_eq other (string_bytes k) then Some v else spelled_in (map (λ e. (string_bytes e.0, e.1)) es) other)
-found_inserted [] k v other = refl
-found_inserted {Y} (e ∷ es) k v other = by (bytes_eq (string_bytes k) (string_bytes e.0)) refl (found_inserted es k v other)
-  where
-    rest : Option Spelling
-    rest = spelled_in (map (λ e. (string_bytes e.0, e.1)) es) other
-
-    swap : (s t : Bool) → (s ≡ true → t ≡ true → ⊥) → cond s (Some e.1) (cond t (Some v) rest) ≡ cond t (Some v) (cond s (Some e.1) rest)
-    swap true true h = absurd (h refl refl)
-    swap true false h = refl
-    swap false t h = refl
-
-    twice : (s : Bool) → cond s (Some v) rest ≡ cond s (Some v) (cond s (Some e.1) rest)
-    twice true = refl
-    twice false = refl
-
-    by : (b : Bool) → bytes_eq (string_bytes k) (string_bytes e.0) ≡ b → spelled_in (map (λ e. (string_bytes e.0, e.1)) (insert_entry string_eq es k v)) other ≡ cond (bytes_eq other (string_bytes k)) (Some v) rest
-        → spelled_in (map (λ e. (string_bytes e.0, e.1)) (if b then (e.0, v) ∷ es else e ∷ insert_entry string_eq es k v)) other ≡ cond (bytes_eq other (string_bytes k)) (Some v) (cond (bytes_eq other (string_bytes e.0)) (Some e.1) rest)
-    by true h ind =
-        let same : string_bytes k ≡ string_bytes e.0 = same_bytes (string_bytes k) (string_bytes e.0) h in
-        twice (bytes_eq other (string_bytes e.0)) ∙ ap (λ n. cond (bytes_eq other n) (Some v) (cond (bytes_eq other (string_bytes e.0)) (Some e.1) rest)) (sym same)
-    by false h ind =
-        ap (cond (bytes_eq other (string_bytes e.0)) (Some e.1)) ind
-        ∙ swap (bytes_eq other (string_bytes e.0)) (bytes_eq other (string_bytes k)) (λ s t. bytes_apart (string_bytes k) (string_bytes e.0) h (sym (same_bytes other (string_bytes k) t) ∙ same_bytes other (string_bytes e.0) s))
 
 joined_none : (o : Option Spelling) → o ≡ joined o None
 joined_none None = refl
@@ -61,20 +36,22 @@ joined_assoc (Some a) (Some b) None = refl
 joined_assoc (Some a) (Some b) (Some c) = refl
 
 -- a map with a name more
-pub name_noted : {Y : Type 0} (old new : List (String Y × Spelling)) (key : String Y) (name : List ℕ) (at : ℕ) (v : Spelling) → string_bytes key ≡ name
-    → Some v ≡ joined (spelled_in (map (λ e. (string_bytes e.0, e.1)) old) name) (Some (spelling at false)) → new ≡ insert_entry string_eq old key v
-    → (n : List ℕ) → spelled_in (map (λ e. (string_bytes e.0, e.1)) new) n ≡ joined (spelled_in (map (λ e. (string_bytes e.0, e.1)) old) n) (spelled_if at (bytes_eq n name))
-name_noted {Y} old new key name at v is now e n =
-    ap (λ (l : List (String Y × Spelling)). spelled_in (map (λ e. (string_bytes e.0, e.1)) l) n) e
-    ∙ (found_inserted old key v n
-    ∙ (ap (λ m. if bytes_eq n m then Some v else before n) is ∙ by (bytes_eq n name) refl))
+pub name_noted : {Y S : Type 0} (old new : HashMap (String Y) Spelling S) (key : String Y) (name : List ℕ) (at : ℕ) (v : Spelling) → string_bytes key ≡ name
+    → Some v ≡ joined (spelled_in (map (λ e. (string_bytes e.0, e.1)) old.entries) name) (Some (spelling at false)) → Updates string_eq old new key (Some v)
+    → (n : List ℕ) → spelled_in (map (λ e. (string_bytes e.0, e.1)) new.entries) n ≡ joined (spelled_in (map (λ e. (string_bytes e.0, e.1)) old.entries) n) (spelled_if at (bytes_eq n name))
+name_noted old new key name at v is now put n =
+    sym (in_names n new.entries)
+    ∙ (hash_map_updates_text (string_bytes key) old new (Some v) put n
+    ∙ (ap (cond (bytes_eq (string_bytes key) n) (Some v)) (in_names n old.entries)
+    ∙ (ap (λ m. cond (bytes_eq m n) (Some v) (before n)) is ∙ by (bytes_eq name n) refl (bytes_turned name n))))
   where
     before : List ℕ → Option Spelling
-    before m = spelled_in (map (λ e. (string_bytes e.0, e.1)) old) m
+    before m = spelled_in (map (λ e. (string_bytes e.0, e.1)) old.entries) m
 
-    by : (b : Bool) → bytes_eq n name ≡ b → (if b then Some v else before n) ≡ joined (before n) (spelled_if at b)
-    by true h = now ∙ ap (λ m. joined (before m) (Some (spelling at false))) (sym (same_bytes n name h))
-    by false h = joined_none (before n)
+    by : (b : Bool) → bytes_eq name n ≡ b → bytes_eq name n ≡ bytes_eq n name → cond b (Some v) (before n) ≡ joined (before n) (spelled_if at (bytes_eq n name))
+    by true h t =
+        now ∙ (ap (λ m. joined (before m) (Some (spelling at false))) (same_bytes name n h) ∙ ap (λ c. joined (before n) (spelled_if at c)) (sym h ∙ t))
+    by false h t = joined_none (before n) ∙ ap (λ c. joined (before n) (spelled_if at c)) (sym h ∙ t)
 
 -- the loop over names: one more, and the end
 pub name_turn : (xs : List (Bor (List ℕ))) (i : ℕ) (d : Bor (List ℕ)) (old new : List (List ℕ × Spelling)) → i < length xs

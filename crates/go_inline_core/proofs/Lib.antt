@@ -1,7 +1,7 @@
+pub mod AtStarts
 pub mod ByIntervals
 pub mod FaultLemmas
 pub mod Found
-pub mod Kept
 pub mod ListLemmas
 pub mod LocalLemmas
 pub mod Lookups

@@ -1,9 +1,8 @@
 -- Types that are written inside functions and in initialisers, by the offsets of their first bytes.
 --
 -- docs/RULES.md, "Types inside functions". The Go specification, "Types", "Composite literals".
-use Rattle.std.specs.Prelude.{ℕ, List, Option, nat_eq, map}
+use Rattle.std.specs.Prelude.{ℕ, List, Option, nat_eq}
 use Rattle.std.specs.Map.{lookup}
-use Rattle.indexmap.specs.IndexMap.{IndexMap}
 use Rattle.go_term_core.specs.Terms.{Term}
 use Rattle.go_term_core.specs.Shapes.{shape}
 use Rattle.go_names_core.specs.local_core.declared.Fault.{Fault}
@@ -20,7 +19,3 @@ inline_shown t = record { term = shape t.term; faults = t.faults.items }
 -- the one at an offset: of two the first
 abbrev pub inline_at : List (ℕ × InlineOf) → ℕ → Option InlineOf
 inline_at types offset = lookup (nat_eq offset) types
-
--- the types of a map from offsets, in its order
-abbrev pub inlines_of : {S : Type 0} → IndexMap ℕ InlineType S → List (ℕ × InlineOf)
-inlines_of types = map (λ e. (e.0, inline_shown e.1)) types.entries

@@ -1,4 +1,4 @@
 pub mod Alike
-pub mod Gathering
 pub mod Listing
 pub mod Names
+pub mod Places

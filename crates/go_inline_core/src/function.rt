@@ -1,6 +1,6 @@
 //! The types that are written in a function, and in the specifications of constants and variables of a file.
 
-ghost use Rattle.std.specs.Prelude.{◌≡◌, [], IfOk, map};
+ghost use Rattle.std.specs.Prelude.{◌≡◌, IfOk, map};
 ghost use Rattle.go_tree_nodes.specs.TypeShapes.{shape_type};
 ghost use Rattle.go_tree_nodes.specs.Shapes.{func_of};
 ghost use Rattle.go_tree_nodes.specs.Trees.{FileTree};
@@ -12,7 +12,6 @@ ghost use Rattle.go_names_core.specs.Scope.{beyond_in};
 ghost use Rattle.go_inline_core.specs.Trees.{file_types, form_types, outline_types};
 ghost use Rattle.go_inline_core.specs.Functions as functions;
 ghost use Rattle.go_inline_core.specs.Inline as inline;
-ghost use Rattle.go_inline_core.specs.mirrors.Gathering.{kept};
 ghost use Rattle.go_inline_core.specs.mirrors.Listing.{Lists};
 ghost use Rattle.go_tree_nodes.specs.Spelling.{IsPlaced};
 
@@ -115,7 +114,7 @@ fn declared_types<N: TypeNames, K: Kinds>(
     kinds: &K,
     decls: &[TopDecl<'_>],
 ) -> Result<InlineTypes, AllocError>
-    ensures { IfOk result (λ types. types ≡ kept [] (inline.inlines (K.kinds kinds.now) (in_file at.now) (N.meaning top.now) (outline_types (map decl_shown decls.now)))) }
+    ensures { IfOk result (λ types. types ≡ inline.inlines (K.kinds kinds.now) (in_file at.now) (N.meaning top.now) (outline_types (map decl_shown decls.now))) }
 {
     let mut list = TypeList::new(alloc);
     list_decls(decls, &mut list);

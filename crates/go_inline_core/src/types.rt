@@ -1,13 +1,14 @@
 //! Types by the offsets where they are written.
-ghost use Rattle.std.specs.Prelude.{◌≡◌, [], IfOk, OnOk};
+ghost use Rattle.std.specs.Prelude.{◌≡◌, ℕ, nat_eq, IfOk};
+ghost use Rattle.std.specs.Map.{lookup};
 ghost use Rattle.std.specs.Option.{option_map};
-ghost use Rattle.go_inline_core.specs.Types.{inline_at, inline_shown, inlines_of};
-ghost use Rattle.go_inline_core.specs.mirrors.Gathering.{with_first, kept};
+ghost use Rattle.go_inline_core.specs.Types.{inline_at, inline_shown};
+ghost use Rattle.go_inline_core.specs.mirrors.Places.{place_at};
 
 use go_names_core::local_core::Fault;
 use go_term_core::TypeTerm;
-use indexmap::IndexMap;
 use std::alloc::{AllocError, Global};
+use std::collections::HashMap;
 use std::marker::Model;
 
 /// A type that is written inside a function or in an initialiser.
@@ -49,75 +50,93 @@ impl Note {
     {
         Note { offset, inline }
     }
+
+    // The offset in bytes of its first byte.
+    fn offset(&self) -> usize
+        ensures { result ≡ self.now.0 }
+    {
+        self.offset
+    }
+
+    // The type.
+    fn inline(&self) -> &InlineType
+        ensures { inline_shown result.now ≡ self.now.1 }
+    {
+        &self.inline
+    }
 }
 
 /// Types by the offsets in bytes of their first bytes, from the file's start. Contracts see a list of both.
 pub struct InlineTypes {
-    types: IndexMap<usize, InlineType>,
+    notes: Vec<Note>,
+    /// The place of the first note of each offset.
+    places: HashMap<usize, usize>,
 }
 
 impl Drop for InlineTypes {
     fn drop(self) {
-        let InlineTypes { types: _ } = self;
+        let InlineTypes {
+            notes: _,
+            places: _,
+        } = self;
     }
 }
 
 impl Model for InlineTypes {
-    ghost use Rattle.std.specs.Prelude.{ℕ, List};
-    ghost use Rattle.go_inline_core.specs.Types.{InlineOf, inlines_of};
+    ghost use Rattle.std.specs.Prelude.{◌≡◌, ℕ, List, nat_eq};
+    ghost use Rattle.std.specs.Map.{lookup};
+    ghost use Rattle.go_inline_core.specs.Types.{InlineOf};
     ghost use Rattle.go_inline_core.specs.codes.InlineCodes.{coded_inlines};
+    ghost use Rattle.go_inline_core.specs.mirrors.Places.{place_at};
 
     ghost Value = { List (ℕ × InlineOf) };
 
     ghost coded = { coded_inlines };
 
-    ghost view = { λ t. inlines_of t.types };
+    ghost view = { λ t. t.notes.items };
+
+    ghost invariant = { λ t. (at : ℕ) → lookup (nat_eq at) t.places.entries ≡ place_at t.notes.items at };
 }
 
-// Adds a type to a map, unless one is there at its offset.
-fn add_type(
-    types: &mut IndexMap<usize, InlineType>,
-    offset: usize,
-    inline: InlineType,
-) -> Result<(), AllocError>
-    ensures { OnOk result (inlines_of types.new ≡ with_first (inlines_of types.old) (offset, inline_shown inline)) }
+// The place of the first of some types at each offset.
+fn places_of(alloc: Global, notes: &[Note]) -> Result<HashMap<usize, usize>, AllocError>
+    ensures { IfOk result (λ places. (at : ℕ) → lookup (nat_eq at) places.entries ≡ place_at notes.now at) }
 {
-    if types.get(&offset).is_some() {
-        return Ok(());
+    let mut places = HashMap::new(alloc);
+    // The first of several at one offset is put in last, and stays.
+    for place in (0..notes.len()).rev() {
+        places.insert(notes[place].offset(), place)?;
     }
-    types.insert(offset, inline)?;
-    Ok(())
-}
-
-// A map of some types: of two at one offset the first.
-fn map_of(alloc: Global, notes: Vec<Note>) -> Result<IndexMap<usize, InlineType>, AllocError>
-    ensures { IfOk result (λ types. inlines_of types ≡ kept [] notes.items) }
-{
-    let mut types = IndexMap::new(alloc);
-    for note in notes {
-        add_type(&mut types, note.offset, note.inline)?;
-    }
-    Ok(types)
+    Ok(places)
 }
 
 impl InlineTypes {
-    /// Those of some types: of two at one offset the first.
+    /// Those of some types: of two at one offset the first counts.
     ///
     /// # Errors
     ///
     /// `AllocError` where memory is wanting.
     pub(crate) fn of(alloc: Global, notes: Vec<Note>) -> Result<InlineTypes, AllocError>
-        ensures { IfOk result (λ types. types ≡ kept [] notes.items) }
+        ensures { IfOk result (λ types. types ≡ notes.items) }
     {
-        Ok(InlineTypes {
-            types: map_of(alloc, notes)?,
-        })
+        let places = places_of(alloc, &notes)?;
+        Ok(InlineTypes { notes, places })
+    }
+
+    // The place of the first type at an offset.
+    fn place(&self, offset: usize) -> Option<usize>
+        ensures { result ≡ place_at self.now offset }
+    {
+        self.places.get(&offset).copied()
     }
 
     /// The type whose first byte is at an offset in bytes from the file's start, if one is written there.
     pub fn at(&self, offset: usize) -> Option<&InlineType>
         ensures { option_map (λ t. inline_shown t.now) result ≡ inline_at self.now offset }
     {
-        self.types.get(&offset)
+        match self.place(offset) {
+            Some(place) => Some(self.notes[place].inline()),
+            None => None,
+        }
     }
 }

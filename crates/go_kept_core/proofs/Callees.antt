@@ -1,6 +1,7 @@
 -- The functions to which references lead.
-use Rattle.std.proofs.Common.{◌≡◌, ℕ, Bool, true, false, List, Option, Some, refl, sym, ap, ◌∙◌, subst}
+use Rattle.std.proofs.Common.{◌≡◌, ℕ, Bool, true, false, List, ◌++◌, map, Option, Some, refl, sym, ap, ◌∙◌, subst}
 use Rattle.std.specs.Prelude.{slice_get}
+use Rattle.std.proofs.lemmas.List.{map-append}
 use Rattle.go_tree_nodes.specs.Rules.{Wf_file}
 use Rattle.go_tree_nodes.specs.Spelling.{IsPlaced}
 use Rattle.go_faultless_core.specs.decl_core.TopDecls.{top_decls}
@@ -16,10 +17,12 @@ use Rattle.go_faultless_core.specs.graph_core.Workspaces.{IsWorkspace, PackageMo
 use Rattle.go_faultless_core.specs.part_core.Parts.{PartModel}
 use Rattle.go_faultless_core.specs.part_core.Slots.{somes}
 use Rattle.go_faultless_core.specs.whole_core.Inputs.{AreParts}
+use Rattle.go_faultless_core.specs.instruction_core.declared.letters.Word.{Word}
 use Rattle.go_faultless_core.specs.fragment_core.Inside.{in_fragment}
 use Rattle.go_faultless_core.specs.fragment_core.Names.{CodeLooks}
 use Rattle.go_faultless_core.specs.code_core.Code.{frame_in}
 use Rattle.go_faultless_core.specs.means_core.Meaning.{SourceOf}
+use Rattle.go_faultless_core.specs.fit_core.Fitting.{receiver_over, signature_gives, taken_by}
 use Rattle.go_faultless_core.specs.link_core.Reaching.{ReachesOutside}
 use Rattle.go_faultless_core.specs.launch_core.Located.{place_declared}
 use Rattle.go_faultless_core.specs.emit_core.Emitted.{body_first}
@@ -35,8 +38,8 @@ use Rattle.go_faultless_core.specs.called_core.Sourced.{func_there}
 use Rattle.go_faultless_core.specs.typed_core.Functions.{IsFunction, source_with}
 use Rattle.go_faultless_core.specs.Parts.{PartsAreAmong, PartsShowTheirTypes}
 use Rattle.go_faultless_core.specs.Runs.{callees_of}
-use Rattle.go_kept_core.proofs.Reaching.{leads_outside}
-use Rattle.go_kept_core.specs.Callees.{DeclarationsArePlaced, FunctionsTakeWords, IsFunctionAt, ReachedAreInside, ReachedTakeWords, ReferencesLeadToFunctions}
+use Rattle.go_faultless_core.proofs.Reaching.{leads_outside}
+use Rattle.go_kept_core.specs.Callees.{DeclarationsArePlaced, FunctionsTakeWords, IsDeclaredBehind, IsFunctionAt, ReachedAreInside, ReachedTakeWords, ReferencesLeadToFunctions}
 
 pub are_placed : DeclarationsArePlaced
 are_placed path d = refl
@@ -98,6 +101,12 @@ inside_reached code ps main r runnable number s reached is = go (in_fragment (fr
     go false e =
         absurd (runnable.inside (subst (λ fs. ReachesOutside fs r.starts) (sym (runnable.begun.functions ∙ code place_declared ps)) (leads_outside (sources_of place_declared ps) r.starts number s reached is e)))
 
+-- what a function takes behind what its receiver is over
+pub behind_receiver : (program : List SourceOf) (number : ℕ) (s : SourceOf) (words : List Word) → slice_get program number ≡ Some s → taken_by s ≡ receiver_over s.looks s.tree.receiver ++ map Some words
+    → IsDeclaredBehind program number (signature_gives s.looks s.tree.signature) (receiver_over s.looks s.tree.receiver) words
+behind_receiver program number s words is takes first e =
+    record { source = s; is_source = is; given = refl; takes = takes ∙ (ap (λ os. os ++ map Some words) e ∙ sym (map-append Some first words)) }
+
 pub reached_take : ReferencesLeadToFunctions → FunctionsTakeWords → ReachedAreInside → PartsShowTheirTypes → ReachedTakeWords
 reached_take leads words inside shows ws parts well made main r runnable path d number reached is =
     let ps = somes parts in
@@ -105,10 +114,5 @@ reached_take leads words inside shows ws parts well made main r runnable path d 
     let p = at.part in
     let callees = callees_of place_declared ps at.file at.func in
     let s = source_with (code_names_of p.input p.content d.file at.file at.func) callees at.func in
-    record {
-      at = at;
-      taken = λ none. (
-          let w = words p.input p.content d.file at.tree at.file at.func at.all at.checked (shows ws parts well made p at.there) (inside ps main r runnable number s reached at.is) none callees in
-          (w.words, record { source = s; is_source = at.is; given = refl; takes = w.takes }, w.over)
-          );
-    }
+    let w = words p.input p.content d.file at.tree at.file at.func at.all at.checked (shows ws parts well made p at.there) (inside ps main r runnable number s reached at.is) callees in
+    record { at = at; taken = (w.words, behind_receiver (sources_of place_declared ps) number s w.words at.is w.takes, w.over) }

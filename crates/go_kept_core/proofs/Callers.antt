@@ -22,15 +22,17 @@ use Rattle.go_faultless_core.specs.laws_core.ConstantLaws.{code_names_of}
 use Rattle.go_faultless_core.specs.entry_core.Among.{Among}
 use Rattle.go_faultless_core.specs.whole_core.Lists.{all_from_among}
 use Rattle.go_faultless_core.specs.launch_core.Located.{place_declared}
+use Rattle.go_faultless_core.specs.sources_core.Sources.{sources_of}
 use Rattle.go_faultless_core.specs.typed_core.Functions.{function_looks, known_types, source_with}
 use Rattle.go_faultless_core.specs.Parts.{PartsAreAmong}
 use Rattle.go_faultless_core.specs.Runs.{callees_of}
 use Rattle.go_kept_core.specs.Callees.{FunctionsTakeWords, ReachedAreInside}
 use Rattle.go_kept_core.specs.Headers.{HeadersAreOfSignatures, signature_in}
 use Rattle.go_kept_core.specs.Callers.{OwnCalleesTakeWords, OwnSignaturesAreTheirs}
+use Rattle.go_kept_core.proofs.Callees.{behind_receiver}
 use Rattle.go_kept_core.proofs.Own.{right, some_func}
 
-position_same : (ws : List WrittenOf) (a b : DeclRef) → a.file ≡ b.file → a.number ≡ b.number → position_of ws a ≡ position_of ws b
+pub position_same : (ws : List WrittenOf) (a b : DeclRef) → a.file ≡ b.file → a.number ≡ b.number → position_of ws a ≡ position_of ws b
 position_same [] a b f n = refl
 position_same (w ∷ ws) a b f n =
     let first : same_decl_place w.decl a ≡ same_decl_place w.decl b =
@@ -61,13 +63,13 @@ own_signatures exact i c part placed d s is t tree decl among number g form =
     sym signs
 
 pub own_callees : PartsAreAmong → FunctionsTakeWords → ReachedAreInside → HeadersAreOfSignatures → OwnSignaturesAreTheirs → OwnCalleesTakeWords
-own_callees among words inside headers own ws parts well made main r runnable path d number reached at none s is n t all =
+own_callees among words inside headers own ws parts well made main r runnable path d number reached at s is n t all =
     let ps = somes parts in
     let p = at.part in
     let fits = among ws parts well made p at.there in
     let callees = callees_of place_declared ps at.file at.func in
     let source = source_with (code_names_of p.input p.content d.file at.file at.func) callees at.func in
-    let w = words p.input p.content d.file at.tree at.file at.func at.all at.checked fits.shows (inside ps main r runnable number source reached at.is) none callees in
+    let w = words p.input p.content d.file at.tree at.file at.func at.all at.checked fits.shows (inside ps main r runnable number source reached at.is) callees in
     let written = own p.input p.content fits.part fits.files.placed d s is at.tree at.checked.tree at.decl at.among at.declared at.func at.form in
     let taken = ap (λ (x : Sign). (function_looks p.input p.content d.file at.tree at.all).params x) written ∙ headers p.input p.content d.file at.tree at.file at.func at.all at.checked in
-    (w.words, record { source = source; is_source = at.is; given = refl; takes = w.takes }, subst (λ us. AreOverEach (function_looks p.input p.content n t all).types w.words us) (sym taken) w.over)
+    (w.words, behind_receiver (sources_of place_declared ps) number source w.words at.is w.takes, subst (λ us. AreOverEach (function_looks p.input p.content n t all).types w.words us) (sym taken) w.over)

@@ -17,10 +17,7 @@ use Rattle.go_faultless_core.specs.fold_core.Reading.{IsOver}
 use Rattle.go_faultless_core.specs.fit_core.Fitting.{listed_gives, result_gives, signature_gives}
 use Rattle.go_faultless_core.specs.meaning_core.Words.{results_give, sign_gives, some_word}
 use Rattle.go_faultless_core.specs.typed_core.Words.{term_over}
-
-word_there : (o : Option Word) → is_some o ≡ true → (w : Word) × (o ≡ Some w)
-word_there None e = absurd (cc e)
-word_there (Some w) e = (w, refl)
+use Rattle.go_kept_core.proofs.Words.{some_of}
 
 module _ (es : List Entry) (path : List ℕ) (mean : Meaning) (file : InFile) (code : CodeLooks) (written : TypeTree → Option Term) where
   abbrev the_type : TypeTree → Option Term
@@ -39,7 +36,7 @@ module _ (es : List Entry) (path : List ℕ) (mean : Meaning) (file : InFile) (c
   some_over (Some t) w h = term_over es path t w h
 
   word_same : (u : TypeTree) → the_type u ≡ written u → ((w : Word) → type_word code u ≡ Some w → IsOver (term_rules es path) w (written u)) → is_some (type_word code u) ≡ true → some_word es (the_type u) ≡ type_word code u
-  word_same u same each inside = (let w = word_there (type_word code u) inside in ap (some_word es) same ∙ (some_over (written u) w.0 (each w.0 w.1) ∙ sym w.1))
+  word_same u same each inside = (let w = some_of (type_word code u) inside in ap (some_word es) same ∙ (some_over (written u) w.0 (each w.0 w.1) ∙ sym w.1))
 
   listed_same : (ps : ParamTrees) → AreSame (params_types ps) → AreOver (params_types ps) → listed_result_inside code ps ≡ true
       → results_give es (all_typed (find_entry es) (settled_terms (kinds_in es) (params_of_tree mean file ps))) ≡ listed_gives code ps

@@ -29,7 +29,7 @@ use Rattle.go_faultless_core.specs.func_core.Regions.{header_unseen, none_outsid
 use Rattle.go_faultless_core.specs.part_core.Inputs.{InputModel}
 use Rattle.go_faultless_core.specs.part_core.Parts.{ContentOf, FileOf}
 use Rattle.go_faultless_core.specs.laws_core.Standing.{stand_in_part}
-use Rattle.go_faultless_core.specs.laws_core.ConstantLists.{HasItem}
+use Rattle.go_faultless_core.specs.laws_core.ConstantLists.{HasItem, has_left}
 use Rattle.go_faultless_core.specs.typed_core.Functions.{IsFunction, function_looks, known_types}
 use Rattle.go_faultless_core.specs.typed_core.Ready.{AreGiven, placed}
 use Rattle.go_kept_core.specs.Callees.{types_taken}
@@ -40,13 +40,8 @@ each_item P [] x h k = absurd k
 each_item P (y ∷ ys) x h (inl e) = subst P e h.0
 each_item P (y ∷ ys) x h (inr k) = each_item P ys x h.1 k
 
-left : (us vs : List TypeTree) (u : TypeTree) → HasItem us u → HasItem (us ++ vs) u
-left [] vs u k = absurd k
-left (v ∷ us) vs u (inl e) = inl e
-left (v ∷ us) vs u (inr k) = inr (left us vs u k)
-
 -- outside functions no name is a local
-top_at : (st : FileStand) (m : TypeName) → named_where (outer_look st) st.top m ≡ st.top m
+pub top_at : (st : FileStand) (m : TypeName) → named_where (outer_look st) st.top m ≡ st.top m
 top_at st (type_names.Plain x) = ap (λ b. if b then NoType else st.top (type_names.Plain x)) (none_outside st.scene.blocks st.file.file x.name)
 top_at st (type_names.Qualified q dot x) = ap (λ b. if b then NoType else st.top (type_names.Qualified q dot x)) (none_outside st.scene.blocks st.file.file q.name)
 
@@ -77,7 +72,7 @@ module _ (looks : TheLooks) (es : List Entry) where
         entry_same xs (term_of st.top st.file u) (written_type looks u) (params_of_tree st.top st.file rest) (entry_types looks true rest) (each u (inl refl)) (params_same rest (λ v k. each v (inr k)))
 
     signature_same : (s : SignatureTree) → AreSame (signature_types s) → param_types_of (find_entry es) (settled_sign (kinds_in es) (signature_of st.top st.file s)) ≡ types_taken looks s
-    signature_same (Signed first ps last r) each = params_same ps (λ u k. each u (left (params_types ps) (result_types r) u k))
+    signature_same (Signed first ps last r) each = params_same ps (λ u k. each u (has_left (params_types ps) (result_types r) u k))
 
 module _ (laws : AreGiven) (i : InputModel) (c : ContentOf) (n : ℕ) (t : FileTree) (f : FileOf) (g : FuncTree) (all : List (Local NameMeaning)) (h : IsFunction i c n t f g all) where
   abbrev stand : FileStand

@@ -35,8 +35,8 @@ own_references one leads callees ws parts well made main r runnable p there d s 
     record {
       at = at;
       same = same;
-      taken = λ none n t all. (
-          let w = callees ws parts well made main r runnable (path_in p.input) d number reached at none s (subst (λ (x : PartModel). IsOwnFunction x.input x.content d s) (sym same) own) n t all in
+      taken = λ n t all. (
+          let w = callees ws parts well made main r runnable (path_in p.input) d number reached at s (subst (λ (x : PartModel). IsOwnFunction x.input x.content d s) (sym same) own) n t all in
           (w.0, w.1, subst (λ (x : PartModel). AreOverEach (function_looks x.input x.content n t all).types w.0 ((function_looks x.input x.content n t all).params s)) same w.2)
           );
     }

@@ -1,9 +1,8 @@
 pub mod Words
 pub mod Headers
 pub mod Own
-pub mod Callers
-pub mod Reaching
 pub mod Callees
+pub mod Callers
 pub mod Joined
 pub mod Finding
 pub mod Bound
@@ -18,5 +17,10 @@ pub mod Moves
 pub mod Moved
 pub mod Gives
 pub mod Results
+pub mod Settling
+pub mod Owned
+pub mod Received
+pub mod Receivers
+pub mod Selecting
 pub mod Kept
 pub mod Running

@@ -6,17 +6,17 @@ use Rattle.std.specs.Str.{bytes_eq}
 use Rattle.std.proofs.lemmas.List.{get_or_default}
 use Rattle.std.proofs.lemmas.Option.{none-some, slice_get-map}
 use Rattle.std.proofs.lemmas.Slice.Eq.{bytes_eq-Decides}
-use Rattle.go_faultless_core.specs.cycle_core.declared.edge.Edge.{Edge}
-use Rattle.go_faultless_core.specs.cycle_core.Cycle.{Leads, Reaches}
+use Rattle.go_faultless_core.specs.cycle_core.Cycle.{Reaches}
 use Rattle.go_index_core.specs.declared.spellings.Spelling.{Spelling}
 use Rattle.go_index_core.specs.Spelled.{joined, spelled_from, spelled_if}
 use Rattle.go_faultless_core.specs.object_core.Objects.{FunctionOf, ObjectOf}
-use Rattle.go_faultless_core.specs.entry_core.Among.{Among, among_cases, among_flat, among_from, among_left, among_right, among_to, map_among}
+use Rattle.go_faultless_core.specs.entry_core.Among.{Among, among_cases, among_flat, among_from, among_to, map_among}
 use Rattle.go_faultless_core.specs.link_core.Functions.{PlaceModel, all_functions, is_called, number_if, numbers_called}
 use Rattle.go_faultless_core.specs.link_core.Packages.{PackageOf, entry_if, entry_in, entry_of, package_number, package_of, packages_from, packages_of}
-use Rattle.go_faultless_core.specs.link_core.Reaching.{ReachesMissing, edge, edge_if, edges_from, has_none, import_edges}
+use Rattle.go_faultless_core.specs.link_core.Reaching.{ReachesMissing, edge, has_none, import_edges}
 use Rattle.go_faultless_core.specs.link_core.Order.{in_turn, initialised, inits_in, is_marked, is_ready, marked_in, taken}
 use Rattle.go_faultless_core.specs.link_core.Linked.{IsRunnable, RunnableOf, program_of}
+use Rattle.go_faultless_core.proofs.Reaching.{edges_have, leads_further}
 
 -- the number of the package of a path
 
@@ -42,20 +42,20 @@ get_right : {A : Type 0} (xs ys : List A) (n : ℕ) (x : A) → slice_get ys n �
 get_right [] ys n x e = (let sum : 0 + n ≡ n = omega arith in subst (λ m. slice_get ys m ≡ Some x) (sym sum) e)
 get_right (y ∷ xs) ys n x e = (let sum : suc (length xs) + n ≡ suc (length xs + n) = omega arith in subst (λ m. slice_get (y ∷ (xs ++ ys)) m ≡ Some x) (sym sum) (get_right xs ys n x e))
 
-among_get : {A : Type 0} (xs : List A) (n : ℕ) (x : A) → slice_get xs n ≡ Some x → Among xs x
+pub among_get : {A : Type 0} (xs : List A) (n : ℕ) (x : A) → slice_get xs n ≡ Some x → Among xs x
 among_get [] n x e = absurd (none-some x e)
 among_get (y ∷ xs) zero x e = (let some : Some y ≡ Some x = e in inl (cc some))
 among_get (y ∷ xs) (suc n) x e = inr (among_get xs n x e)
 
 -- items of a list that is taken from another
 
-among_taken : (i : ℕ) (xs : List ℕ) (k : ℕ) → Among (take i xs) k → Among xs k
+pub among_taken : {A : Type 0} (i : ℕ) (xs : List A) (k : A) → Among (take i xs) k → Among xs k
 among_taken zero xs k h = absurd h
 among_taken (suc i) [] k h = absurd h
 among_taken (suc i) (x ∷ xs) k (inl e) = inl e
 among_taken (suc i) (x ∷ xs) k (inr h) = inr (among_taken i xs k h)
 
-among_dropped : (i : ℕ) (xs : List ℕ) (k : ℕ) → Among (drop i xs) k → Among xs k
+pub among_dropped : {A : Type 0} (i : ℕ) (xs : List A) (k : A) → Among (drop i xs) k → Among xs k
 among_dropped zero xs k h = h
 among_dropped (suc i) [] k h = absurd h
 among_dropped (suc i) (x ∷ xs) k h = inr (among_dropped i xs k h)
@@ -97,29 +97,6 @@ marked_from order marks k h =
     by n true e (inl s) = subst (λ m. is_marked marks m ≡ true) s e
     by n true e (inr none) = absurd none
     by n false e none = absurd none
-
--- edges from packages to those that they import
-
-row_has : (n : ℕ) (row : List (Option ℕ)) (to : ℕ) → Among row (Some to) → Among (flat_map (edge_if n) row) (edge n to)
-row_has n [] to h = absurd h
-row_has n (None ∷ row) to (inl e) = absurd (cc e)
-row_has n (None ∷ row) to (inr h) = row_has n row to h
-row_has n (Some m ∷ row) to (inl e) = let same : m ≡ to = cc e in inl (ap (edge n) same)
-row_has n (Some m ∷ row) to (inr h) = inr (row_has n row to h)
-
-edges_have : (rows : List (List (Option ℕ))) (n k : ℕ) (row : List (Option ℕ)) (to : ℕ) → slice_get rows k ≡ Some row → Among row (Some to) → Among (edges_from n rows) (edge (n + k) to)
-edges_have [] n k row to is h = absurd (none-some row is)
-edges_have (r ∷ rows) n zero row to is h =
-    let same : r ≡ row = cc is in
-    let sum : n ≡ n + 0 = omega arith in
-    among_left (flat_map (edge_if n) r) (edges_from (n + 1) rows) (edge (n + 0) to) (subst (λ m. Among (flat_map (edge_if n) r) (edge m to)) sum (row_has n r to (subst (λ l. Among l (Some to)) (sym same) h)))
-edges_have (r ∷ rows) n (suc k) row to is h =
-    let sum : n + 1 + k ≡ n + suc k = omega arith in
-    among_right (flat_map (edge_if n) r) (edges_from (n + 1) rows) (edge (n + suc k) to) (subst (λ m. Among (edges_from (n + 1) rows) (edge m to)) sum (edges_have rows (n + 1) k row to is h))
-
-leads_further : (edges es : List Edge) (a b c : ℕ) → Leads edges es a b → Contains edges (edge b c) → Leads edges (es ++ edge b c ∷ []) a c
-leads_further edges [] a b c h k = (k, sym h, refl)
-leads_further edges (e ∷ es) a b c h k = (h.0, h.1, leads_further edges es e.to b c h.2 k)
 
 none_there : (row : List (Option ℕ)) → Among row None → has_none row ≡ true
 none_there [] h = absurd h

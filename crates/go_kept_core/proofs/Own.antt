@@ -1,9 +1,8 @@
 -- A function among a package's own declarations is one that it declares.
-use Rattle.std.proofs.Common.{◌≡◌, inl, inr, ℕ, suc, ◌+◌, Bool, true, false, List, [], ◌∷◌, ◌++◌, map, All, Option, Some, None, nat_eq, refl, sym, ap, subst, arith, ◌∙◌, append-nil, if◌then◌else◌}
+use Rattle.std.proofs.Common.{◌≡◌, inl, inr, ℕ, suc, ◌+◌, Bool, true, false, List, [], ◌∷◌, map, All, Option, Some, None, nat_eq, refl, sym, ap, subst, arith, ◌∙◌, if◌then◌else◌}
 use Rattle.std.specs.Prelude.{option_map, slice_get, slice_index_or}
 use Rattle.std.specs.List.{enumerate_from}
 use Rattle.std.proofs.lemmas.Bool.{and_parts, eqb-true}
-use Rattle.std.proofs.lemmas.Grind.{flat_map-append}
 use Rattle.go_tree_nodes.specs.declared.decls.ValueKind.{ValueKind}
 use Rattle.go_tree_nodes.specs.declared.decls.ValueKind.TheVariants as kinds
 use Rattle.go_tree_nodes.specs.Spelling.{IsPlaced}
@@ -26,14 +25,12 @@ use Rattle.go_faultless_core.specs.value_core.Laws.{AreFaces}
 use Rattle.go_faultless_core.specs.value_core.Package.{PlacedOf, form_face, some_face, top_looks, value_face, written_face}
 use Rattle.go_faultless_core.specs.ready_core.Laws.{package_placed}
 use Rattle.go_faultless_core.specs.ready_core.Packages.{PackageIn, outlines_in, scene_in, trees_in}
-use Rattle.go_faultless_core.specs.ready_core.Values.{AreDeclared}
 use Rattle.go_faultless_core.specs.ready_core.Tables.{values_as_written}
-use Rattle.go_faultless_core.specs.summary_core.Summaries.{SummaryModel}
-use Rattle.go_faultless_core.specs.summary_core.Views.{types_told}
 use Rattle.go_faultless_core.specs.part_core.Inputs.{InputModel}
 use Rattle.go_faultless_core.specs.part_core.Parts.{ContentOf, IsPart, package_seen, seen_by}
 use Rattle.go_faultless_core.specs.laws_core.ConstantLists.{HasItem, contained, from_flat, has_get}
 use Rattle.go_faultless_core.specs.typed_core.Functions.{known_types}
+use Rattle.go_faultless_core.proofs.Shows.{declared}
 use Rattle.go_kept_core.specs.Headers.{signature_in}
 use Rattle.go_kept_core.specs.Own.{IsDeclaredFunction, OwnFunctionsAreDeclared}
 
@@ -72,7 +69,7 @@ module _ (g : Sign) where
   no_value mean f es kinds.Var None e = cc e
   no_value mean f es kinds.Const t e = cc e
 
-  form_written : (mean : WrittenMeaning) (f : WrittenFile) (es : List Entry) (n : ℕ) (t : FormTree) → form_as_written mean f es n t ≡ Some (faces.Func g)
+  pub form_written : (mean : WrittenMeaning) (f : WrittenFile) (es : List Entry) (n : ℕ) (t : FormTree) → form_as_written mean f es n t ≡ Some (faces.Func g)
       → (x : FuncTree) × (t ≡ FuncForm x) × (g ≡ settled_sign (kinds_in es) (signature_of mean f x.signature))
   form_written mean f es n (ValueForm k v m) e = absurd (no_value mean f es k v.type_expr e)
   form_written mean f es n (TypeForm t) e = absurd (cc e)
@@ -98,7 +95,7 @@ position_there (x ∷ ws) d k e w is = by (λ m p at. position_there ws d m p w 
 
 -- outlines of trees, numbered
 
-enumerated : (k : ℕ) (ts : List FileTree) (q : ℕ × FileOutline) → HasItem (enumerate_from k (map outline_of ts)) q → (n : ℕ) × (t : FileTree) × (slice_get ts n ≡ Some t) × ((k + n, outline_of t) ≡ q)
+pub enumerated : (k : ℕ) (ts : List FileTree) (q : ℕ × FileOutline) → HasItem (enumerate_from k (map outline_of ts)) q → (n : ℕ) × (t : FileTree) × (slice_get ts n ≡ Some t) × ((k + n, outline_of t) ≡ q)
 enumerated k [] q h = absurd h
 enumerated k (t ∷ ts) q (inl e) = (let sum : k + 0 ≡ k = omega arith in (0, t, refl, ap (λ m. (m, outline_of t)) sum ∙ e))
 enumerated k (t ∷ ts) q (inr h) =
@@ -118,16 +115,8 @@ module _ (i : InputModel) (c : ContentOf) (part : IsPart i c) (placed : All IsPl
   abbrev es : List Entry
   es = known_types i c
 
-  types_are : es ≡ types_told i.reached ++ part.checked.types
-  types_are =
-      flat_map-append (λ (s : SummaryModel). s.types.entries) i.reached (c.summary ∷ [])
-      ∙ ap (λ l. types_told i.reached ++ l) (append-nil c.summary.types.entries ∙ ap (λ (s : SummaryModel). s.types.entries) part.summary)
-
-  declared : AreDeclared p es c.declared
-  declared = subst (AreDeclared p es) (sym part.declared) (subst (λ ts. AreDeclared p ts part.checked.declared) (sym types_are) part.is_checked.declared)
-
   pub right : AreFaces (scene_in p es) (package_placed p es) c.declared
-  right = (values_as_written.values p es c.declared placed).1 declared
+  right = (values_as_written.values p es c.declared placed).1 (declared i c part)
 
   of_file : (d : DeclRef) (g : Sign) (n : ℕ) (t : FileTree) → slice_get (trees_in i.source) n ≡ Some t → (w : WrittenOf) → w.face ≡ Some (faces.Func g) → same_decl_place w.decl d ≡ true
       → HasItem (file_written (package_meanings p.shows p.path p.blocks n) (file_at p.path n (outline_of t)) es (top_decls t)) w → IsDeclaredFunction i c d g

@@ -1,5 +1,5 @@
 -- The functions that a program reaches are of packages that are part of it.
-use Rattle.std.proofs.Common.{◌≡◌, ◌⊎◌, inl, inr, ℕ, zero, suc, Bool, true, false, All, List, [], ◌∷◌, map, take, drop, Contains, Option, Some, None, nat_lt, refl, sym, ap, ◌∙◌, subst, if◌then◌else◌}
+use Rattle.std.proofs.Common.{◌≡◌, ◌⊎◌, inl, inr, ℕ, suc, Bool, true, false, All, List, [], ◌∷◌, map, drop, Contains, Option, Some, None, nat_lt, refl, sym, ap, ◌∙◌, subst, if◌then◌else◌}
 use Rattle.std.specs.Prelude.{slice_get}
 use Rattle.std.specs.List.{flat_map, prefix_len}
 use Rattle.std.proofs.lemmas.Option.{none-some}
@@ -66,7 +66,7 @@ use Rattle.go_faultless_core.specs.file_core.Laws.{FunctionsArePlaced}
 use Rattle.go_faultless_core.specs.func_core.Laws.{FunctionsHaveOneTable}
 use Rattle.go_kept_core.proofs.Callees.{function_at}
 use Rattle.go_kept_core.proofs.Importing.{import_comes}
-use Rattle.go_kept_core.proofs.Linking.{IsReachedPath, import_reached, none_missing, root, start_reached}
+use Rattle.go_kept_core.proofs.Linking.{IsReachedPath, among_dropped, among_get, among_taken, import_reached, none_missing, root, start_reached}
 
 -- the functions of an object are declared in its package
 
@@ -95,26 +95,10 @@ in_package s f n (t ∷ ts) (x ∷ files) h = by (among_cases (functions_of s.pa
 
 -- occurrences of a body are among those of the file
 
-among_taken : (n : ℕ) (us : List TheUse) (u : TheUse) → Among (take n us) u → Among us u
-among_taken zero us u h = absurd h
-among_taken (suc n) [] u h = absurd h
-among_taken (suc n) (x ∷ us) u (inl e) = inl e
-among_taken (suc n) (x ∷ us) u (inr h) = inr (among_taken n us u h)
-
-among_dropped : (n : ℕ) (us : List TheUse) (u : TheUse) → Among (drop n us) u → Among us u
-among_dropped zero us u h = h
-among_dropped (suc n) [] u h = absurd h
-among_dropped (suc n) (x ∷ us) u h = inr (among_dropped n us u h)
-
 each_among : {A : Type 0} (P : A → Type 0) (xs : List A) (x : A) → Each P xs → Among xs x → P x
 each_among P [] x h k = absurd k
 each_among P (y ∷ ys) x h (inl e) = subst P e h.0
 each_among P (y ∷ ys) x h (inr k) = each_among P ys x h.1 k
-
-among_get : {A : Type 0} (xs : List A) (n : ℕ) (x : A) → slice_get xs n ≡ Some x → Among xs x
-among_get [] n x e = absurd (none-some x e)
-among_get (y ∷ xs) zero x e = (let some : Some y ≡ Some x = e in inl (cc some))
-among_get (y ∷ xs) (suc n) x e = inr (among_get xs n x e)
 
 item_of : {A : Type 0} (xs : List A) (x : A) → HasItem xs x → Among xs x
 item_of [] x h = absurd h

@@ -1,11 +1,8 @@
--- Programs run as their sources mean where the methods that they call take and give words of their signatures.
+-- Programs run as their sources mean.
 use Rattle.std.proofs.Common.{◌≡◌, ℕ, true, List, Option, Some, Contains, sym, ◌∙◌, subst}
 use Rattle.std.specs.Prelude.{slice_get}
-use Rattle.go_tree_nodes.specs.Trees.{FileTree, FuncTree}
-use Rattle.go_faultless_core.specs.local_core.Binding.{Local}
-use Rattle.go_faultless_core.specs.env_core.declared.meaning.Meaning.{Meaning as NameMeaning}
 use Rattle.go_faultless_core.specs.graph_core.Workspaces.{IsWorkspace, PackageModel}
-use Rattle.go_faultless_core.specs.part_core.Parts.{FileOf, PartModel}
+use Rattle.go_faultless_core.specs.part_core.Parts.{PartModel}
 use Rattle.go_faultless_core.specs.part_core.Slots.{somes}
 use Rattle.go_faultless_core.specs.whole_core.Inputs.{AreParts}
 use Rattle.go_faultless_core.specs.fragment_core.Inside.{in_fragment}
@@ -22,17 +19,15 @@ use Rattle.go_faultless_core.specs.laws_core.ConstantLaws.{code_names_of}
 use Rattle.go_faultless_core.specs.typed_core.Fits.{FunctionsFit}
 use Rattle.go_faultless_core.specs.typed_core.Functions.{source_with}
 use Rattle.go_faultless_core.specs.called_core.Starts.{StartsTakeNothing}
-use Rattle.go_faultless_core.specs.Called.{AreMethodsKept, CallsAreServed}
+use Rattle.go_faultless_core.specs.Called.{CallsAreServed}
 use Rattle.go_faultless_core.specs.Parts.{PartsAreAmong}
-use Rattle.go_faultless_core.specs.Runs.{IsRun, ReachedProgramsRun, callees_of}
+use Rattle.go_faultless_core.specs.Runs.{ReachedProgramsRun, callees_of}
 use Rattle.go_faultless_core.specs.Served.{FunctionsAreServed}
-use Rattle.go_kept_core.specs.Kept.{ProgramsRun, ReferencesAreKept}
+use Rattle.go_kept_core.specs.Kept.{IsRun, MethodsAreKept, ProgramsRun, ReferencesAreKept}
 use Rattle.go_kept_core.specs.Reached.{IsInProgram, ReachedAreInProgram}
 
-module _ (reach : ReachedAreInProgram) (kept : ReferencesAreKept) (served : FunctionsAreServed) (calls : CallsAreServed) (fit : FunctionsFit) (among : PartsAreAmong) (ws : List PackageModel) (parts : List (Option PartModel)) (well : IsWorkspace ws) (made : AreParts ws parts)
-    (main : List ℕ) (r : RunnableOf) (runnable : IsRunnable (program_of place_declared (objects_of (somes parts)) main) r)
-    (theirs : (p : PartModel) (n : ℕ) (t : FileTree) (f : FileOf) (g : FuncTree) (all : List (Local NameMeaning)) → IsRun place_declared (somes parts) r.starts p n t f g all
-    → AreMethodsKept (sources_of place_declared (somes parts)) (number_of place_declared (all_functions (objects_of (somes parts)))) p.input p.content n t f g all) where
+module _ (reach : ReachedAreInProgram) (kept : ReferencesAreKept) (methods : MethodsAreKept) (served : FunctionsAreServed) (calls : CallsAreServed) (fit : FunctionsFit) (among : PartsAreAmong) (ws : List PackageModel) (parts : List (Option PartModel)) (well : IsWorkspace ws) (made : AreParts ws parts)
+    (main : List ℕ) (r : RunnableOf) (runnable : IsRunnable (program_of place_declared (objects_of (somes parts)) main) r) where
   abbrev sources : List SourceOf
   sources = sources_of place_declared (somes parts)
 
@@ -48,20 +43,28 @@ module _ (reach : ReachedAreInProgram) (kept : ReferencesAreKept) (served : Func
       let some : Some s ≡ Some (source_with (code_names_of p.input p.content n a.file a.func) callees a.func) = sym is ∙ a.is in
       let same : s ≡ source_with (code_names_of p.input p.content n a.file a.func) callees a.func = cc some in
       let inside_alone = subst (λ (y : SourceOf). in_fragment (frame_in y.looks y.tree) y.tree ≡ true) same inside in
-      let run : IsRun place_declared (somes parts) r.starts p n a.tree a.file a.func a.all = record { number = number; reached = reached; part = a.there; function = a.checked; there = a.is; inside = inside_alone } in
-      let keeps = kept ws parts well made main r runnable p n a.tree a.file a.func a.all run (subst (λ y. IsInProgram (somes parts) main r y) (sym a.of_path) x.in_program) in
-      let methods = theirs p n a.tree a.file a.func a.all run in
-      let leads = calls ws parts well made p a.there n a.tree a.file a.func a.all a.checked sources (number_of place_declared (all_functions (objects_of (somes parts)))) keeps methods in
+      let run : IsRun (somes parts) main r p n a.tree a.file a.func a.all = record {
+        number = number;
+        reached = reached;
+        part = a.there;
+        in_program = subst (λ y. IsInProgram (somes parts) main r y) (sym a.of_path) x.in_program;
+        function = a.checked;
+        there = a.is;
+        inside = inside_alone;
+      } in
+      let functions_are = kept ws parts well made main r runnable p n a.tree a.file a.func a.all run in
+      let methods_are = methods ws parts well made main r runnable p n a.tree a.file a.func a.all run in
+      let leads = calls ws parts well made p a.there n a.tree a.file a.func a.all a.checked sources (number_of place_declared (all_functions (objects_of (somes parts)))) functions_are methods_are in
       subst (λ y. FunctionFits sources y) (sym same)
       (fit sources callees p.input p.content n a.tree a.file a.func a.all a.checked right.shows (served ws parts well made sources callees p a.there n a.tree a.file a.func a.all a.checked leads) inside_alone)
 
-pub programs_run : ReachedAreInProgram → ReferencesAreKept → FunctionsAreServed → CallsAreServed → FunctionsFit → PartsAreAmong → StartsTakeNothing → ObjectsAreCodeOfSources → ReachedProgramsRun → ProgramsRun
-programs_run reach kept served calls fit among starts code run ws parts faults well snapshot main r runnable theirs =
+pub programs_run : ReachedAreInProgram → ReferencesAreKept → MethodsAreKept → FunctionsAreServed → CallsAreServed → FunctionsFit → PartsAreAmong → StartsTakeNothing → ObjectsAreCodeOfSources → ReachedProgramsRun → ProgramsRun
+programs_run reach kept methods served calls fit among starts code run ws parts faults well snapshot main r runnable =
     let ps = somes parts in
     let right = λ (p : PartModel) (h : Contains ps p). among ws parts well snapshot.made p h in
     run (program_of place_declared (objects_of ps) main) (sources_of place_declared ps) r (record {
       runnable = runnable;
       functions = code place_declared ps;
-      fit = reached_fits reach kept served calls fit among ws parts well snapshot.made main r runnable theirs;
+      fit = reached_fits reach kept methods served calls fit among ws parts well snapshot.made main r runnable;
       starting = starts place_declared ps main r (λ p h. record { input = (right p h).input; part = (right p h).part; files = (right p h).files }) runnable.begun;
     })

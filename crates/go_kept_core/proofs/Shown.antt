@@ -1,10 +1,7 @@
 -- What the check of a part finds as a function is one that a part declares under a name of its block.
-use Rattle.std.proofs.Common.{◌≡◌, inl, inr, ℕ, Bool, true, false, List, [], ◌∷◌, Contains, Option, Some, None, refl, sym, ap, subst, ◌∙◌, if◌then◌else◌}
+use Rattle.std.proofs.Common.{◌≡◌, inl, inr, ℕ, List, [], ◌∷◌, Contains, Option, Some, refl, sym, ap, subst, ◌∙◌}
 use Rattle.std.specs.Prelude.{slice_get}
-use Rattle.std.specs.Str.{bytes_eq, chars}
 use Rattle.std.proofs.lemmas.List.{map-append}
-use Rattle.std.proofs.lemmas.Slice.Eq.{bytes_eq-Decides}
-use Rattle.go_faultless_core.specs.text_core.Text.{exported}
 use Rattle.go_tree_nodes.specs.Trees.{FileTree, FuncTree}
 use Rattle.go_faultless_core.specs.decl_core.declared.keys.DeclKey.{DeclKey}
 use Rattle.go_faultless_core.specs.decl_core.declared.keys.DeclRef.{DeclRef}
@@ -19,16 +16,12 @@ use Rattle.go_term_core.specs.Terms.{Sign}
 use Rattle.go_term_core.specs.declared.term.MemberPlace.TheVariants as places
 use Rattle.go_faultless_core.specs.entry_core.Among.{Among, among_from, among_to}
 use Rattle.go_faultless_core.specs.entry_core.Entries.{package_meanings}
-use Rattle.go_faultless_core.specs.entry_core.Outlines.{FileOutline, IsOutline}
 use Rattle.go_faultless_core.specs.handle_core.Declarations.{Declaration, InFile}
 use Rattle.go_faultless_core.specs.face_core.declared.face.Face.TheVariants as faces
-use Rattle.go_faultless_core.specs.face_core.declared.shown.ShownFace.TheVariants as shown_faces
 use Rattle.go_faultless_core.specs.face_core.Faces.{TheFace}
-use Rattle.go_faultless_core.specs.face_core.Packages.{DeclaredOf, PackageFacesModel, exported_in, face_among, face_by, face_in, names_seen, package_faces, package_in, shown_by, shown_in_some}
-use Rattle.go_faultless_core.specs.face_core.Written.{DeclsRise, WrittenOf, decls_of}
-use Rattle.go_faultless_core.specs.face_core.Ascending.{written_rises}
-use Rattle.go_faultless_core.specs.face_core.Displaying.{shows_its_block as faces_show}
-use Rattle.go_answer_core.specs.Shown.{exported_decls, shown_among}
+use Rattle.go_faultless_core.specs.face_core.Packages.{PackageFacesModel, exported_in, face_by, face_in}
+use Rattle.go_faultless_core.specs.face_core.Written.{WrittenOf}
+use Rattle.go_answer_core.specs.Shown.{exported_decls}
 use Rattle.go_faultless_core.specs.env_core.declared.meaning.Meaning.{Meaning as NameMeaning}
 use Rattle.go_faultless_core.specs.env_core.declared.meaning.Meaning.TheVariants as means
 use Rattle.go_faultless_core.specs.env_core.Found.{own_face}
@@ -38,7 +31,7 @@ use Rattle.go_faultless_core.specs.summary_core.Summaries.{SummaryModel, path_of
 use Rattle.go_faultless_core.specs.summary_core.Laws.{TellsWhatItDoes}
 use Rattle.go_faultless_core.specs.summary_core.Views.{faces_told}
 use Rattle.go_faultless_core.specs.summary_core.Telling.{views_tell}
-use Rattle.go_faultless_core.specs.ready_core.Packages.{outlines_in, scene_in, trees_in}
+use Rattle.go_faultless_core.specs.ready_core.Packages.{scene_in, trees_in}
 use Rattle.go_faultless_core.specs.part_core.Inputs.{InputModel, path_in}
 use Rattle.go_faultless_core.specs.part_core.Parts.{ContentOf, FileOf, IsPart, PartModel, package_seen, seen_by}
 use Rattle.go_faultless_core.specs.part_core.Slots.{somes}
@@ -48,7 +41,7 @@ use Rattle.go_faultless_core.specs.meaning_core.Words.{sign_gives}
 use Rattle.go_faultless_core.specs.emit_core.Emitted.{code_scene_over, told_to}
 use Rattle.go_faultless_core.specs.whole_core.Inputs.{ComesTo, ReachesPackage, Shown}
 use Rattle.go_faultless_core.specs.whole_core.mirrors.Steps.{AreRight}
-use Rattle.go_faultless_core.specs.whole_core.Lists.{all_from_among, among_all}
+use Rattle.go_faultless_core.specs.whole_core.Lists.{among_all}
 use Rattle.go_faultless_core.specs.whole_core.Order.{reaches_next}
 use Rattle.go_faultless_core.specs.whole_core.Parts.{of_one, told_by, told_to as told_there, well_reached}
 use Rattle.go_faultless_core.specs.whole_core.PartsWhole.{all_right}
@@ -58,25 +51,14 @@ use Rattle.go_faultless_core.specs.typed_core.Outer.{all_local, outside_of}
 use Rattle.go_faultless_core.specs.typed_core.Functions.{IsFunction, function_looks, known_types}
 use Rattle.go_faultless_core.proofs.Alike.{among_somes, numbered_in}
 use Rattle.go_faultless_core.proofs.Dotted.{bound_shown, exported_among, import_stands}
-use Rattle.go_faultless_core.proofs.Shows.{faces_are, shown_known, unique}
+use Rattle.go_faultless_core.proofs.Shows.{exported_from, faces_are, name_seen, rises, shown_known, unique}
 use Rattle.go_faultless_core.specs.Called.{IsFunctionOf}
 use Rattle.go_kept_core.specs.Callers.{IsOwnFunction}
 use Rattle.go_kept_core.specs.Shown.{FunctionsAreOfParts, IsFunctionOfPart, NamesLeadToNoMethods}
 use Rattle.go_kept_core.proofs.Bound.{named_outside}
-use Rattle.go_kept_core.proofs.Callers.{outlined}
 use Rattle.go_kept_core.proofs.Finding.{Bound, IsBoundFunction, IsNamedFunction, IsShownFunction, Own, behind_function, named_function}
 use Rattle.go_kept_core.proofs.Seen.{other_meant, own_meant, shown_first}
 use Rattle.go_kept_core.proofs.Unreceived.{no_receiver}
-
--- of some packages the one that shows a name
-exported_from : (ss : List SummaryModel) (path name : List ℕ) (d : DeclRef) (o : Option TheFace) → exported_in (faces_told ss) path name ≡ shown_faces.Shown d o → (s : SummaryModel) × Among ss s × (path ≡ s.faces.path)
-exported_from [] path name d o h = absurd (let no : shown_faces.Absent ≡ shown_faces.Shown d o = h in cc)
-exported_from (s ∷ ss) path name d o h = by (bytes_eq path s.faces.path) refl h (λ k. exported_from ss path name d o k)
-  where
-    by : (b : Bool) → bytes_eq path s.faces.path ≡ b → shown_in_some (if b then Some s.faces else package_in (faces_told ss) path) name ≡ shown_faces.Shown d o
-        → (exported_in (faces_told ss) path name ≡ shown_faces.Shown d o → (t : SummaryModel) × Among ss t × (path ≡ t.faces.path)) → (t : SummaryModel) × Among (s ∷ ss) t × (path ≡ t.faces.path)
-    by true e h rest = (s, inl refl, (bytes_eq-Decides path s.faces.path).0 e)
-    by false e h rest = (let r = rest h in (r.0, inr r.1, r.2))
 
 -- a package
 
@@ -84,43 +66,9 @@ module _ (i : InputModel) (c : ContentOf) (part : IsPart i c) where
   abbrev written : List WrittenOf
   written = (scene_in (package_seen i c.blocks (seen_by i)) (known_types i c)).written
 
-  outlines : List FileOutline
-  outlines = outlines_in (package_seen i c.blocks (seen_by i))
-
-  rises : DeclsRise (decls_of written)
-  rises =
-      let p = package_seen i c.blocks (seen_by i) in
-      written_rises (package_meanings p.shows p.path p.blocks) p.path (known_types i c) (outlines_in p) (all_from_among IsOutline (outlines_in p) (λ o h. outlined (trees_in i.source) o h))
-
   -- what it shows of a declaration is what it has for it
   known_of : (d : DeclRef) (f : TheFace) → face_by c.summary.faces d ≡ Some f → own_face (scene_in (package_seen i c.blocks (seen_by i)) (known_types i c)) c.declared d ≡ Some f
-  known_of d f h = shown_known (exported_decls c.blocks.names) d f written c.declared rises (sym (ap (λ (m : PackageFacesModel). face_by m d) (faces_are i c part)) ∙ h)
-
-  -- a name that is seen behind a dot
-  record IsSeen (name : List ℕ) (d : DeclRef) (f : TheFace) : Type 0 where
-    there : in_block c.blocks.names name ≡ Some d
-    face : face_by c.summary.faces d ≡ Some f
-
-  abbrev listed : List DeclaredOf
-  listed = shown_among (exported_decls c.blocks.names) (decls_of written) c.declared
-
-  name_seen : (name : List ℕ) (d : DeclRef) (f : TheFace) → shown_by c.summary.faces name ≡ shown_faces.Shown d (Some f) → IsSeen name d f
-  name_seen name d f h = by (in_block c.blocks.names name) (exported (chars name)) refl refl
-    where
-      here : shown_by (package_faces (path_in i) (names_seen c.blocks.names) listed) name ≡ shown_faces.Shown d (Some f)
-      here = sym (ap (λ (m : PackageFacesModel). shown_by m name) (faces_are i c part)) ∙ h
-
-      by : (o : Option DeclRef) (x : Bool) → in_block c.blocks.names name ≡ o → exported (chars name) ≡ x → IsSeen name d f
-      by None x k e = absurd (let no : shown_faces.Absent ≡ shown_faces.Shown d (Some f) = sym (faces_show.absent (path_in i) c.blocks.names listed name k) ∙ here in cc no)
-      by (Some a) false k e = absurd (let no : shown_faces.Hidden ≡ shown_faces.Shown d (Some f) = sym (faces_show.hidden (path_in i) c.blocks.names listed name a k e) ∙ here in cc no)
-      by (Some a) true k e =
-          let both : shown_faces.Shown a (face_among listed a) ≡ shown_faces.Shown d (Some f) = sym (faces_show.shown (path_in i) c.blocks.names listed name a k e) ∙ here in
-          let one : a ≡ d = cc both in
-          let face : face_among listed a ≡ Some f = cc both in
-          record {
-            there = k ∙ ap (λ (x : DeclRef). Some x) one;
-            face = ap (λ (m : PackageFacesModel). face_by m d) (faces_are i c part) ∙ (ap (face_among listed) (sym one) ∙ face);
-          }
+  known_of d f h = shown_known (exported_decls c.blocks.names) d f written c.declared (rises i c part) (sym (ap (λ (m : PackageFacesModel). face_by m d) (faces_are i c part)) ∙ h)
 
 -- a function of a workspace
 

@@ -116,7 +116,7 @@ number_from [] n a h k = absurd k
 number_from (d ∷ ds) n a h (inl e) = (let low = h.0 in let same : d.number ≡ a.number = ap (λ (x : TopDeclTree). x.number) e in omega (arith, low, same))
 number_from (d ∷ ds) n a h (inr k) = (let low = h.0 in let rest = number_from ds (d.number + 1) a h.1 k in omega (arith, low, rest))
 
-one_number : (ds : List TopDeclTree) (n : ℕ) (a b : TopDeclTree) → NumbersFrom n ds → Among ds a → Among ds b → a.number ≡ b.number → a ≡ b
+pub one_number : (ds : List TopDeclTree) (n : ℕ) (a b : TopDeclTree) → NumbersFrom n ds → Among ds a → Among ds b → a.number ≡ b.number → a ≡ b
 one_number [] n a b h i j e = absurd i
 one_number (d ∷ ds) n a b h (inl i) (inl j) e = sym i ∙ j
 one_number (d ∷ ds) n a b h (inl i) (inr j) e = (let low = number_from ds (d.number + 1) b h.1 j in let same : d.number ≡ a.number = ap (λ (x : TopDeclTree). x.number) i in absurd (omega (arith, low, same, e)))

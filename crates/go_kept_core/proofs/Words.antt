@@ -17,7 +17,7 @@ use Rattle.go_faultless_core.specs.fragment_core.Names.{CodeLooks}
 use Rattle.go_faultless_core.specs.fold_core.Reading.{IsOver}
 use Rattle.go_faultless_core.specs.fit_core.Fitting.{entry_over, names_over, params_over, receiver_over, signature_over}
 use Rattle.go_faultless_core.specs.laws_core.ConstantLaws.{code_names_of}
-use Rattle.go_faultless_core.specs.laws_core.ConstantLists.{HasItem}
+use Rattle.go_faultless_core.specs.laws_core.ConstantLists.{HasItem, has_left}
 use Rattle.go_faultless_core.specs.clear_core.Statements.{AreOverEach}
 use Rattle.go_faultless_core.specs.typed_core.Functions.{function_looks}
 use Rattle.go_faultless_core.specs.typed_core.Ready.{AreGiven}
@@ -30,14 +30,9 @@ record AreWords (rules : TypeRules Term) (os : List (Option Word)) (us : List (O
   takes : os ≡ map Some words
   over : AreOverEach rules words us
 
-some_of : (o : Option Word) → is_some o ≡ true → (w : Word) × (o ≡ Some w)
+pub some_of : (o : Option Word) → is_some o ≡ true → (w : Word) × (o ≡ Some w)
 some_of None e = absurd (cc e)
 some_of (Some w) e = (w, refl)
-
-left : (us vs : List TypeTree) (u : TypeTree) → HasItem us u → HasItem (us ++ vs) u
-left [] vs u k = absurd k
-left (v ∷ us) vs u (inl e) = inl e
-left (v ∷ us) vs u (inr k) = inr (left us vs u k)
 
 module _ (looks : TheLooks) (code : CodeLooks) where
   abbrev Over : List (Option Word) → List (Option Term) → Type 0
@@ -66,12 +61,12 @@ module _ (looks : TheLooks) (code : CodeLooks) where
 
   signature_words : (s : SignatureTree) → ((u : TypeTree) → HasItem (signature_types s) u → (w : Word) → type_word code u ≡ Some w → IsOver looks.types w (written_type looks u))
       → signature_inside code s ≡ true → Over (signature_over code s) (types_taken looks s)
-  signature_words (Signed first ps last r) each inside = params_words ps (λ u k. each u (left (params_types ps) (result_types r) u k)) (and_parts (params_inside code ps) (results_inside code r) inside).0
+  signature_words (Signed first ps last r) each inside = params_words ps (λ u k. each u (has_left (params_types ps) (result_types r) u k)) (and_parts (params_inside code ps) (results_inside code r) inside).0
 
 pub take_words : AreGiven → FunctionsTakeWords
-take_words laws i c n t f g all h shows inside none callees =
+take_words laws i c n t f g all h shows inside callees =
     let code = code_names_of i c n f g in
     let looks = function_looks i c n t all in
     let head = and_parts (receiver_inside code g.receiver) (signature_inside code g.signature) (and_parts (receiver_inside code g.receiver && signature_inside code g.signature) _ inside).0 in
     let words = signature_words looks code g.signature (header_over laws i c n t f g all h shows) head.1 in
-    record { words = words.words; takes = ap (λ o. receiver_over code o ++ signature_over code g.signature) none ∙ words.takes; over = words.over }
+    record { words = words.words; takes = ap (λ os. receiver_over code g.receiver ++ os) words.takes; over = words.over }

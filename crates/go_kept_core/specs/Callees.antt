@@ -1,7 +1,7 @@
 -- The functions to which references lead: where they are declared, and what they take.
 --
 -- docs/RULES.md, "Stack code", "Programs". The Go specification, "Calls", "Function declarations", "Function types".
-use Rattle.std.specs.Prelude.{◌≡◌, ℕ, true, List, map, Option, Some, None, Contains, slice_get}
+use Rattle.std.specs.Prelude.{◌≡◌, ℕ, true, List, ◌++◌, map, Option, Some, Contains, slice_get}
 use Rattle.go_tree_nodes.specs.Trees.{FileTree, FuncTree, SignatureTree, Signed}
 use Rattle.go_faultless_core.specs.decl_core.TopDecls.{FuncForm, TopDeclTree, top_decls}
 use Rattle.go_faultless_core.specs.decl_core.declared.keys.DeclRef.{DeclRef}
@@ -18,10 +18,11 @@ use Rattle.go_faultless_core.specs.part_core.Parts.{ContentOf, FileOf, PartModel
 use Rattle.go_faultless_core.specs.part_core.Slots.{somes}
 use Rattle.go_faultless_core.specs.whole_core.Inputs.{AreParts}
 use Rattle.go_faultless_core.specs.instruction_core.declared.letters.Word.{Word}
+use Rattle.go_faultless_core.specs.fragment_core.declared.names.Gives.{Gives}
 use Rattle.go_faultless_core.specs.fragment_core.Inside.{in_fragment}
 use Rattle.go_faultless_core.specs.code_core.Code.{frame_in}
 use Rattle.go_faultless_core.specs.means_core.Meaning.{SourceOf}
-use Rattle.go_faultless_core.specs.fit_core.Fitting.{IsDeclared, signature_gives, taken_by}
+use Rattle.go_faultless_core.specs.fit_core.Fitting.{IsDeclared, receiver_over, signature_gives, taken_by}
 use Rattle.go_faultless_core.specs.fit_core.Laws.{IsReached}
 use Rattle.go_faultless_core.specs.link_core.Functions.{all_functions, number_of}
 use Rattle.go_faultless_core.specs.link_core.Linked.{IsRunnable, RunnableOf, program_of}
@@ -67,17 +68,17 @@ ReferencesLeadToFunctions =
 abbrev pub types_taken : TheLooks → SignatureTree → List (Option Term)
 types_taken looks (Signed first params last results) = entry_types looks true params
 
--- a function without a receiver takes words over the types of its parameters
+-- a function takes words over the types of its parameters, behind what its receiver is over
 pub record TakesWords (i : InputModel) (c : ContentOf) (n : ℕ) (t : FileTree) (g : FuncTree) (all : List (Local NameMeaning)) (s : SourceOf) : Type 0 where
   pub words : List Word
-  pub takes : taken_by s ≡ map Some words
+  pub takes : taken_by s ≡ receiver_over s.looks s.tree.receiver ++ map Some words
   pub over : AreOverEach (function_looks i c n t all).types words (types_taken (function_looks i c n t all) g.signature)
 
 -- so it is of each of which code is made
 abbrev pub FunctionsTakeWords : Type 0
 FunctionsTakeWords =
     (i : InputModel) (c : ContentOf) (n : ℕ) (t : FileTree) (f : FileOf) (g : FuncTree) (all : List (Local NameMeaning)) → IsFunction i c n t f g all → ShowTheirTypes i c
-    → in_fragment (frame_in (code_names_of i c n f g) g) g ≡ true → g.receiver ≡ None → (callees : List (Option ℕ)) → TakesWords i c n t g all (source_with (code_names_of i c n f g) callees g)
+    → in_fragment (frame_in (code_names_of i c n f g) g) g ≡ true → (callees : List (Option ℕ)) → TakesWords i c n t g all (source_with (code_names_of i c n f g) callees g)
 
 -- in a program of the objects of parts that can be run code is made of each function to which references lead
 abbrev pub ReachedAreInside : Type 0
@@ -85,11 +86,16 @@ ReachedAreInside =
     (ps : List PartModel) (main : List ℕ) (r : RunnableOf) → IsRunnable (program_of place_declared (objects_of ps) main) r
     → (number : ℕ) (s : SourceOf) → IsReached (sources_of place_declared ps) r.starts number → slice_get (sources_of place_declared ps) number ≡ Some s → in_fragment (frame_in s.looks s.tree) s.tree ≡ true
 
+-- a function gives this, and takes these words behind each one that its receiver is over, if it has one
+abbrev pub IsDeclaredBehind : List SourceOf → ℕ → Gives → List (Option Word) → List Word → Type 0
+IsDeclaredBehind program number g receiver words = (first : List Word) → receiver ≡ map Some first → IsDeclared program number g (first ++ words)
+
 -- a function of a number takes words over the types of the parameters of its header, and gives what its own result gives
 pub record IsDeclaredAt (ps : List PartModel) (path : List ℕ) (d : DeclRef) (number : ℕ) : Type 0 where
   pub at : IsFunctionAt ps path d number
-  pub taken : at.func.receiver ≡ None
-      → (words : List Word) × IsDeclared (sources_of place_declared ps) number (signature_gives (code_names_of at.part.input at.part.content d.file at.file at.func) at.func.signature) words
+  pub taken : (words : List Word)
+      × IsDeclaredBehind (sources_of place_declared ps) number (signature_gives (code_names_of at.part.input at.part.content d.file at.file at.func) at.func.signature)
+      (receiver_over (code_names_of at.part.input at.part.content d.file at.file at.func) at.func.receiver) words
       × AreOverEach (function_looks at.part.input at.part.content d.file at.tree at.all).types words (types_taken (function_looks at.part.input at.part.content d.file at.tree at.all) at.func.signature)
 
 -- so it is of each function of a workspace to which a reference leads that is reached, where the program can be run

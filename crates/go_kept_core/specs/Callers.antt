@@ -1,7 +1,7 @@
 -- The functions that a package calls of its own: what they take is over what its calls are checked by.
 --
 -- docs/RULES.md, "Faces of declarations", "Stack code". The Go specification, "Calls", "Function declarations".
-use Rattle.std.specs.Prelude.{◌≡◌, ℕ, All, List, Option, Some, None, Contains, slice_get}
+use Rattle.std.specs.Prelude.{◌≡◌, ℕ, All, List, Option, Some, Contains, slice_get}
 use Rattle.go_tree_nodes.specs.Spelling.{IsPlaced}
 use Rattle.go_tree_nodes.specs.Trees.{FileTree, FuncTree}
 use Rattle.go_faultless_core.specs.decl_core.TopDecls.{FuncForm, TopDeclTree, top_decls}
@@ -20,7 +20,7 @@ use Rattle.go_faultless_core.specs.part_core.Parts.{ContentOf, IsPart, PartModel
 use Rattle.go_faultless_core.specs.part_core.Slots.{somes}
 use Rattle.go_faultless_core.specs.whole_core.Inputs.{AreParts}
 use Rattle.go_faultless_core.specs.instruction_core.declared.letters.Word.{Word}
-use Rattle.go_faultless_core.specs.fit_core.Fitting.{IsDeclared, signature_gives}
+use Rattle.go_faultless_core.specs.fit_core.Fitting.{receiver_over, signature_gives}
 use Rattle.go_faultless_core.specs.fit_core.Laws.{IsReached}
 use Rattle.go_faultless_core.specs.link_core.Functions.{all_functions, number_of}
 use Rattle.go_faultless_core.specs.link_core.Linked.{IsRunnable, RunnableOf, program_of}
@@ -30,7 +30,7 @@ use Rattle.go_faultless_core.specs.sources_core.Sources.{sources_of}
 use Rattle.go_faultless_core.specs.laws_core.ConstantLaws.{code_names_of}
 use Rattle.go_faultless_core.specs.clear_core.Statements.{AreOverEach}
 use Rattle.go_faultless_core.specs.typed_core.Functions.{function_looks, known_types}
-use Rattle.go_kept_core.specs.Callees.{IsFunctionAt}
+use Rattle.go_kept_core.specs.Callees.{IsDeclaredBehind, IsFunctionAt}
 use Rattle.go_kept_core.specs.Headers.{signature_in}
 
 -- a package has this signature for what is declared by the identifier of a number in the file of a number among its own
@@ -44,14 +44,16 @@ OwnSignaturesAreTheirs =
     → (t : FileTree) → slice_get (trees_in i.source) d.file ≡ Some t → (decl : TopDeclTree) → Contains (top_decls t) decl → decl.number ≡ d.number → (g : FuncTree) → decl.form ≡ FuncForm g
     → s ≡ signature_in i c d.file t g
 
--- so each function of a workspace that is reached, without a receiver, takes words over the parameters of the signature by which calls in all functions of
--- its own package are checked, and gives what its own result gives
+-- so each function of a workspace that is reached takes words over the parameters of the signature by which calls in all functions of its own package are
+-- checked, behind what its receiver is over, and gives what its own result gives
 abbrev pub OwnCalleesTakeWords : Type 0
 OwnCalleesTakeWords =
     (ws : List PackageModel) (parts : List (Option PartModel)) → IsWorkspace ws → AreParts ws parts → (main : List ℕ) (r : RunnableOf) → IsRunnable (program_of place_declared (objects_of (somes parts)) main) r
-    → (path : List ℕ) (d : DeclRef) (number : ℕ) → IsReached (sources_of place_declared (somes parts)) r.starts number → (at : IsFunctionAt (somes parts) path d number) → at.func.receiver ≡ None
+    → (path : List ℕ) (d : DeclRef) (number : ℕ) → IsReached (sources_of place_declared (somes parts)) r.starts number → (at : IsFunctionAt (somes parts) path d number)
     → (s : Sign) → IsOwnFunction at.part.input at.part.content d s → (n : ℕ) (t : FileTree) (all : List (Local NameMeaning))
-    → (words : List Word) × IsDeclared (sources_of place_declared (somes parts)) number (signature_gives (code_names_of at.part.input at.part.content d.file at.file at.func) at.func.signature) words
+    → (words : List Word)
+    × IsDeclaredBehind (sources_of place_declared (somes parts)) number (signature_gives (code_names_of at.part.input at.part.content d.file at.file at.func) at.func.signature)
+    (receiver_over (code_names_of at.part.input at.part.content d.file at.file at.func) at.func.receiver) words
     × AreOverEach (function_looks at.part.input at.part.content n t all).types words ((function_looks at.part.input at.part.content n t all).params s)
 
 -- the parts of a workspace that are of one path are one part
@@ -59,12 +61,15 @@ abbrev pub PartsOfAPathAreOne : Type 0
 PartsOfAPathAreOne =
     (ws : List PackageModel) (parts : List (Option PartModel)) → IsWorkspace ws → AreParts ws parts → (p q : PartModel) → Contains (somes parts) p → Contains (somes parts) q → path_in p.input ≡ path_in q.input → p ≡ q
 
--- a number is that of a function of this part, which takes words over the parameters of a signature as each function of the part sees it
+-- a number is that of a function of this part, which takes words over the parameters of a signature as each function of the part sees it, behind what its
+-- receiver is over
 pub record IsOwnCallee (ps : List PartModel) (p : PartModel) (d : DeclRef) (number : ℕ) (s : Sign) : Type 0 where
   pub at : IsFunctionAt ps (path_in p.input) d number
   pub same : at.part ≡ p
-  pub taken : at.func.receiver ≡ None → (n : ℕ) (t : FileTree) (all : List (Local NameMeaning))
-      → (words : List Word) × IsDeclared (sources_of place_declared ps) number (signature_gives (code_names_of at.part.input at.part.content d.file at.file at.func) at.func.signature) words
+  pub taken : (n : ℕ) (t : FileTree) (all : List (Local NameMeaning))
+      → (words : List Word)
+      × IsDeclaredBehind (sources_of place_declared ps) number (signature_gives (code_names_of at.part.input at.part.content d.file at.file at.func) at.func.signature)
+      (receiver_over (code_names_of at.part.input at.part.content d.file at.file at.func) at.func.receiver) words
       × AreOverEach (function_looks p.input p.content n t all).types words ((function_looks p.input p.content n t all).params s)
 
 -- so it is of each number of a part's own function that is reached

@@ -4,4 +4,5 @@ pub mod Own
 pub mod Callers
 pub mod Reached
 pub mod Shown
+pub mod Methods
 pub mod Kept

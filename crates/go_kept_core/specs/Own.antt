@@ -31,3 +31,9 @@ abbrev pub OwnFunctionsAreDeclared : Type 0
 OwnFunctionsAreDeclared =
     (i : InputModel) (c : ContentOf) → IsPart i c → All IsPlaced (trees_in i.source)
     → (d : DeclRef) (s : Sign) → own_face (scene_in (package_seen i c.blocks (seen_by i)) (known_types i c)) c.declared d ≡ Some (faces.Func s) → IsDeclaredFunction i c d s
+
+-- and what it declares as a function, or as a method, it has for one
+abbrev pub DeclaredFunctionsAreOwn : Type 0
+DeclaredFunctionsAreOwn =
+    (i : InputModel) (c : ContentOf) → IsPart i c → All IsPlaced (trees_in i.source)
+    → (d : DeclRef) (s : Sign) → IsDeclaredFunction i c d s → own_face (scene_in (package_seen i c.blocks (seen_by i)) (known_types i c)) c.declared d ≡ Some (faces.Func s)

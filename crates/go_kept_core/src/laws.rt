@@ -2,8 +2,9 @@
 ghost use Rattle.go_kept_core.specs.Callers.{OwnCalleesTakeWords, OwnReferencesTakeWords, OwnSignaturesAreTheirs, PartsOfAPathAreOne};
 ghost use Rattle.go_kept_core.specs.Callees.{DeclarationsArePlaced, FunctionsTakeWords, ReachedAreInside, ReachedTakeWords, ReferencesLeadToFunctions};
 ghost use Rattle.go_kept_core.specs.Headers.{HeadersAreOfSignatures};
-ghost use Rattle.go_kept_core.specs.Kept.{ProgramsRun, ReferencesAreKept};
-ghost use Rattle.go_kept_core.specs.Own.{OwnFunctionsAreDeclared};
+ghost use Rattle.go_kept_core.specs.Kept.{MethodsAreKept, ProgramsRun, ReferencesAreKept};
+ghost use Rattle.go_kept_core.specs.Methods.{MethodsAreOfParts, ReceiversTakeWords};
+ghost use Rattle.go_kept_core.specs.Own.{DeclaredFunctionsAreOwn, OwnFunctionsAreDeclared};
 ghost use Rattle.go_kept_core.specs.Reached.{ReachedAreInProgram, SeenAreInProgram};
 ghost use Rattle.go_kept_core.specs.Shown.{FunctionsAreOfParts, FunctionsHaveNumbers, HeadersGiveTheirResults, NamesLeadToNoMethods, SignaturesAreAlike};
 
@@ -16,8 +17,8 @@ use go_faultless_core::sources_core::objects_are_code_of_sources;
 use go_faultless_core::typed_core::functions_fit;
 use go_faultless_core::whole_core::{check_is_local, imports_bind_theirs};
 use go_faultless_core::{
-    calls_are_served, functions_are_served, parts_are_among, parts_show_their_types,
-    reached_programs_run,
+    calls_are_served, functions_are_served, methods_are_declared, methods_give_theirs,
+    parts_are_among, parts_show_their_types, reached_programs_run,
 };
 
 /// Each declaration outside functions is at the place of its identifier.
@@ -40,9 +41,9 @@ pub fn references_lead_to_functions()
     functions_are_placed();
 }
 
-/// A function without a receiver of which code is made takes a word for each of its parameters, over the type that is written for it.
+/// A function of which code is made takes a word for each of its parameters, over the type that is written for it, behind what its receiver is over.
 ///
-/// The Go specification, "Function types".
+/// The Go specification, "Function types", "Method declarations".
 pub fn functions_take_words()
     ensures { FunctionsTakeWords }
 {
@@ -97,6 +98,15 @@ pub fn own_functions_are_declared()
     ensures { OwnFunctionsAreDeclared }
 {}
 
+/// What a package declares as a function, or as a method, it has for one among its own declarations, by the signature that is written there.
+///
+/// The Go specification, "Function declarations", "Method declarations".
+pub fn declared_functions_are_own()
+    ensures { DeclaredFunctionsAreOwn }
+{
+    positions_are_exact();
+}
+
 /// The signature that a package has for one of its own functions is the one that is written in the header there.
 ///
 /// The Go specification, "Function declarations".
@@ -106,8 +116,8 @@ pub fn own_signatures_are_theirs()
     positions_are_exact();
 }
 
-/// In a program of a workspace that can be run each function that is reached, without a receiver, takes words over the parameters of the signature by which its
-/// own package checks calls.
+/// In a program of a workspace that can be run each function that is reached takes words over the parameters of the signature by which its own package checks
+/// calls, behind what its receiver is over.
 ///
 /// The Go specification, "Calls", "Function declarations".
 pub fn own_callees_take_words()
@@ -215,6 +225,33 @@ pub fn signatures_are_alike()
     imports_bind_theirs();
 }
 
+/// A method of a type over `int` or `bool` that a package knows, of its own types or another package's, is a function that the type's package declares, and its
+/// receiver is over the same there.
+///
+/// The Go specification, "Method declarations", "Selectors", "Exported identifiers".
+pub fn methods_are_of_parts()
+    ensures { MethodsAreOfParts }
+{
+    declared_functions_are_own();
+    parts_are_among();
+    check_is_local();
+    imports_bind_theirs();
+}
+
+/// A function of which code is made takes one word over its receiver, where the base of the receiver is a type over this.
+///
+/// The Go specification, "Method declarations".
+pub fn receivers_take_words()
+    ensures { ReceiversTakeWords }
+{
+    bodies_are_between_braces();
+    functions_are_placed();
+    functions_have_one_table();
+    imports_bind_theirs();
+    locals_are_declarations();
+    objects_are_of_faultless();
+}
+
 /// In a program of a workspace that can be run each function to which a function of the program refers is there, of its own package or of another; it takes words
 /// over the parameters of the signature by which its calls were checked, and gives what the caller's code has for it.
 ///
@@ -234,8 +271,29 @@ pub fn references_are_kept()
     signatures_are_alike();
 }
 
-/// A program of a snapshot that can be run comes to what its sources mean, where the methods to which the functions that are reached refer are there, and
-/// take and give words of the signatures by which their calls were checked.
+/// In a program of a workspace that can be run each method of a type over `int` or `bool` to which a function of the program refers is there, of a type of its own
+/// package or of another; it takes a word over its receiver and words over the parameters of the signature by which its calls were checked, and gives what the
+/// caller's code has for it.
+///
+/// The Go specification, "Calls", "Method declarations", "Selectors".
+pub fn methods_are_kept()
+    ensures { MethodsAreKept }
+{
+    methods_are_declared();
+    methods_give_theirs();
+    methods_are_of_parts();
+    receivers_take_words();
+    seen_are_in_program();
+    functions_have_numbers();
+    parts_are_among();
+    own_references_take_words();
+    own_signatures_are_theirs();
+    headers_give_their_results();
+    reached_are_inside();
+    signatures_are_alike();
+}
+
+/// A program of a snapshot that can be run comes to what its sources mean.
 ///
 /// The Go specification, "Packages", "Program initialization and execution".
 pub fn programs_run()
@@ -243,6 +301,7 @@ pub fn programs_run()
 {
     reached_are_in_program();
     references_are_kept();
+    methods_are_kept();
     functions_are_served();
     calls_are_served();
     functions_fit();

@@ -6,10 +6,11 @@
 mod laws;
 
 pub use laws::{
-    declarations_are_placed, functions_are_of_parts, functions_have_numbers, functions_take_words,
-    headers_are_of_signatures, headers_give_their_results, names_lead_to_no_methods,
+    declarations_are_placed, declared_functions_are_own, functions_are_of_parts,
+    functions_have_numbers, functions_take_words, headers_are_of_signatures,
+    headers_give_their_results, methods_are_kept, methods_are_of_parts, names_lead_to_no_methods,
     own_callees_take_words, own_functions_are_declared, own_references_take_words,
     own_signatures_are_theirs, parts_of_a_path_are_one, programs_run, reached_are_in_program,
-    reached_are_inside, reached_take_words, references_are_kept, references_lead_to_functions,
-    seen_are_in_program, signatures_are_alike,
+    reached_are_inside, reached_take_words, receivers_take_words, references_are_kept,
+    references_lead_to_functions, seen_are_in_program, signatures_are_alike,
 };

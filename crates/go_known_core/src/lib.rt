@@ -26,11 +26,6 @@ pub mod inline_core {
     pub use go_value_core::inline_core::{Ground, InlineTypes, function_types, initialiser_types};
 }
 
-/// What the crates above name of `go_names_core`.
-pub mod names_core {
-    pub use go_value_core::names_core::Outside;
-}
-
 /// What the crates above name of `go_operand_core`.
 pub mod operand_core {
     pub use go_value_core::operand_core::{Operand, TypeForm, ValueType};

@@ -7,7 +7,7 @@ use Rattle.go_embed_core.specs.table_core.Entries.{Entry, find_entry}
 use Rattle.go_embed_core.specs.Owners.{OwnerModel, EmbeddedEdge, owner_in, embeds_at, owner_field_count}
 use Rattle.go_level_core.specs.Paths.{Step, FieldsLead}
 use Rattle.go_level_core.specs.declared.level.Reached.{Reached}
-use Rattle.go_level_core.specs.mirrors.Ways.{At, Way, way_of, ways, arrow, crowded, IsNumbered, IsNumber, IsRight, Pushed, Entered, known, again, fresh, loose}
+use Rattle.go_level_core.specs.mirrors.Ways.{At, Way, way_of, ways, arrow, crowded, IsNumbered, IsNumber, IsRight, Pushed, Noted, Entered, known, again, fresh, loose}
 use Rattle.go_level_core.specs.mirrors.Levels.{Sooner, IsWay, Covers, Apart, IsLevel, Before, OtherArrow, IsMade, Carries, weight, left, bound, IsLighter, IsNext}
 use Rattle.go_level_core.proofs.ListLemmas.{at_old, at_new, at_append, at_set_same, at_set_other, at_set, at_same, at_within, same_or_not, last_same, last_of, less_or_same, below_or_not}
 use Rattle.go_level_core.proofs.Edges.{step_at, step_edge, step_same, step_within, edge_place}
@@ -234,19 +234,19 @@ module _ (es : List Entry) (first : ℕ) (level : List Way) (met : List (ℕ × 
   right_old : IsRight es (ws ++ arrow y e ∷ []) mets
   right_old = record { at = λ m q h. let r = g.right.at m q h in (r.0, at_old ws (arrow y e) q r.0 r.1, r.2) }
 
-  right_new : (n : ℕ) → IsNumbered es n e.target → lookup (nat_eq n) mets ≡ None → IsRight es (ws ++ arrow y e ∷ []) (mets ++ (n, length ws) ∷ [])
-  right_new n num none =
+  right_new : (n : ℕ) (mets' : List (ℕ × ℕ)) → IsNumbered es n e.target → Noted n (length ws) mets mets' → IsRight es (ws ++ arrow y e ∷ []) mets'
+  right_new n mets' num noted =
       record {
-        at = λ m q h. elim (lookup_cases mets n (length ws) m q none h) [
+        at = λ m q h. elim (lookup_cases mets mets' n (length ws) m q noted h) [
           | inl s ↦ (arrow y e, subst (λ k. At (ws ++ arrow y e ∷ []) k (arrow y e)) (sym s.1) (at_new ws (arrow y e)), subst (λ k. IsNumbered es k e.target) (sym s.0) num)
           | inr r ↦ let o = g.right.at m q r in (o.0, at_old ws (arrow y e) q o.0 o.1, o.2)
         ];
       }
 
-  falls_new : (n : ℕ) → IsNumbered es n e.target → lookup (nat_eq n) mets ≡ None
-      → (left es (mets ++ (n, length ws) ∷ []) < left es met) ⊎ ((left es (mets ++ (n, length ws) ∷ []) ≡ left es met) × IsLighter es first level (ws ++ arrow y e ∷ []))
-  falls_new n num none =
-      let l = left_falls es mets n (length ws) e.target num none in
+  falls_new : (n : ℕ) (mets' : List (ℕ × ℕ)) → IsNumbered es n e.target → lookup (nat_eq n) mets ≡ None → Noted n (length ws) mets mets'
+      → (left es mets' < left es met) ⊎ ((left es mets' ≡ left es met) × IsLighter es first level (ws ++ arrow y e ∷ []))
+  falls_new n mets' num none noted =
+      let l = left_falls es mets mets' n (length ws) e.target num none noted in
       elim g.falls [ inl k ↦ inl (omega (arith, l, k)) | inr k ↦ inl (omega (arith, l, k.0)) ]
 
   falls_loose : IsNumber es e.target None → (left es mets < left es met) ⊎ ((left es mets ≡ left es met) × IsLighter es first level (ws ++ arrow y e ∷ []))
@@ -277,9 +277,8 @@ module _ (es : List Entry) (first : ℕ) (level : List Way) (met : List (ℕ × 
       let zo : o.0 ≡ z = at_same ws p o.0 z o.1 az in
       subst (λ xs. IsNext es first level met a (i + 1) xs mets') (sym is)
       (subst (λ ms. IsNext es first level met a (i + 1) (set ws p (crowded z)) ms) (sym same_met) (next_again p z az l (sym (ap (λ (q : Way). q.node) zo) ∙ o.2)))
-  grown ws' mets' (fresh n num none push is) =
-      subst (λ xs. IsNext es first level met a (i + 1) xs mets') (sym (pushed ws' push))
-      (subst (λ ms. IsNext es first level met a (i + 1) (ws ++ arrow y e ∷ []) ms) (sym is) (next_new (mets ++ (n, length ws) ∷ []) (right_new n num none) (falls_new n num none)))
+  grown ws' mets' (fresh n num none push noted_new) =
+      subst (λ xs. IsNext es first level met a (i + 1) xs mets') (sym (pushed ws' push)) (next_new mets' (right_new n mets' num noted_new) (falls_new n mets' num none noted_new))
   grown ws' mets' (loose none push is) =
       subst (λ xs. IsNext es first level met a (i + 1) xs mets') (sym (pushed ws' push))
       (subst (λ ms. IsNext es first level met a (i + 1) (ws ++ arrow y e ∷ []) ms) (sym is) (next_new mets right_old (falls_loose none)))

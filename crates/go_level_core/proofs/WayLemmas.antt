@@ -1,5 +1,5 @@
 -- The types that are reached, with their paths.
-use Rattle.std.proofs.Common.{◌≡◌, ℕ, zero, suc, ◌+◌, ◌<◌, ◌≤◌, ◌-◌, true, ◌||◌, List, [], ◌∷◌, ◌++◌, length, set, get_or, take, drop, reverse, Some, refl, sym, ap, ◌∙◌, subst, arith, ◌⊎◌, inl, inr, length-append, append_assoc}
+use Rattle.std.proofs.Common.{◌≡◌, ℕ, zero, suc, ◌+◌, ◌<◌, ◌≤◌, ◌-◌, true, ◌||◌, List, [], ◌∷◌, ◌++◌, length, set, get_or, reverse, Some, refl, sym, ap, ◌∙◌, subst, arith, ◌⊎◌, inl, inr, length-append, append_assoc}
 use Rattle.std.specs.Prelude.{nat_eq}
 use Rattle.std.specs.Map.{lookup}
 use Rattle.std.proofs.lemmas.List.{append-nil, reverse-append}
@@ -10,7 +10,7 @@ use Rattle.go_embed_core.specs.Owners.{EmbeddedEdge}
 use Rattle.go_level_core.specs.declared.level.Reached.{Reached}
 use Rattle.go_level_core.specs.declared.trails.Link.{Link}
 use Rattle.go_level_core.specs.mirrors.Trails.{paths_from, paths_of, Climbs}
-use Rattle.go_level_core.specs.mirrors.Ways.{At, Way, way_of, ways, arrow, crowded, root, IsNumbered, IsRight, Begins, Pushed, Marked}
+use Rattle.go_level_core.specs.mirrors.Ways.{At, Way, way_of, ways, arrow, crowded, root, IsNumbered, IsRight, Begins, Pushed, Noted, Marked}
 use Rattle.go_level_core.proofs.ListLemmas.{at_append, at_within}
 use Rattle.go_level_core.proofs.Weights.{lookup_cases}
 
@@ -171,15 +171,12 @@ mark_ways paths old new place sized m = (
 pub right_none : (es : List Entry) (w : Way) (met : List (ℕ × ℕ)) → met ≡ [] → IsRight es (w ∷ []) met
 right_none es w met is = record { at = λ n p h. absurd (let a : lookup (nat_eq n) [] ≡ Some p = subst (λ ms. lookup (nat_eq n) ms ≡ Some p) is h in (cc)) }
 
-pub right_first : (es : List Entry) (w : Way) (n : ℕ) (met met' : List (ℕ × ℕ)) → met ≡ [] → IsNumbered es n w.node → met' ≡ met ++ (n, 0) ∷ [] → IsRight es (w ∷ []) met'
-right_first es w n met met' none num is =
-    record {
-      at = λ m p h. by m p (lookup_cases [] n 0 m p refl (subst (λ ms. lookup (nat_eq m) ms ≡ Some p) (is ∙ ap (λ ms. ms ++ (n, 0) ∷ []) none) h));
-    }
+pub right_first : (es : List Entry) (w : Way) (n : ℕ) (met met' : List (ℕ × ℕ)) → met ≡ [] → IsNumbered es n w.node → Noted n 0 met met' → IsRight es (w ∷ []) met'
+right_first es w n met met' none num noted = record { at = λ m p h. by m p (lookup_cases met met' n 0 m p noted h) }
   where
-    by : (m p : ℕ) → ((m ≡ n) × (p ≡ 0)) ⊎ (lookup (nat_eq m) [] ≡ Some p) → (z : Way) × At (w ∷ []) p z × IsNumbered es m z.node
+    by : (m p : ℕ) → ((m ≡ n) × (p ≡ 0)) ⊎ (lookup (nat_eq m) met ≡ Some p) → (z : Way) × At (w ∷ []) p z × IsNumbered es m z.node
     by m p (inl s) = (w, subst (λ k. At (w ∷ []) k w) (sym s.1) refl, subst (λ k. IsNumbered es k w.node) (sym s.0) num)
-    by m p (inr s) = absurd (let z = s in (cc))
+    by m p (inr s) = (right_none es w met none).at m p s
 
 pub place_within : (es : List Entry) (paths : List (List ℕ)) (types : List Reached) (met : List (ℕ × ℕ)) (n p : ℕ) → length paths ≡ length types → IsRight es (ways paths types) met → lookup (nat_eq n) met ≡ Some p → p < length types
 place_within es paths types met n p sized right h =
@@ -193,19 +190,3 @@ pub begins : (es : List Entry) (t : Term) (paths : List (List ℕ)) (none types 
 begins es t paths none types z met ps empty is first right =
     let ts : types ≡ z ∷ [] = is ∙ ap (λ xs. xs ++ z ∷ []) empty in
     record { sized = ap length ps ∙ sym (ap length ts); only = (λ i. ways (ps i) (ts i)) ∙ ap (λ w. w ∷ []) first; right = right }
-
-drop_all : {A : Type 0} (xs : List A) (n : ℕ) → length xs ≤ n → drop n xs ≡ []
-drop_all [] zero h = refl
-drop_all [] (suc n) h = refl
-drop_all (x ∷ xs) zero h = absurd (omega arith)
-drop_all (x ∷ xs) (suc n) h = drop_all xs n (omega arith)
-
-take_all : {A : Type 0} (xs : List A) (n : ℕ) → length xs ≤ n → take n (xs ++ []) ≡ xs
-take_all [] zero h = refl
-take_all [] (suc n) h = refl
-take_all (x ∷ xs) zero h = absurd (omega arith)
-take_all (x ∷ xs) (suc n) h = ap (λ r. x ∷ r) (take_all xs n (omega arith))
-
--- a vector whose slice was written whole
-pub written : {A : Type 0} (new old : List A) → length new ≡ length old → take (length old) (new ++ drop (length new) old) ≡ new
-written new old same = ap (λ r. take (length old) (new ++ r)) (drop_all old (length new) (omega (arith, same))) ∙ take_all new (length old) (omega (arith, same))

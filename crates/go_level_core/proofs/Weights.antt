@@ -1,5 +1,5 @@
 -- What falls from level to level.
-use Rattle.std.proofs.Common.{◌≡◌, ℕ, zero, suc, ◌+◌, ◌*◌, ◌<◌, ◌≤◌, Bool, true, false, not, ◌&&◌, List, [], ◌∷◌, ◌++◌, length, Option, Some, None, cond, max, refl, sym, ap, ◌∙◌, subst, arith, ◌⊎◌, inl, inr, if◌then◌else◌, eq-eqb}
+use Rattle.std.proofs.Common.{◌≡◌, ℕ, zero, suc, ◌+◌, ◌*◌, ◌<◌, ◌≤◌, Bool, true, false, not, ◌&&◌, List, [], ◌∷◌, length, Option, Some, None, cond, max, refl, sym, ap, ◌∙◌, subst, arith, ◌⊎◌, inl, inr, if◌then◌else◌, eq-eqb}
 use Rattle.std.specs.Prelude.{nat_eq}
 use Rattle.std.specs.Map.{lookup}
 use Rattle.go_embed_core.specs.decl_core.declared.keys.DeclKey.{DeclKey}
@@ -8,7 +8,7 @@ use Rattle.go_term_core.proofs.Members.{In}
 use Rattle.go_embed_core.specs.table_core.Entries.{Entry, find_entry, same_key, term_in, underlying_in, has_method}
 use Rattle.go_embed_core.specs.Owners.{OwnerModel, EmbeddedEdge, embedded_edge, off, owner_in, embedded_edges, term_embedded, embedded_in}
 use Rattle.go_level_core.specs.Paths.{Step}
-use Rattle.go_level_core.specs.mirrors.Ways.{At, Way, IsNumber, IsNumbered}
+use Rattle.go_level_core.specs.mirrors.Ways.{At, Way, IsNumber, IsNumbered, Noted}
 use Rattle.go_level_core.specs.mirrors.Levels.{entry_weight, weight, is_free, left_below, left, peak, bound, height, IsLighter}
 use Rattle.go_level_core.proofs.ListLemmas.{not_same, same_or_not, at_some}
 use Rattle.go_level_core.proofs.Edges.{step_edge}
@@ -131,50 +131,44 @@ number_or_none es u i p v b s wu low = by v refl
 
 -- numbers that are not met
 
-pub lookup_more : (met : List (ℕ × ℕ)) (n p m : ℕ) → (m ≡ n → ⊥) → lookup (nat_eq m) (met ++ (n, p) ∷ []) ≡ lookup (nat_eq m) met
-lookup_more [] n p m d = ap (λ b. cond b (Some p) None) (not_same m n d)
-lookup_more (e ∷ met) n p m d = ap (λ r. cond (nat_eq m e.0) (Some e.1) r) (lookup_more met n p m d)
+pub lookup_more : (met met' : List (ℕ × ℕ)) (n p m : ℕ) → Noted n p met met' → (m ≡ n → ⊥) → lookup (nat_eq m) met' ≡ lookup (nat_eq m) met
+lookup_more met met' n p m noted d = noted m ∙ ap (λ b. cond b (Some p) (lookup (nat_eq m) met)) (not_same n m (λ e. d (sym e)))
 
-new_step : (b : Bool) (q p : ℕ) (old new : Option ℕ) → (old ≡ None → new ≡ Some p) → cond b (Some q) old ≡ None → cond b (Some q) new ≡ Some p
-new_step true q p old new more h = cc
-new_step false q p old new more h = more h
+pub lookup_new : (met met' : List (ℕ × ℕ)) (n p : ℕ) → Noted n p met met' → lookup (nat_eq n) met' ≡ Some p
+lookup_new met met' n p noted = noted n ∙ ap (λ b. cond b (Some p) (lookup (nat_eq n) met)) (eq-eqb n n refl)
 
-pub lookup_new : (met : List (ℕ × ℕ)) (n p : ℕ) → lookup (nat_eq n) met ≡ None → lookup (nat_eq n) (met ++ (n, p) ∷ []) ≡ Some p
-lookup_new [] n p none = ap (λ b. cond b (Some p) None) (eq-eqb n n refl)
-lookup_new (e ∷ met) n p none = new_step (nat_eq n e.0) e.1 p (lookup (nat_eq n) met) (lookup (nat_eq n) (met ++ (n, p) ∷ [])) (λ h. lookup_new met n p h) none
-
--- what is looked up behind a new pair
-pub lookup_cases : (met : List (ℕ × ℕ)) (n p m q : ℕ) → lookup (nat_eq n) met ≡ None → lookup (nat_eq m) (met ++ (n, p) ∷ []) ≡ Some q → ((m ≡ n) × (q ≡ p)) ⊎ (lookup (nat_eq m) met ≡ Some q)
-lookup_cases met n p m q none h =
+-- what is looked up where a number more is noted
+pub lookup_cases : (met met' : List (ℕ × ℕ)) (n p m q : ℕ) → Noted n p met met' → lookup (nat_eq m) met' ≡ Some q → ((m ≡ n) × (q ≡ p)) ⊎ (lookup (nat_eq m) met ≡ Some q)
+lookup_cases met met' n p m q noted h =
     elim (same_or_not m n) [
-      | inl e ↦ inl (e, let a = lookup_new met n p none in let b : lookup (nat_eq n) (met ++ (n, p) ∷ []) ≡ Some q = subst (λ k. lookup (nat_eq k) (met ++ (n, p) ∷ []) ≡ Some q) e h in (cc))
-      | inr d ↦ inr (sym (lookup_more met n p m d) ∙ h)
+      | inl e ↦ inl (e, let a = lookup_new met met' n p noted in let b : lookup (nat_eq n) met' ≡ Some q = subst (λ k. lookup (nat_eq k) met' ≡ Some q) e h in (cc))
+      | inr d ↦ inr (sym (lookup_more met met' n p m noted d) ∙ h)
     ]
 
-left_same : (b : ℕ) (met : List (ℕ × ℕ)) (n p : ℕ) → b ≤ n → left_below b (met ++ (n, p) ∷ []) ≡ left_below b met
-left_same zero met n p l = refl
-left_same (suc b) met n p l =
-    let r = left_same b met n p (omega (arith, l)) in
-    let s : is_free (lookup (nat_eq b) (met ++ (n, p) ∷ [])) ≡ is_free (lookup (nat_eq b) met) = ap is_free (lookup_more met n p b (λ e. omega (arith, e, l))) in
+left_same : (b : ℕ) (met met' : List (ℕ × ℕ)) (n p : ℕ) → Noted n p met met' → b ≤ n → left_below b met' ≡ left_below b met
+left_same zero met met' n p noted l = refl
+left_same (suc b) met met' n p noted l =
+    let r = left_same b met met' n p noted (omega (arith, l)) in
+    let s : is_free (lookup (nat_eq b) met') ≡ is_free (lookup (nat_eq b) met) = ap is_free (lookup_more met met' n p b noted (λ e. omega (arith, e, l))) in
     omega (arith, r, s)
 
-left_less : (b : ℕ) (met : List (ℕ × ℕ)) (n p : ℕ) → lookup (nat_eq n) met ≡ None → n < b → left_below b (met ++ (n, p) ∷ []) < left_below b met
-left_less zero met n p none l = absurd (omega (arith, l))
-left_less (suc b) met n p none l =
+left_less : (b : ℕ) (met met' : List (ℕ × ℕ)) (n p : ℕ) → Noted n p met met' → lookup (nat_eq n) met ≡ None → n < b → left_below b met' < left_below b met
+left_less zero met met' n p noted none l = absurd (omega (arith, l))
+left_less (suc b) met met' n p noted none l =
     elim (same_or_not b n) [
       | inl e ↦
-          let s : is_free (lookup (nat_eq b) (met ++ (n, p) ∷ [])) ≡ 0 = ap is_free (ap (λ k. lookup (nat_eq k) (met ++ (n, p) ∷ [])) e ∙ lookup_new met n p none) in
+          let s : is_free (lookup (nat_eq b) met') ≡ 0 = ap is_free (ap (λ k. lookup (nat_eq k) met') e ∙ lookup_new met met' n p noted) in
           let o : is_free (lookup (nat_eq b) met) ≡ 1 = ap is_free (ap (λ k. lookup (nat_eq k) met) e ∙ none) in
-          let r = left_same b met n p (omega (arith, e)) in
+          let r = left_same b met met' n p noted (omega (arith, e)) in
           omega (arith, r, s, o)
       | inr d ↦
-          let s : is_free (lookup (nat_eq b) (met ++ (n, p) ∷ [])) ≡ is_free (lookup (nat_eq b) met) = ap is_free (lookup_more met n p b d) in
-          let r = left_less b met n p none (omega (arith, l, d)) in
+          let s : is_free (lookup (nat_eq b) met') ≡ is_free (lookup (nat_eq b) met) = ap is_free (lookup_more met met' n p b noted d) in
+          let r = left_less b met met' n p noted none (omega (arith, l, d)) in
           omega (arith, r, s)
     ]
 
-pub left_falls : (es : List Entry) (met : List (ℕ × ℕ)) (n p : ℕ) (u : Term) → IsNumbered es n u → lookup (nat_eq n) met ≡ None → left es (met ++ (n, p) ∷ []) < left es met
-left_falls es met n p u h none = left_less (length es) met n p none (within es n h.entry h.at)
+pub left_falls : (es : List Entry) (met met' : List (ℕ × ℕ)) (n p : ℕ) (u : Term) → IsNumbered es n u → lookup (nat_eq n) met ≡ None → Noted n p met met' → left es met' < left es met
+left_falls es met met' n p u h none noted = left_less (length es) met met' n p noted none (within es n h.entry h.at)
   where
     within : (xs : List Entry) (i : ℕ) (x : Entry) → At xs i x → i < length xs
     within [] i x a = cc

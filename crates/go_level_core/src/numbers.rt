@@ -1,14 +1,15 @@
 //! Which types of a table were met, and where.
-ghost use Rattle.std.specs.Prelude.{◌≡◌, ◌++◌, ◌∷◌, [], None, nat_eq, OnOk};
+ghost use Rattle.std.specs.Prelude.{◌≡◌, [], nat_eq, OnOk};
 ghost use Rattle.std.specs.Map.{lookup};
+ghost use Rattle.go_level_core.specs.mirrors.Ways.{Noted};
 
-use indexmap::IndexMap;
 use std::alloc::{AllocError, Global};
+use std::collections::HashMap;
 use std::marker::Model;
 
 /// Types by their numbers in a table, each with its place among those that are reached. Contracts see the list of the pairs.
 pub struct Numbers {
-    places: IndexMap<usize, usize>,
+    places: HashMap<usize, usize>,
 }
 
 impl Drop for Numbers {
@@ -31,7 +32,7 @@ impl Numbers {
         ensures { result ≡ [] }
     {
         Numbers {
-            places: IndexMap::new(alloc),
+            places: HashMap::new(alloc),
         }
     }
 
@@ -44,8 +45,7 @@ impl Numbers {
 
     /// Notes the place of a type.
     pub(crate) fn add(&mut self, number: usize, place: usize) -> Result<(), AllocError>
-        requires { lookup (nat_eq number) self.old ≡ None }
-        ensures { OnOk result (self.new ≡ self.old ++ (number, place) ∷ []) }
+        ensures { OnOk result (Noted number place self.old self.new) }
     {
         self.places.insert(number, place)?;
         Ok(())

@@ -2,7 +2,6 @@
 ghost use Rattle.std.specs.Prelude.{◌≡◌, ◌<◌, ◌++◌, ◌∷◌, [], length, get_or, IfOk, OnOk};
 
 use crate::path::EmbedPath;
-use smallvec::SmallVec;
 use std::alloc::{AllocError, Global};
 use std::marker::Model;
 
@@ -61,14 +60,14 @@ impl Trails {
         requires { number < length self.now }
         ensures { IfOk result (λ path. path ≡ get_or self.now number []) }
     {
-        let mut steps = SmallVec::new(alloc);
+        let mut steps = Vec::new(alloc);
         let mut at = number;
         'links: while at > 0 {
             let link = self.links[at - 1];
             steps.push(link.step)?;
             at = link.before;
         }
-        steps.as_mut_slice().reverse();
+        steps.reverse();
         Ok(EmbedPath { steps })
     }
 }

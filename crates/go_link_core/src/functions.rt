@@ -10,8 +10,8 @@ use crate::numbers::number_at;
 use crate::places::{Place, Places};
 use go_machine_core::Linked;
 use go_object_core::{FunctionCode, Object};
-use indexmap::IndexMap;
 use std::alloc::{AllocError, Global};
+use std::collections::HashMap;
 
 // Adds the places of functions.
 fn add_places<'a, D, P: Places<D>>(
@@ -46,7 +46,7 @@ pub(crate) fn places_of<'a, D, P: Places<D>>(
 fn callees_of<'a, D, P: Places<D>>(
     alloc: Global,
     places: &P,
-    numbers: &IndexMap<Place<'a>, usize>,
+    numbers: &HashMap<Place<'a>, usize>,
     references: &'a [D],
 ) -> Result<Vec<Option<usize>>, AllocError>
     ensures { IfOk result (λ callees. callees.items ≡ map (λ d. found_in numbers.now.entries (P.place_of places.now d)) references.now) }
@@ -63,7 +63,7 @@ pub(crate) fn add_functions<'a, D, P: Places<D>>(
     alloc: Global,
     linked: &mut Vec<Linked<'a>>,
     places: &P,
-    numbers: &IndexMap<Place<'a>, usize>,
+    numbers: &HashMap<Place<'a>, usize>,
     functions: &'a [FunctionCode<D>],
 ) -> Result<(), AllocError>
     ensures { OnOk result (map linked_shown linked.new.items ≡ map linked_shown linked.old.items ++ map (linked_of (λ d. found_in numbers.now.entries (P.place_of places.now d))) (map function_shown functions.now)) }

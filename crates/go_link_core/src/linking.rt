@@ -20,8 +20,8 @@ use go_machine_core::Linked;
 use go_object_core::path_core::ImportPath;
 use go_object_core::text_core::Rule;
 use go_object_core::{FunctionCode, Object};
-use indexmap::IndexMap;
 use std::alloc::{AllocError, Global};
+use std::collections::HashMap;
 
 /// A program that can be run: its functions, and the numbers of those that begin it, one after another.
 #[derive(Drop)]
@@ -69,7 +69,7 @@ fn add_object<'a, D, P: Places<D>>(
     alloc: Global,
     layout: &mut Layout<'a>,
     places: &P,
-    numbers: &IndexMap<Place<'a>, usize>,
+    numbers: &HashMap<Place<'a>, usize>,
     paths: &Spellings,
     object: &'a Object<D>,
 ) -> Result<(), AllocError>
@@ -92,7 +92,7 @@ fn add_object<'a, D, P: Places<D>>(
 fn lay<'a, D, P: Places<D>>(
     alloc: Global,
     places: &P,
-    numbers: &IndexMap<Place<'a>, usize>,
+    numbers: &HashMap<Place<'a>, usize>,
     paths: &Spellings,
     objects: &'a [Object<D>],
 ) -> Result<Layout<'a>, AllocError>

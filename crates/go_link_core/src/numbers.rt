@@ -5,12 +5,12 @@ ghost use Rattle.go_link_core.specs.Functions.{is_at, place_shown};
 ghost use Rattle.go_link_core.specs.mirrors.Numbering.{AreNumbered, found_in, found_key};
 
 use crate::places::Place;
-use indexmap::IndexMap;
 use std::alloc::{AllocError, Global};
+use std::collections::HashMap;
 
 // Notes the number of what is at a place, if it is at one.
 fn note<'a>(
-    numbers: &mut IndexMap<Place<'a>, usize>,
+    numbers: &mut HashMap<Place<'a>, usize>,
     place: Option<Place<'a>>,
     number: usize,
 ) -> Result<(), AllocError>
@@ -26,10 +26,10 @@ fn note<'a>(
 pub(crate) fn numbers_of<'a>(
     alloc: Global,
     places: &[Option<Place<'a>>],
-) -> Result<IndexMap<Place<'a>, usize>, AllocError>
+) -> Result<HashMap<Place<'a>, usize>, AllocError>
     ensures { IfOk result (λ numbers. AreNumbered numbers.entries (map (option_map place_shown) places.now)) }
 {
-    let mut numbers = IndexMap::new(alloc);
+    let mut numbers = HashMap::new(alloc);
     // The first of several of one place is noted last, and stays.
     for number in (0..places.len()).rev() {
         note(&mut numbers, places[number], number)?;
@@ -39,7 +39,7 @@ pub(crate) fn numbers_of<'a>(
 
 /// The number of the function of a place.
 pub(crate) fn number_at<'a>(
-    numbers: &IndexMap<Place<'a>, usize>,
+    numbers: &HashMap<Place<'a>, usize>,
     place: Option<Place<'a>>,
 ) -> Option<usize>
     ensures { result ≡ found_in numbers.now.entries (option_map place_shown place.entry) }

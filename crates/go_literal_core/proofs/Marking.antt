@@ -1,12 +1,10 @@
 -- Marks of keys: numbers of names, and what a key has by its mark.
-use Rattle.std.proofs.Common.{◌≡◌, ℕ, zero, suc, ◌+◌, ◌<◌, ◌≤◌, Bool, true, false, List, [], ◌∷◌, ◌++◌, map, take, drop, length, get_or, is_some, cond, if◌then◌else◌, refl, sym, ap, ◌∙◌, add-one}
+use Rattle.std.proofs.Common.{◌≡◌, ℕ, zero, suc, ◌+◌, ◌<◌, ◌≤◌, Bool, true, false, List, [], ◌∷◌, ◌++◌, map, take, drop, length, get_or, is_some, if◌then◌else◌, refl, sym, ap, ◌∙◌, add-one}
 use Rattle.std.specs.Prelude.{Option, Some, None, slice_get}
 use Rattle.std.specs.Borrow.{Bor}
 use Rattle.std.specs.Str.{bytes_eq}
 use Rattle.std.proofs.lemmas.Bool.{false≢true}
 use Rattle.std.proofs.lemmas.List.{drop_more, drop_all, map-append}
-use Rattle.indexmap.specs.IndexMap.{IndexMap, insert_entry}
-use Rattle.indexmap.proofs.CallerLemmas.{insert_entry-new}
 use Rattle.go_denote_core.specs.text_core.Text.{is_blank}
 use Rattle.go_denote_core.specs.text_core.declared.rule.Rule.TheVariants.{F1, F5, F8}
 use Rattle.go_literal_core.specs.Look.{FieldOf}
@@ -16,7 +14,7 @@ use Rattle.go_literal_core.specs.Literals.{is_struct}
 use Rattle.go_literal_core.specs.Marks.{name_number_from, field_number, field_if, numbered_field}
 use Rattle.go_literal_core.specs.Laws.{MarksTellKeys}
 use Rattle.go_literal_core.specs.mirrors.Numbers.{number_of, first_known}
-use Rattle.go_literal_core.proofs.Names.{bytes_same, bytes_turned, names_more}
+use Rattle.go_literal_core.proofs.Names.{bytes_same, names_more}
 
 -- a name is added, or it is there
 
@@ -36,29 +34,18 @@ name_known es name at there n = by (bytes_eq name n) (bytes_same name n)
     by true same = some (number_of es n) (there ∙ ap (λ x. is_some (number_of es x)) (same refl))
     by false same = known_alone (number_of es n)
 
-behind : (es : List (Bor (List ℕ) × ℕ)) (k : Bor (List ℕ)) (at : ℕ) (n : List ℕ) → number_of (es ++ (k, at) ∷ []) n ≡ first_known (number_of es n) (if bytes_eq n k.now then Some at else None)
-behind [] k at n = by (bytes_eq n k.now)
-  where
-    by : (b : Bool) → cond b (Some at) None ≡ (if b then Some at else None)
-    by true = refl
-    by false = refl
-behind (e ∷ es) k at n = by (bytes_eq n e.0.now) (behind es k at n)
-  where
-    by : (b : Bool) → number_of (es ++ (k, at) ∷ []) n ≡ first_known (number_of es n) (if bytes_eq n k.now then Some at else None)
-        → cond b (Some e.1) (number_of (es ++ (k, at) ∷ []) n) ≡ first_known (cond b (Some e.1) (number_of es n)) (if bytes_eq n k.now then Some at else None)
-    by true rest = refl
-    by false rest = rest
-
 unknown : (o : Option ℕ) → false ≡ is_some o → o ≡ None
 unknown None h = refl
 unknown (Some m) h = absurd (false≢true h)
 
-pub name_added : {S : Type 0} (old : IndexMap (Bor (List ℕ)) ℕ S) (es : List (Bor (List ℕ) × ℕ)) (k : Bor (List ℕ)) (at : ℕ) → false ≡ is_some (number_of old.entries k.now)
-    → es ≡ insert_entry (λ x y. bytes_eq x.now y.now) old.entries k at
-    → (n : List ℕ) → number_of es n ≡ first_known (number_of old.entries n) (if bytes_eq k.now n then Some at else None)
-name_added old es k at absent is n =
-    ap (λ l. number_of l n) (is ∙ insert_entry-new (λ x y. bytes_eq x.now y.now) old k at (unknown (number_of old.entries k.now) absent))
-    ∙ (behind old.entries k at n ∙ ap (λ b. first_known (number_of old.entries n) (if b then Some at else None)) (bytes_turned n k.now))
+pub name_added : (old new : List (Bor (List ℕ) × ℕ)) (k : Bor (List ℕ)) (at : ℕ) → false ≡ is_some (number_of old k.now)
+    → ((q : Bor (List ℕ)) → number_of new q.now ≡ (if bytes_eq k.now q.now then Some at else number_of old q.now))
+    → (n : List ℕ) → number_of new n ≡ first_known (number_of old n) (if bytes_eq k.now n then Some at else None)
+name_added old new k at absent adds n = adds (record { ref_ptr = (0, 0); now = n }) ∙ by (bytes_eq k.now n) (bytes_same k.now n)
+  where
+    by : (b : Bool) → (b ≡ true → k.now ≡ n) → (if b then Some at else number_of old n) ≡ first_known (number_of old n) (if b then Some at else None)
+    by true same = sym (ap (λ o. first_known o (Some at)) (ap (number_of old) (sym (same refl)) ∙ unknown (number_of old k.now) absent))
+    by false same = known_alone (number_of old n)
 
 -- the loop over names
 

@@ -1,5 +1,5 @@
 -- Names in lists and in sets, and those that stand there more than once.
-use Rattle.std.proofs.Common.{◌≡◌, ℕ, ◌+◌, ◌<◌, Bool, true, false, not, ◌&&◌, ◌||◌, List, [], ◌∷◌, ◌++◌, map, take, length, get_or, if◌then◌else◌, refl, sym, ap, ◌∙◌, subst, add-one}
+use Rattle.std.proofs.Common.{◌≡◌, ℕ, ◌+◌, ◌<◌, Bool, true, false, not, ◌&&◌, ◌||◌, List, [], ◌∷◌, ◌++◌, map, take, length, get_or, if◌then◌else◌, refl, sym, ap, ◌∙◌, add-one}
 use Rattle.std.specs.Borrow.{Bor}
 use Rattle.std.specs.List.{list_any}
 use Rattle.std.proofs.lemmas.List.{map-append}
@@ -23,14 +23,6 @@ same_bools false false f g = refl
 
 pub bytes_turned : (x y : List ℕ) → bytes_eq x y ≡ bytes_eq y x
 bytes_turned x y = same_bools (bytes_eq x y) (bytes_eq y x) (λ h. bytes_itself y x (sym (bytes_same x y h))) (λ h. bytes_itself x y (sym (bytes_same y x h)))
-
--- a name that is there changes nothing
-seen_again : (name : List ℕ) (seen : List (List ℕ)) → has_name name seen ≡ true → (n : List ℕ) → has_name n (name ∷ seen) ≡ has_name n seen
-seen_again name seen h n = by (bytes_eq name n) (bytes_same name n)
-  where
-    by : (b : Bool) → (b ≡ true → name ≡ n) → (b || has_name n seen) ≡ has_name n seen
-    by true same = (let P : List ℕ → Type 0 = λ x. has_name x seen ≡ true in sym (subst P (same refl) h))
-    by false same = refl
 
 pub has_append : (xs ys : List (List ℕ)) (n : List ℕ) → has_name n (xs ++ ys) ≡ (has_name n xs || has_name n ys)
 has_append [] ys n = refl
@@ -56,14 +48,13 @@ any_named name [] = refl
 any_named name (x ∷ xs) = ap (λ b. b || list_any (λ x. bytes_eq name x.now) xs) (bytes_turned name x.now) ∙ ap (λ b. bytes_eq x.now name || b) (any_named name xs)
 
 -- a set of them with one more
-pub inserted : (xs ys : List (Bor (List ℕ))) (x : Bor (List ℕ)) → ys ≡ (if list_any (λ y. bytes_eq x.now y.now) xs then xs else xs ++ x ∷ [])
+pub inserted : (xs ys : List (Bor (List ℕ))) (x : Bor (List ℕ)) → ((q : Bor (List ℕ)) → list_any (λ y. bytes_eq q.now y.now) ys ≡ (if bytes_eq x.now q.now then true else list_any (λ y. bytes_eq q.now y.now) xs))
     → (n : List ℕ) → has_name n (map (λ y. y.now) ys) ≡ has_name n (x.now ∷ map (λ y. y.now) xs)
-inserted xs ys x is n =
-    ap (λ l. has_name n (map (λ y. y.now) l)) is ∙ by (list_any (λ y. bytes_eq x.now y.now) xs) (any_named x.now xs)
+inserted xs ys x adds n = sym (any_named n ys) ∙ (adds (record { ref_ptr = (0, 0); now = n }) ∙ by (bytes_eq x.now n))
   where
-    by : (b : Bool) → b ≡ has_name x.now (map (λ y. y.now) xs) → has_name n (map (λ y. y.now) (if b then xs else xs ++ x ∷ [])) ≡ has_name n (x.now ∷ map (λ y. y.now) xs)
-    by true h = sym (seen_again x.now (map (λ y. y.now) xs) (sym h) n)
-    by false h = ap (has_name n) (map-append (λ y. y.now) xs (x ∷ [])) ∙ has_last (map (λ y. y.now) xs) x.now n
+    by : (b : Bool) → (if b then true else list_any (λ y. bytes_eq n y.now) xs) ≡ (b || has_name n (map (λ y. y.now) xs))
+    by true = refl
+    by false = any_named n xs
 
 -- a name is noted: it is new, or it was there
 

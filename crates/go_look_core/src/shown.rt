@@ -1,6 +1,6 @@
 //! What the batches of a board show of a module.
 ghost use Rattle.std.specs.Prelude.{◌≡◌, ◌≤◌, [], All, IfErr, IfOk, IsTrue, MatchOption, Some, ⊤, length, take};
-ghost use Rattle.go_graph_core.specs.Workspaces.{AreAllRead, packages_inside};
+ghost use Rattle.go_graph_core.specs.Workspaces.{AreAllRead, IsWorkspace, packages_inside};
 ghost use Rattle.go_board_core.specs.submit_core.Published.{IsOneWorker, last_of, sources_of};
 ghost use Rattle.go_look_core.specs.Built.{IsBuilt, faults_inside};
 
@@ -9,6 +9,7 @@ use go_board_core::Board;
 use go_board_core::draft_core::lies_inside;
 use go_board_core::submit_core::{ModuleTree, PublishedBatch};
 use go_graph_core::PackageSource;
+use go_head_core::span_of;
 use go_path_core::Module;
 use go_text_core::Rule;
 use go_type_doc_core::snap_core::Snapshot;
@@ -33,6 +34,22 @@ fn are_inside(own: &Module, all: &[PackageSource], packages: &[PackageSource]) -
     count == packages.len()
 }
 
+// The same of the packages of a workspace. Those that stand apart from the module's are not looked at.
+fn are_left(
+    alloc: Global,
+    own: &Module,
+    all: &[PackageSource],
+    packages: &[PackageSource],
+) -> Result<bool, AllocError>
+    requires all { IsWorkspace all.now }
+    requires packages { All AreAllRead packages.now }
+    ensures { IfOk result (λ is. IsTrue is → packages_inside own.now all.now ≡ packages.now) }
+{
+    let span = span_of(alloc, own, all)?;
+    let is = are_inside(own, span, packages);
+    Ok(is)
+}
+
 // The batch of a number, from 1. Its snapshot is the one that one worker gives of the batches up to it.
 #[tactic(auto, using(crate::proofs::Lasts::numbered_is))]
 fn numbered(board: &Board, number: u64) -> Option<&PublishedBatch>
@@ -45,10 +62,11 @@ fn numbered(board: &Board, number: u64) -> Option<&PublishedBatch>
 }
 
 // Whether a batch leaves this tree to its module.
-fn leaves(batch: &PublishedBatch, tree: &ModuleTree) -> bool
-    ensures { IsTrue result → packages_inside tree.now.own batch.now.snapshot.sources ≡ tree.now.packages }
+fn leaves(alloc: Global, batch: &PublishedBatch, tree: &ModuleTree) -> Result<bool, AllocError>
+    ensures { IfOk result (λ is. IsTrue is → packages_inside tree.now.own batch.now.snapshot.sources ≡ tree.now.packages) }
 {
-    are_inside(
+    are_left(
+        alloc,
         tree.own(),
         batch.snapshot.get().sources().packages(),
         tree.packages().packages(),
@@ -91,7 +109,10 @@ pub fn faults_built(
     let Some(batch) = numbered(board, number) else {
         return Err(Rule::M0);
     };
-    if !leaves(batch, tree) {
+    let Ok(is) = leaves(alloc, batch, tree) else {
+        return Err(Rule::M0);
+    };
+    if !is {
         return Err(Rule::M0);
     }
     match module_faults(alloc, tree.own(), batch.snapshot.get()) {

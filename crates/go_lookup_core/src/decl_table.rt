@@ -7,8 +7,8 @@ ghost use Rattle.go_lookup_core.specs.mirrors.Spotting.{IsNumbered, item_shown, 
 use go_decl_core::DeclRef;
 use go_decl_core::path_core::ImportPath;
 use go_fragment_core::Meaning;
-use indexmap::IndexMap;
 use std::alloc::{AllocError, Global};
+use std::collections::HashMap;
 use std::marker::Model;
 
 /// Where something is declared outside functions.
@@ -46,7 +46,7 @@ pub struct SpottedDecl<'a> {
 pub struct DeclTable<'a> {
     items: Vec<SpottedDecl<'a>>,
     /// The number of the first item of each place.
-    numbers: IndexMap<DeclSpot<'a>, usize>,
+    numbers: HashMap<DeclSpot<'a>, usize>,
 }
 
 impl Drop for DeclTable<'_> {
@@ -71,7 +71,7 @@ impl<'a> Model for DeclTable<'a> {
 }
 
 // The number that a table has at a place.
-fn number_in<'a>(numbers: &IndexMap<DeclSpot<'a>, usize>, spot: DeclSpot<'a>) -> Option<usize>
+fn number_in<'a>(numbers: &HashMap<DeclSpot<'a>, usize>, spot: DeclSpot<'a>) -> Option<usize>
     ensures { result ≡ lookup (same_key spot.entry) numbers.now.entries }
 {
     numbers.get(&spot).copied()
@@ -81,10 +81,10 @@ fn number_in<'a>(numbers: &IndexMap<DeclSpot<'a>, usize>, spot: DeclSpot<'a>) ->
 fn numbers_of<'a>(
     alloc: Global,
     items: &[SpottedDecl<'a>],
-) -> Result<IndexMap<DeclSpot<'a>, usize>, AllocError>
+) -> Result<HashMap<DeclSpot<'a>, usize>, AllocError>
     ensures { IfOk result (λ numbers. IsNumbered numbers items.now) }
 {
-    let mut numbers = IndexMap::new(alloc);
+    let mut numbers = HashMap::new(alloc);
     // The first of several at one place is put in last, and stays.
     for number in (0..items.len()).rev() {
         numbers.insert(items[number].spot, number)?;

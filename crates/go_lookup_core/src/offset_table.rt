@@ -5,15 +5,15 @@ ghost use Rattle.std.specs.Map.{lookup};
 ghost use Rattle.go_lookup_core.specs.Looking.{place_at};
 
 use go_fragment_core::Meaning;
-use indexmap::IndexMap;
 use std::alloc::{AllocError, Global};
+use std::collections::HashMap;
 use std::marker::Model;
 
 /// What stands at offsets in bytes from a file's start. Contracts see the list of both.
 pub struct OffsetTable {
     items: Vec<(usize, Meaning)>,
     /// The place of the first item of each offset.
-    places: IndexMap<usize, usize>,
+    places: HashMap<usize, usize>,
 }
 
 impl Drop for OffsetTable {
@@ -39,13 +39,10 @@ impl Model for OffsetTable {
 }
 
 // The place of the first item of each offset.
-fn places_of(
-    alloc: Global,
-    items: &[(usize, Meaning)],
-) -> Result<IndexMap<usize, usize>, AllocError>
+fn places_of(alloc: Global, items: &[(usize, Meaning)]) -> Result<HashMap<usize, usize>, AllocError>
     ensures { IfOk result (λ places. (at : _) → lookup (nat_eq at) places.entries ≡ place_at items.now at) }
 {
-    let mut places = IndexMap::new(alloc);
+    let mut places = HashMap::new(alloc);
     // The first of several at one offset is put in last, and stays.
     for place in (0..items.len()).rev() {
         places.insert(items[place].0, place)?;

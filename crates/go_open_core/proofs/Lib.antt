@@ -1,4 +1,3 @@
-pub mod Distinct
 pub mod Innermost
 pub mod Names
 pub mod News

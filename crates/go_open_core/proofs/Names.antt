@@ -1,13 +1,13 @@
 -- The names of blocks, each once.
-use Rattle.std.proofs.Common.{◌≡◌, ℕ, ◌+◌, ◌<◌, ◌≤◌, Bool, true, false, ◌||◌, List, [], ◌∷◌, ◌++◌, map, length, drop, get_or, Option, Some, None, cond, if◌then◌else◌, refl, sym, ap, ◌∙◌, subst, arith}
-use Rattle.std.specs.Prelude.{string_bytes, Contains, AllPairs, IsSome, is_some}
+use Rattle.std.proofs.Common.{◌≡◌, ℕ, ◌+◌, ◌<◌, ◌≤◌, Bool, true, false, ◌||◌, List, [], ◌∷◌, ◌++◌, map, length, take, drop, get_or, Option, Some, None, cond, if◌then◌else◌, refl, sym, ap, ◌∙◌, subst, arith}
+use Rattle.std.specs.Prelude.{Contains, AllPairs, IsSome, is_some}
 use Rattle.std.specs.Str.{bytes_eq}
 use Rattle.std.specs.Cmp.{IsEquivalence}
 use Rattle.std.specs.List.{list_any}
 use Rattle.std.specs.Borrow.{Bor}
-use Rattle.std.specs.declared.string.String.{String}
+use Rattle.std.specs.HashSet.{HashSet, Updates}
 use Rattle.std.proofs.lemmas.Bool.{true≢false}
-use Rattle.std.proofs.lemmas.List.{drop_more, drop_all, map-append, get_or_default}
+use Rattle.std.proofs.lemmas.List.{drop_more, drop_all, length-map, take-map, take_all, take-append-le, get_or_default}
 use Rattle.std.proofs.lemmas.List.Quantifiers.{all_pairs_push}
 use Rattle.std.proofs.lemmas.Map.Views.{list_any-from_Contains, Contains-from_any}
 use Rattle.std.proofs.lemmas.Slice.Eq.{bytes_eq-Decides}
@@ -17,19 +17,6 @@ use Rattle.go_open_core.specs.Blocks.{found_in, in_block, or_else, names_in, all
 pub any_shown : (name : List ℕ) (xs : List (Bor (List ℕ))) → list_any (λ x. bytes_eq name x.now) xs ≡ is_listed (map (λ x. x.now) xs) name
 any_shown name [] = refl
 any_shown name (x ∷ xs) = ap (λ b. bytes_eq name x.now || b) (any_shown name xs)
-
--- a set of them with one more
-pub shown_key : (xs : List (Bor (List ℕ))) (x : Bor (List ℕ)) → map (λ x. x.now) (if list_any (λ y. bytes_eq x.now y.now) xs then xs else xs ++ x ∷ []) ≡ list_name (map (λ x. x.now) xs) x.now
-shown_key xs x = by (list_any (λ y. bytes_eq x.now y.now) xs) ∙ ap (λ b. if b then map (λ x. x.now) xs else map (λ x. x.now) xs ++ x.now ∷ []) (any_shown x.now xs)
-  where
-    by : (b : Bool) → map (λ x. x.now) (if b then xs else xs ++ x ∷ []) ≡ (if b then map (λ x. x.now) xs else map (λ x. x.now) xs ++ x.now ∷ [])
-    by true = refl
-    by false = map-append (λ x. x.now) xs (x ∷ [])
-
--- the names of a table
-pub names_in_table : {Y X : Type 0} (es : List (String Y × X)) → map string_bytes (map (λ e. e.0) es) ≡ names_in (map (λ e. (string_bytes e.0, e.1)) es)
-names_in_table [] = refl
-names_in_table (e ∷ es) = ap (λ l. string_bytes e.0 ∷ l) (names_in_table es)
 
 pub list_names-append : (s xs ys : List (List ℕ)) → list_names s (xs ++ ys) ≡ list_names (list_names s xs) ys
 list_names-append s [] ys = refl
@@ -79,6 +66,22 @@ bytes_equiv = record {
   symm = λ x y. grind (arith, bytes_eq-Decides x y, bytes_eq-Decides y x);
   congr = λ x y z h. ap (λ w. bytes_eq w z) (same_bytes x y h);
 }
+
+-- a set of them with one more
+pub put_listed : {S : Type 0} (old new : HashSet (Bor (List ℕ)) S) (x : Bor (List ℕ)) → Updates (λ y z. bytes_eq y.now z.now) old new x true → (n : List ℕ) → is_listed (map (λ k. k.now) new.keys) n ≡ is_listed (map (λ k. k.now) old.keys ++ x.now ∷ []) n
+put_listed old new x put n =
+    sym (any_shown n new.keys)
+    ∙ (put.0 (record { ref_ptr = (0, 0); now = n })
+    ∙ (by (bytes_eq x.now n) (list_any (λ k. bytes_eq n k.now) old.keys)
+    ∙ (ap (λ b. list_any (λ k. bytes_eq n k.now) old.keys || b) (bytes_equiv.symm x.now n)
+    ∙ (ap (λ b. b || bytes_eq n x.now) (any_shown n old.keys)
+    ∙ (ap (λ b. is_listed (map (λ k. k.now) old.keys) n || b) (or-none (bytes_eq n x.now)) ∙ sym (listed-append (map (λ k. k.now) old.keys) (x.now ∷ []) n))))))
+  where
+    by : (a b : Bool) → cond a true b ≡ b || a
+    by true true = refl
+    by true false = refl
+    by false true = refl
+    by false false = refl
 
 -- a name that is added again changes nothing
 listed-name : (s : List (List ℕ)) (m name : List ℕ) → is_listed (list_name s m) name ≡ is_listed s name || bytes_eq name m
@@ -143,3 +146,30 @@ apart-names s (n ∷ ns) h = apart-names (list_name s n) ns (apart-name s n h)
 
 pub names_once : (ns listed : List (List ℕ)) → listed ≡ list_names [] ns → Apart listed
 names_once ns listed e = let P : List (List ℕ) → Type 0 = Apart in subst P (sym e) (apart-names [] ns (λ i j d lt in_nil same. absurd (omega arith)))
+
+-- names that are found by their hash
+
+abbrev pub KnowsNames : List (Bor (List ℕ)) → List (Bor (List ℕ)) → Type 0
+KnowsNames known names = (name : List ℕ) → is_listed (map (λ k. k.now) known) name ≡ is_listed (map (λ k. k.now) names) name
+
+pub known_still : (known known' names names' : List (Bor (List ℕ))) → KnowsNames known names → map (λ k. k.now) names' ≡ map (λ k. k.now) names → known' ≡ known → KnowsNames known' names'
+known_still known known' names names' before same kept n =
+    ap (λ l. is_listed (map (λ k. k.now) l) n) kept ∙ (before n ∙ ap (λ l. is_listed l n) (sym same))
+
+-- what truncate leaves of a name more
+pub taken_back : (names more cut : List (Bor (List ℕ))) (name : List ℕ) (n : ℕ) → n ≡ length names → map (λ k. k.now) more ≡ map (λ k. k.now) names ++ name ∷ [] → cut ≡ take n more → map (λ k. k.now) cut ≡ map (λ k. k.now) names
+taken_back names more cut name n count added is =
+    let size = length-map names (λ (k : Bor (List ℕ)). k.now) in
+    ap (map (λ k. k.now)) is
+    ∙ (sym (take-map (λ k. k.now) n more)
+    ∙ (ap (take n) added
+    ∙ (take-append-le n (map (λ k. k.now) names) (name ∷ []) (omega (arith, count, size))
+    ∙ take_all n (map (λ k. k.now) names) (omega (arith, count, size)))))
+
+-- no name
+pub no_names : (xs : List (Bor (List ℕ))) → length xs ≡ 0 → map (λ k. k.now) xs ≡ []
+no_names [] h = refl
+no_names (x ∷ xs) h = absurd (omega (arith, h))
+
+pub none_there : (xs : List (Bor (List ℕ))) → map (λ k. k.now) xs ≡ [] → length xs ≡ 0
+none_there xs h = sym (length-map xs (λ (k : Bor (List ℕ)). k.now)) ∙ ap length h

@@ -1,36 +1,15 @@
 -- A block's table, and the list of blocks.
-use Rattle.std.proofs.Common.{◌≡◌, ℕ, ◌+◌, ◌-◌, ◌<◌, ◌≤◌, zero, suc, Bool, true, false, ◌⊎◌, inl, inr, ⊎_elim, ◌&&◌, not, List, [], ◌∷◌, ◌++◌, map, length, Option, Some, None, is_some, Vec, Result, Ok, Err, refl, sym, ap, ◌∙◌, arith, cond, if◌then◌else◌, take, get_or, set}
-use Rattle.std.specs.Prelude.{string_bytes, vec_len}
-use Rattle.std.specs.String.{string_eq}
-use Rattle.std.specs.Str.{bytes_eq}
-use Rattle.std.specs.Map.{lookup}
+use Rattle.std.proofs.Common.{◌≡◌, ℕ, ◌+◌, ◌-◌, ◌<◌, ◌≤◌, zero, suc, Bool, true, false, ◌⊎◌, inl, inr, ⊎_elim, ◌&&◌, not, List, [], ◌∷◌, ◌++◌, map, length, Option, Some, None, is_some, Vec, Result, Ok, Err, refl, sym, ap, ◌∙◌, arith, if◌then◌else◌, take, get_or, set}
+use Rattle.std.specs.Prelude.{vec_len}
 use Rattle.std.specs.Borrow.{Bor}
 use Rattle.std.specs.Result.{is_err, OnOk, OnErr}
-use Rattle.std.specs.declared.string.String.{String}
-use Rattle.std.proofs.lemmas.List.{map-append, map_more, length-append, length-map, take-map, take_all, take-append-le}
+use Rattle.std.proofs.lemmas.List.{map-append, map_more, length-append, length-map, take_all, take-append-le}
 use Rattle.std.specs.Option.{option_to_list}
 use Rattle.std.proofs.lemmas.Bool.{true≢false}
-use Rattle.indexmap.specs.IndexMap.{IndexMap, get, get_by, insert_entry}
-use Rattle.indexmap.proofs.CallerLemmas.{insert_entry-new}
+use Rattle.go_named_core.specs.Named.{Named}
 use Rattle.go_open_core.specs.declared.DeclId.{DeclId}
 use Rattle.go_open_core.specs.Blocks.{block_of, in_block, found_in, innermost, with_innermost, or_else, is_new, is_taken, block_with, block_after, named}
 use Rattle.go_text_core.specs.Text.{is_blank}
-
-lookup_bytes : {Y : Type 0} (name : List ℕ) (es : List (String Y × DeclId)) → lookup (λ k. bytes_eq name (string_bytes k)) es ≡ lookup (bytes_eq name) (map (λ e. (string_bytes e.0, e.1)) es)
-lookup_bytes name [] = refl
-lookup_bytes name (e ∷ es) = ap (λ o. cond (bytes_eq name (string_bytes e.0)) (Some e.1) o) (lookup_bytes name es)
-
--- what a table has at a name is what its block has
-pub in_table : {Y S : Type 0} (name : List ℕ) (table : IndexMap (String Y) DeclId S) → get_by (λ k. bytes_eq name (string_bytes k)) table ≡ in_block (block_of table) name
-in_table name table = lookup_bytes name table.entries
-
--- a new name goes last
-pub block_of-insert : {Y S : Type 0} (old new : IndexMap (String Y) DeclId S) (key : String Y) (name : List ℕ) (id : DeclId) → string_bytes key ≡ name → in_block (block_of old) name ≡ None → new.entries ≡ insert_entry string_eq old.entries key id → block_of new ≡ block_of old ++ (name, id) ∷ []
-block_of-insert old new key name id is_name absent e =
-    let absent' : get string_eq old key ≡ None = ap (λ n. get_by (λ k. bytes_eq n (string_bytes k)) old) is_name ∙ (in_table name old ∙ absent) in
-    ap (map (λ e. (string_bytes e.0, e.1))) (e ∙ insert_entry-new string_eq old key id absent')
-    ∙ (map-append (λ e. (string_bytes e.0, e.1)) old.entries ((key, id) ∷ [])
-    ∙ ap (λ n. block_of old ++ (n, id) ∷ []) is_name)
 
 -- the innermost of blocks that end with one
 pub innermost-push : (xs : List (List (List ℕ × DeclId))) (x : List (List ℕ × DeclId)) → innermost (xs ++ x ∷ []) ≡ x
@@ -150,14 +129,12 @@ module _ (names : List (Bor (List ℕ) × DeclId)) (start now new : List (List �
       ∙ (sym (block_after-push (named (take i names)) n start) ∙ sym (ap (block_after start) named_more)))
 
 -- what truncate leaves
-pub undone : {Y S : Type 0} (was now cut : IndexMap (String Y) DeclId S) (names : List (List ℕ × DeclId)) (n : ℕ) → n ≡ length was.entries → block_of now ≡ block_after (block_of was) names → cut.entries ≡ take n now.entries → block_of cut ≡ block_of was
+pub undone : (was now cut : Named DeclId) (names : List (List ℕ × DeclId)) (n : ℕ) → n ≡ length was.names → block_of now ≡ block_after (block_of was) names → cut.names ≡ take n now.names → block_of cut ≡ block_of was
 undone was now cut names n e inv c =
-    let len : n ≡ length (block_of was) = e ∙ sym (length-map was.entries (λ e. (string_bytes e.0, e.1))) in
-    ap (map (λ e. (string_bytes e.0, e.1))) c
-    ∙ (sym (take-map (λ e. (string_bytes e.0, e.1)) n now.entries)
+    c
     ∙ (ap (take n) inv
-    ∙ (take-block_after names (block_of was) n (omega arith)
-    ∙ take_all n (block_of was) (omega arith))))
+    ∙ (take-block_after names (block_of was) n (omega (arith, e))
+    ∙ take_all n (block_of was) (omega (arith, e))))
 
 -- numbers of blocks
 

@@ -1,12 +1,11 @@
 -- What a contract sees of the open blocks: a list of blocks, the outermost first, each a list of names with
 -- their declarations, in the order in which they were declared.
-use Rattle.std.specs.Prelude.{◌≡◌, ℕ, Bool, true, false, ◌&&◌, not, List, [], ◌∷◌, ◌++◌, map, All, Option, Some, None, is_some, string_bytes, if◌then◌else◌}
+use Rattle.std.specs.Prelude.{◌≡◌, ℕ, Bool, true, false, ◌&&◌, not, List, [], ◌∷◌, ◌++◌, map, All, Option, Some, None, is_some, if◌then◌else◌}
 use Rattle.std.specs.List.{list_any}
 use Rattle.std.specs.Str.{bytes_eq}
 use Rattle.std.specs.Map.{lookup}
-use Rattle.std.specs.declared.string.String.{String}
-use Rattle.indexmap.specs.IndexMap.{IndexMap}
 use Rattle.std.specs.Borrow.{Bor}
+use Rattle.go_named_core.specs.Named.{Named}
 use Rattle.go_text_core.specs.Text.{is_blank}
 use Rattle.go_open_core.specs.declared.DeclId.{DeclId}
 use Rattle.go_open_core.specs.declared.short.ShortName.{ShortName}
@@ -47,8 +46,8 @@ abbrev pub block_with : {X : Type 0} → List (List ℕ × X) → List ℕ → X
 block_with block name id = if is_blank name then block else block ++ (name, id) ∷ []
 
 -- the names of a table as a block
-abbrev pub block_of : {Y S X : Type 0} → IndexMap (String Y) X S → List (List ℕ × X)
-block_of table = map (λ e. (string_bytes e.0, e.1)) table.entries
+abbrev pub block_of : {X : Type 0} → Named X → List (List ℕ × X)
+block_of table = table.names
 
 -- the names of one block
 abbrev pub names_in : {X : Type 0} → List (List ℕ × X) → List (List ℕ)

@@ -1,16 +1,18 @@
 //! The open blocks at a place of a file, with the names that are declared in each.
 #![tactic(auto)]
 
+mod hashed;
 mod laws;
 mod name_list;
 mod short;
 
 ghost use Rattle.std.specs.Prelude.{◌≡◌, ℕ, ◌+◌, ◌<◌, ◌≤◌, ◌⊎◌, [], ◌∷◌, ◌++◌, length, IfOk, IfErr, OnOk, OnErr, IfSome, IsSome, IsNone, IsOk, true, false, None, Some, is_some, map, if◌then◌else◌, ◌↔◌, Contains, AllPairs, List};
 ghost use Rattle.go_open_core.specs.Blocks.{found_in, innermost, with_innermost, is_taken, block_with, block_of, in_block, block_after, short_names, any_new, named, names_in, all_names, list_names, NoneHas, IsInnermost};
+ghost use Rattle.go_named_core.specs.Named.{entries_named};
 ghost use Rattle.go_text_core.specs.Text.{is_blank};
 
+use go_named_core::NameTable;
 use go_text_core::Rule;
-use indexmap::IndexMap;
 pub use laws::short_adds_new;
 pub use name_list::NameList;
 use short::{declare_each, short_names_in};
@@ -24,7 +26,7 @@ pub struct DeclId(pub usize);
 
 /// The open blocks, from the outermost to the innermost.
 pub struct OpenBlocks {
-    blocks: Vec<IndexMap<String, DeclId>>,
+    blocks: Vec<NameTable<DeclId>>,
 }
 
 impl Drop for OpenBlocks {
@@ -48,17 +50,17 @@ impl Model for OpenBlocks {
 const FEW: usize = 8;
 
 // The declaration of a name in one block, by its hash.
-fn find_hashed(block: &IndexMap<String, DeclId>, name: &str) -> Option<DeclId>
+fn find_hashed(block: &NameTable<DeclId>, name: &str) -> Option<DeclId>
     ensures { result ≡ in_block (block_of block.now) name.now }
 {
-    block.get(name).copied()
+    block.find(name).copied()
 }
 
-// The declaration of a name in one block, by comparing it with each.
-fn find_listed(block: &IndexMap<String, DeclId>, name: &str) -> Option<DeclId>
-    ensures { result ≡ in_block (block_of block.now) name.now }
+// The declaration of a name among those of one block, by comparing it with each.
+fn find_listed(decls: &[(String, DeclId)], name: &str) -> Option<DeclId>
+    ensures { result ≡ in_block (entries_named decls.now) name.now }
 {
-    for (key, id) in block {
+    for (key, id) in decls {
         if name == key.as_str() {
             return Some(*id);
         }
@@ -67,17 +69,17 @@ fn find_listed(block: &IndexMap<String, DeclId>, name: &str) -> Option<DeclId>
 }
 
 // The declaration of a name in one block.
-fn find_in(block: &IndexMap<String, DeclId>, name: &str) -> Option<DeclId>
+fn find_in(block: &NameTable<DeclId>, name: &str) -> Option<DeclId>
     ensures { result ≡ in_block (block_of block.now) name.now }
 {
     if block.len() > FEW {
         return find_hashed(block, name);
     }
-    find_listed(block, name)
+    find_listed(block.entries(), name)
 }
 
 // The innermost declaration of a name in these blocks.
-fn find_among(blocks: &[IndexMap<String, DeclId>], name: &str) -> Option<DeclId>
+fn find_among(blocks: &[NameTable<DeclId>], name: &str) -> Option<DeclId>
     ensures { result ≡ found_in (map block_of blocks.now) name.now }
 {
     let mut i = blocks.len();
@@ -92,7 +94,7 @@ fn find_among(blocks: &[IndexMap<String, DeclId>], name: &str) -> Option<DeclId>
 
 // Adds a declaration to a block that has none of the name. Errors: M0; the block is then as it was.
 fn add_decl(
-    block: &mut IndexMap<String, DeclId>,
+    block: &mut NameTable<DeclId>,
     alloc: Global,
     name: &str,
     id: DeclId,
@@ -101,18 +103,15 @@ fn add_decl(
     ensures ok { OnOk result (block_of block.new ≡ block_of block.old ++ (name.now, id) ∷ []) }
     ensures err { IfErr result (λ rule. (block_of block.new ≡ block_of block.old) × (rule ≡ Rule.M0)) }
 {
-    let Ok(key) = String::from_str(alloc, name) else {
-        return Err(Rule::M0);
-    };
-    match block.insert(key, id) {
-        Ok(_) => Ok(()),
+    match block.add(alloc, name, id) {
+        Ok(()) => Ok(()),
         Err(_) => Err(Rule::M0),
     }
 }
 
 // Declares a name in one block. Takes memory only where the block has no declaration of the name.
 fn declare_in(
-    block: &mut IndexMap<String, DeclId>,
+    block: &mut NameTable<DeclId>,
     alloc: Global,
     name: &str,
     id: DeclId,
@@ -127,29 +126,22 @@ fn declare_in(
 }
 
 // A second table with the names and declarations of a block, in their order.
-fn copy_block(
-    alloc: Global,
-    block: &IndexMap<String, DeclId>,
-) -> Result<IndexMap<String, DeclId>, Rule>
+fn copy_block(alloc: Global, block: &NameTable<DeclId>) -> Result<NameTable<DeclId>, Rule>
     ensures ok { IfOk result (λ copied. block_of copied ≡ block_of block.now) }
     ensures err { IfErr result (λ rule. rule ≡ Rule.M0) }
 {
-    let mut copied = IndexMap::new(alloc);
-    for (name, id) in block {
-        add_decl(&mut copied, alloc, name.as_str(), *id)?;
+    match block.copy(alloc) {
+        Ok(copied) => Ok(copied),
+        Err(_) => Err(Rule::M0),
     }
-    Ok(copied)
 }
 
 // Adds the names of a block to others, each unless it is there.
-fn add_block_names<'a>(
-    names: &mut NameList<'a>,
-    block: &'a IndexMap<String, DeclId>,
-) -> Result<(), Rule>
+fn add_block_names<'a>(names: &mut NameList<'a>, block: &'a NameTable<DeclId>) -> Result<(), Rule>
     ensures ok { OnOk result (names.new ≡ list_names names.old (names_in (block_of block.now))) }
     ensures err { IfErr result (λ rule. rule ≡ Rule.M0) }
 {
-    for name in block.keys() {
+    for (name, _) in block.entries() {
         let _ = names.add(name.as_str())?;
     }
     Ok(())
@@ -171,7 +163,7 @@ impl OpenBlocks {
         ensures err { IfErr result (λ rule. (self.new ≡ self.old) × (rule ≡ Rule.M0)) }
     {
         let alloc = *self.blocks.allocator();
-        match self.blocks.push(IndexMap::new(alloc)) {
+        match self.blocks.push(NameTable::new(alloc)) {
             Ok(()) => Ok(()),
             Err(_) => Err(Rule::M0),
         }

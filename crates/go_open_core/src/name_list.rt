@@ -2,8 +2,8 @@
 ghost use Rattle.std.specs.Prelude.{◌≡◌, [], ◌∷◌, ◌++◌, IfOk, IfErr, OnErr, OnOk, map, not, false};
 ghost use Rattle.go_open_core.specs.Blocks.{is_listed, list_name, list_names};
 
+use crate::hashed::{HashedNames, append};
 use go_text_core::Rule;
-use indexmap::IndexSet;
 use std::alloc::Global;
 use std::marker::Model;
 
@@ -15,7 +15,7 @@ pub struct NameList<'a> {
     /// The first of them, which are compared one by one.
     few: Vec<&'a str>,
     /// The others.
-    more: IndexSet<&'a str>,
+    more: HashedNames<'a>,
 }
 
 impl Drop for NameList<'_> {
@@ -29,21 +29,7 @@ impl<'a> Model for NameList<'a> {
 
     ghost Value = { List (List ℕ) };
 
-    ghost view = { λ n. map (λ name. name.now) n.few.items ++ map (λ name. name.now) n.more.keys };
-}
-
-// Adds a name to a set, unless it is there, and answers whether it was not.
-fn insert<'a>(names: &mut IndexSet<&'a str>, name: &'a str) -> Result<bool, Rule>
-    ensures added { IfOk result (λ added. added ≡ not (is_listed (map (λ n. n.now) names.old.keys) name.now)) }
-    ensures ok { OnOk result (map (λ n. n.now) names.new.keys ≡ list_name (map (λ n. n.now) names.old.keys) name.now) }
-    ensures err { IfErr result (λ rule. rule ≡ Rule.M0) }
-    ensures kept { OnErr result (map (λ n. n.now) names.new.keys ≡ map (λ n. n.now) names.old.keys) }
-    ensures absent { OnErr result (is_listed (map (λ n. n.now) names.old.keys) name.now ≡ false) }
-{
-    match names.insert(name) {
-        Ok(added) => Ok(added),
-        Err(_) => Err(Rule::M0),
-    }
+    ghost view = { λ n. map (λ name. name.now) n.few.items ++ n.more };
 }
 
 // Whether a name is among some.
@@ -58,36 +44,24 @@ fn is_among(names: &[&str], name: &str) -> bool
     false
 }
 
-// Adds a name to a list.
-fn append<'a>(names: &mut Vec<&'a str>, name: &'a str) -> Result<(), Rule>
-    ensures ok { OnOk result (map (λ n. n.now) names.new.items ≡ map (λ n. n.now) names.old.items ++ name.now ∷ []) }
-    ensures err { IfErr result (λ rule. rule ≡ Rule.M0) }
-    ensures kept { OnErr result (names.new.items ≡ names.old.items) }
-{
-    match names.push(name) {
-        Ok(()) => Ok(()),
-        Err(_) => Err(Rule::M0),
-    }
-}
-
 // Adds a name that is not among the few to these or to the others, unless it is there, and answers whether it was not.
 fn add_behind<'a>(
     few: &mut Vec<&'a str>,
-    more: &mut IndexSet<&'a str>,
+    more: &mut HashedNames<'a>,
     name: &'a str,
 ) -> Result<bool, Rule>
     requires { is_listed (map (λ n. n.now) few.old.items) name.now ≡ false }
-    ensures added { IfOk result (λ added. added ≡ not (is_listed (map (λ n. n.now) few.old.items ++ map (λ n. n.now) more.old.keys) name.now)) }
-    ensures ok { OnOk result (map (λ n. n.now) few.new.items ++ map (λ n. n.now) more.new.keys ≡ list_name (map (λ n. n.now) few.old.items ++ map (λ n. n.now) more.old.keys) name.now) }
+    ensures added { IfOk result (λ added. added ≡ not (is_listed (map (λ n. n.now) few.old.items ++ more.old) name.now)) }
+    ensures ok { OnOk result (map (λ n. n.now) few.new.items ++ more.new ≡ list_name (map (λ n. n.now) few.old.items ++ more.old) name.now) }
     ensures err { IfErr result (λ rule. rule ≡ Rule.M0) }
-    ensures kept { OnErr result (map (λ n. n.now) few.new.items ++ map (λ n. n.now) more.new.keys ≡ map (λ n. n.now) few.old.items ++ map (λ n. n.now) more.old.keys) }
-    ensures absent { OnErr result (is_listed (map (λ n. n.now) few.old.items ++ map (λ n. n.now) more.old.keys) name.now ≡ false) }
+    ensures kept { OnErr result (map (λ n. n.now) few.new.items ++ more.new ≡ map (λ n. n.now) few.old.items ++ more.old) }
+    ensures absent { OnErr result (is_listed (map (λ n. n.now) few.old.items ++ more.old) name.now ≡ false) }
 {
     if more.is_empty() && few.len() < FEW {
         append(few, name)?;
         return Ok(true);
     }
-    let added = insert(more, name)?;
+    let added = more.insert(name)?;
     Ok(added)
 }
 
@@ -98,7 +72,7 @@ impl<'a> NameList<'a> {
     {
         NameList {
             few: Vec::new(alloc),
-            more: IndexSet::new(alloc),
+            more: HashedNames::new(alloc),
         }
     }
 
@@ -144,7 +118,7 @@ impl<'a> NameList<'a> {
         for name in &self.few {
             append(&mut list, name)?;
         }
-        for other in &self.more {
+        for other in self.more.names() {
             append(&mut list, other)?;
         }
         Ok(list)

@@ -5,8 +5,8 @@ ghost use Rattle.go_open_core.specs.Blocks.{block_of, block_after, named, names_
 
 use crate::name_list::NameList;
 use crate::{DeclId, add_decl, find_in};
+use go_named_core::NameTable;
 use go_text_core::Rule;
-use indexmap::IndexMap;
 use std::alloc::Global;
 use std::marker::Model;
 
@@ -70,7 +70,7 @@ impl ShortDecl {
 
 // What a name is in a block, behind those that were seen. Errors: M0.
 fn short_name_in<'a>(
-    block: &IndexMap<String, DeclId>,
+    block: &NameTable<DeclId>,
     seen: &mut NameList<'a>,
     name: &'a str,
 ) -> Result<ShortName, Rule>
@@ -93,7 +93,7 @@ fn short_name_in<'a>(
 
 // Notes what a name is in a block, behind those that were seen, and answers it. Errors: M0.
 fn note_short<'a>(
-    block: &IndexMap<String, DeclId>,
+    block: &NameTable<DeclId>,
     seen: &mut NameList<'a>,
     shorts: &mut Vec<ShortName>,
     name: &'a str,
@@ -112,7 +112,7 @@ fn note_short<'a>(
 
 // What each of some names is in a block, in their order. Errors: M0.
 pub(crate) fn short_names_in(
-    block: &IndexMap<String, DeclId>,
+    block: &NameTable<DeclId>,
     alloc: Global,
     names: &[&str],
 ) -> Result<ShortDecl, Rule>
@@ -131,7 +131,7 @@ pub(crate) fn short_names_in(
 
 // Declares a name in one block, if it is new there, and notes what it is. Errors: M0; the block is then as it was.
 fn declare_new<'a>(
-    block: &mut IndexMap<String, DeclId>,
+    block: &mut NameTable<DeclId>,
     alloc: Global,
     seen: &mut NameList<'a>,
     shorts: &mut Vec<ShortName>,
@@ -151,14 +151,14 @@ fn declare_new<'a>(
 }
 
 // Whether a name is not blank and not declared in a block. Takes no memory.
-fn can_declare(block: &IndexMap<String, DeclId>, name: &str) -> bool
+fn can_declare(block: &NameTable<DeclId>, name: &str) -> bool
     ensures { result ≡ is_new (block_of block.now) name.now }
 {
     name != "_" && find_in(block, name).is_none()
 }
 
 // Whether one of some names is not blank and not declared in a block. Takes no memory.
-fn can_declare_any(block: &IndexMap<String, DeclId>, names: &[(&str, DeclId)]) -> bool
+fn can_declare_any(block: &NameTable<DeclId>, names: &[(&str, DeclId)]) -> bool
     ensures { result ≡ list_any (is_new (block_of block.now)) (names_in (named names.now)) }
 {
     for (name, _) in names {
@@ -172,7 +172,7 @@ fn can_declare_any(block: &IndexMap<String, DeclId>, names: &[(&str, DeclId)]) -
 // Declares those names in one block that are new there, and answers what each is. Errors: B4 where none is new, which
 // takes no memory, and otherwise M0; the block is then as it was.
 pub(crate) fn declare_each(
-    block: &mut IndexMap<String, DeclId>,
+    block: &mut NameTable<DeclId>,
     alloc: Global,
     names: &[(&str, DeclId)],
 ) -> Result<ShortDecl, Rule>

@@ -71,11 +71,6 @@ pub mod handle_core {
     pub use go_ready_core::handle_core::{Decl, DeclSite, SignatureRef, TypeRef};
 }
 
-/// What the crates above name of `go_names_core`.
-pub mod names_core {
-    pub use go_ready_core::names_core::Outside;
-}
-
 /// What the crates above name of `go_operand_core`.
 pub mod operand_core {
     pub use go_ready_core::operand_core::{Operand, TypeForm, ValueType};
@@ -83,7 +78,7 @@ pub mod operand_core {
 
 /// What the crates above name of `go_parse_core`.
 pub mod parse_core {
-    pub use go_ready_core::parse_core::{ParseError, Parsed, one_rule, one_tree, parse, tree_of};
+    pub use go_ready_core::parse_core::{one_rule, one_tree};
 }
 
 /// What the crates above name of `go_ready_core`.

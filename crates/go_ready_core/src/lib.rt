@@ -100,11 +100,6 @@ pub mod known_core {
     pub use go_known_core::package_values;
 }
 
-/// What the crates above name of `go_names_core`.
-pub mod names_core {
-    pub use go_known_core::names_core::Outside;
-}
-
 /// What the crates above name of `go_operand_core`.
 pub mod operand_core {
     pub use go_known_core::operand_core::{Operand, TypeForm, ValueType};
@@ -112,7 +107,7 @@ pub mod operand_core {
 
 /// What the crates above name of `go_parse_core`.
 pub mod parse_core {
-    pub use go_used_core::parse_core::{ParseError, Parsed, one_rule, one_tree, parse, tree_of};
+    pub use go_used_core::parse_core::{one_rule, one_tree};
 }
 
 /// What the crates above name of `go_report_core`.

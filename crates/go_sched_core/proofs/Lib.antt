@@ -3,5 +3,6 @@ pub mod Commits
 pub mod Growing
 pub mod Lists
 pub mod Marking
+pub mod Outs
 pub mod Outside
 pub mod Runs

@@ -1,5 +1,6 @@
 pub mod Coding
 pub mod Laws
+pub mod Outs
 pub mod Prepared
 pub mod Service
 pub mod Steps

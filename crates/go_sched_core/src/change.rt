@@ -6,12 +6,13 @@ use go_path_core::Module;
 use go_submit_core::{Batches, Submission};
 use std::collections::LinkedList;
 
-/// An action that is to be handed out, with the last published part of its package, and whether its input is the one of that part.
+/// An action that is to be handed out, with the last published part of its package, and whether its input is the one of that part, or seems to be another.
 #[derive(Drop)]
 pub struct Hand {
     pub next: Next,
     pub earlier: Option<ReadPart>,
     pub kept: bool,
+    pub other: bool,
 }
 
 /// What a step changes, with all that it grows.

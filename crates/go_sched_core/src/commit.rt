@@ -228,6 +228,7 @@ impl Core {
             next,
             earlier,
             kept,
+            other,
         } = hand;
         let Next {
             place,
@@ -245,6 +246,7 @@ impl Core {
             input,
             earlier,
             kept: place_if(kept, place),
+            other,
         })
     }
 
@@ -258,6 +260,7 @@ impl Core {
             next,
             earlier,
             kept,
+            other,
         } = hand;
         let Next {
             place,
@@ -282,6 +285,7 @@ impl Core {
             input,
             earlier,
             kept: place_if(kept, place),
+            other,
         })
     }
 

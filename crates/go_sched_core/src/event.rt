@@ -22,14 +22,18 @@ pub enum TicketState {
 }
 
 /// A session with the module that it holds.
-#[derive(Drop)]
 pub struct Held {
     pub session: SessionId,
     pub own: Module,
 }
 
+impl Drop for Held {
+    fn drop(self) {
+        let Held { session: _, own: _ } = self;
+    }
+}
+
 /// What happens to the core.
-#[derive(Drop)]
 pub enum Event {
     /// A session opens a module.
     Open(Module),
@@ -45,8 +49,20 @@ pub enum Event {
     GiveBack(u64),
 }
 
+impl Drop for Event {
+    fn drop(self) {
+        match self {
+            Event::Open(_) => {}
+            Event::Close(_) => {}
+            Event::Submit(_, _) => {}
+            Event::Take => {}
+            Event::Finish(_, _) => {}
+            Event::GiveBack(_) => {}
+        }
+    }
+}
+
 /// The compilation of one package in a generation: its number, the input of the package, and the package's last published part, where there is one.
-#[derive(Drop)]
 pub struct Action {
     pub generation: u64,
     pub number: u64,
@@ -54,6 +70,21 @@ pub struct Action {
     pub earlier: Option<ReadPart>,
     /// The number of the package, where the core knows that the earlier part is made of this input: then it can be finished by `Core::prepare_kept`.
     pub kept: Option<usize>,
+    /// Whether the input seems to be another than that of the earlier part, so that comparing the two is no use. Nothing rests on it but time.
+    pub other: bool,
+}
+
+impl Drop for Action {
+    fn drop(self) {
+        let Action {
+            generation: _,
+            number: _,
+            input: _,
+            earlier: _,
+            kept: _,
+            other: _,
+        } = self;
+    }
 }
 
 /// What the core replies.

@@ -14,7 +14,6 @@ use std::collections::LinkedList;
 use std::marker::Model;
 
 /// The service's state. Contracts see it as a `Service`.
-#[derive(Drop)]
 pub struct Core {
     pub(crate) alloc: Global,
     pub(crate) accepted: u64,
@@ -30,6 +29,25 @@ pub struct Core {
     pub(crate) planned: Option<Planned>,
     // What of the last snapshot is as it was in the batch that runs.
     pub(crate) steady: Option<Steady>,
+}
+
+impl Drop for Core {
+    fn drop(self) {
+        let Core {
+            alloc: _,
+            accepted: _,
+            opened: _,
+            held: _,
+            tickets: _,
+            waiting: _,
+            generations: _,
+            actions: _,
+            running: _,
+            published: _,
+            planned: _,
+            steady: _,
+        } = self;
+    }
 }
 
 impl Model for Core {

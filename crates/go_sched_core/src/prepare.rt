@@ -4,9 +4,10 @@ ghost use Rattle.go_batch_core.specs.graph_core.Workspaces.{AreAllRead};
 ghost use Rattle.go_submit_core.specs.Modules.{with_trees};
 ghost use Rattle.go_submit_core.specs.Published.{IsEarlierPart, IsOneWorker, batch_of, last_of, sources_of};
 ghost use Rattle.go_submit_core.specs.Submitted.{submission_with, submitted};
-ghost use Rattle.go_batch_core.specs.Batches.{Awaits, IsReady, NoneReady, actions_left, with_part};
+ghost use Rattle.go_batch_core.specs.Batches.{Awaits, IsForeign, IsKnown, IsReady, NoneReady, actions_left, with_part};
 ghost use Rattle.go_batch_core.specs.Planning.{IsPlanned};
 ghost use Rattle.go_batch_core.specs.Steadiness.{BeginsSteady, IsSteady};
+ghost use Rattle.go_sched_core.specs.Outs.{KnowsInput};
 ghost use Rattle.go_sched_core.specs.Steps.{IsFormed, Step, accepts, with_batch};
 ghost use Rattle.go_sched_core.specs.mirrors.Fitting.{ArePublished, Fits, IsBeginning, IsHand};
 ghost use Rattle.go_sched_core.specs.mirrors.Beside.{BeginsBeside, IsKeptEnd, IsMove, IsSteadyBeside};
@@ -175,11 +176,12 @@ impl Core {
             next,
             earlier: Some(earlier),
             kept: true,
+            other: false,
         }))
     }
 
     // A ready action of a batch, with an input that is made.
-    fn new_hand(&self, batch: &Batch, place: usize) -> Result<Hand, AllocError>
+    fn new_hand(&self, batch: &Batch, place: usize, other: bool) -> Result<Hand, AllocError>
         requires { IsReady batch.now place }
         ensures { IfOk result (IsHand self.now.published batch.now) }
     {
@@ -189,6 +191,7 @@ impl Core {
             next,
             earlier,
             kept: false,
+            other,
         })
     }
 
@@ -204,11 +207,12 @@ impl Core {
         ensures { IfOk result (IsHand self.now.published batch.now) }
     {
         let (Some(steady), Some(last)) = (steady, self.published.last()) else {
-            return self.new_hand(batch, place);
+            return self.new_hand(batch, place, false);
         };
         match self.kept_hand(batch, steady, last, place)? {
             Some(hand) => Ok(hand),
-            None => self.new_hand(batch, place),
+            // Where the package is the same, one that it reaches tells something else.
+            None => self.new_hand(batch, place, steady.is_same(place)),
         }
     }
 
@@ -423,6 +427,26 @@ impl Core {
         }
     }
 
+    // The end of the action of the batch that runs that awaits a part under a number, if one does.
+    fn prepare_at(
+        &self,
+        running: &Running,
+        place: Option<usize>,
+        number: u64,
+        part: &ReadPart,
+    ) -> Result<Change, Reply>
+        requires running { self.now.running ≡ Some running.now }
+        requires awaits { MatchOption place (IsForeign running.now.batch number part.now) (λ place. Awaits running.now.batch place number part.now) }
+        ensures ok { IfOk result (λ change. Fits self.now (Event.Finish number part.now) change) }
+        ensures err { IfErr result (λ reply. Step self.now (Event.Finish number part.now) reply self.now × (accepts reply ≡ false)) }
+    {
+        let Some(place) = place else {
+            return Err(Reply::Refused(Rule::Z1));
+        };
+        let moved = self.moves(place, part);
+        self.prepare_end(running, place, number, part, moved)
+    }
+
     fn prepare_finish(&self, number: u64, part: &ReadPart) -> Result<Change, Reply>
         ensures ok { IfOk result (λ change. Fits self.now (Event.Finish number part.now) change) }
         ensures err { IfErr result (λ reply. Step self.now (Event.Finish number part.now) reply self.now × (accepts reply ≡ false)) }
@@ -430,11 +454,21 @@ impl Core {
         let Some(running) = &self.running else {
             return Err(Reply::Refused(Rule::Z1));
         };
-        let Some(place) = running.batch.awaiting(number, part) else {
+        let place = running.batch.awaiting(number, part);
+        self.prepare_at(running, place, number, part)
+    }
+
+    /// The same where the input of the action of the number is known to be the part's, if it is not finished: no input is looked at.
+    pub(crate) fn known_end(&self, number: u64, part: &ReadPart) -> Result<Change, Reply>
+        requires { KnowsInput self.now number part.now.input }
+        ensures ok { IfOk result (λ change. Fits self.now (Event.Finish number part.now) change) }
+        ensures err { IfErr result (λ reply. Step self.now (Event.Finish number part.now) reply self.now × (accepts reply ≡ false)) }
+    {
+        let Some(running) = &self.running else {
             return Err(Reply::Refused(Rule::Z1));
         };
-        let moved = self.moves(place, part);
-        self.prepare_end(running, place, number, part, moved)
+        let place = running.batch.awaiting_known(number, part);
+        self.prepare_at(running, place, number, part)
     }
 
     // The last published part of the package of a number, whose action was taken under a number with the input of this part, and is not finished.

@@ -2,6 +2,7 @@
 ghost use Rattle.std.specs.Prelude.{◌≡◌, IfErr, IfOk, IfSome, MatchOption, false, true};
 ghost use Rattle.go_batch_core.specs.part_core.Parts.{PartModel};
 ghost use Rattle.go_submit_core.specs.Published.{BeginsWith};
+ghost use Rattle.go_sched_core.specs.Outs.{KnowsInput};
 ghost use Rattle.go_sched_core.specs.Prepared.{IsAllowed};
 ghost use Rattle.go_sched_core.specs.Steps.{Step, accepts};
 
@@ -9,6 +10,7 @@ use crate::change::Change;
 use crate::event::{Event, Reply};
 use crate::machine::Core;
 use crate::running::Running;
+use go_batch_core::ReadPart;
 use go_submit_core::Batches;
 use go_text_core::Rule;
 use std::alloc::{AllocError, Global};
@@ -101,7 +103,7 @@ impl Core {
         ensures err { IfErr result (λ reply. Step self.old event reply self.old × (accepts reply ≡ false)) }
     {
         let from = std::snapshot::Snapshot::of(&*self);
-        if matches!(event, Event::Take) && self.tell().is_err() {
+        if matches!(&event, Event::Take) && self.tell().is_err() {
             return Err(Reply::Refused(Rule::M0));
         }
         match self.change_of(&event) {
@@ -131,6 +133,28 @@ impl Core {
                 change,
             })),
             Err(reply) => Some(Err(reply)),
+        }
+    }
+
+    /// As `prepare` of the end of an action by a part, where the action's input is known to be the part's, if it is not finished: no input is looked at.
+    ///
+    /// # Errors
+    ///
+    /// The reply, where the step is refused. The part is then gone.
+    pub fn prepare_known(&mut self, number: u64, part: ReadPart) -> Result<Ready, Reply>
+        requires { KnowsInput self.old number part.input }
+        ensures same { self.new ≡ self.old }
+        ensures ok { IfOk result (λ r. (r.from ≡ self.old) × (r.event ≡ Event.Finish number part)) }
+        ensures err { IfErr result (λ reply. Step self.old (Event.Finish number part) reply self.old × (accepts reply ≡ false)) }
+    {
+        let from = std::snapshot::Snapshot::of(&*self);
+        match self.known_end(number, &part) {
+            Ok(change) => Ok(Ready {
+                from,
+                event: Event::Finish(number, part),
+                change,
+            }),
+            Err(reply) => Err(reply),
         }
     }
 

@@ -45,5 +45,5 @@ pub mod open_core {
 
 /// What the crates above name of `go_parse_core`.
 pub mod parse_core {
-    pub use go_block_core::parse_core::{ParseError, Parsed, one_rule, one_tree, parse, tree_of};
+    pub use go_block_core::parse_core::{one_rule, one_tree};
 }

@@ -1,7 +1,8 @@
 -- A path can be cut until it meets no type of the table twice.
-use Rattle.std.proofs.Common.{◌≡◌, ℕ, zero, suc, ◌≤◌, Bool, true, false, ◌||◌, List, [], ◌∷◌, ◌++◌, length, Option, Some, None, refl, sym, ap, ◌∙◌, subst, arith, ◌⊎◌, inl, inr, if◌then◌else◌}
+use Rattle.std.proofs.Common.{◌≡◌, ℕ, zero, suc, ◌≤◌, Bool, true, false, ◌||◌, List, [], ◌∷◌, length, Option, Some, None, cond, refl, sym, ap, ◌∙◌, subst, arith, ◌⊎◌, inl, inr, if◌then◌else◌}
 use Rattle.std.specs.Prelude.{nat_eq}
 use Rattle.std.specs.Map.{lookup}
+use Rattle.std.proofs.lemmas.Cmp.{nat_eq_equiv}
 use Rattle.go_level_core.specs.decl_core.declared.keys.DeclKey.{DeclKey}
 use Rattle.go_term_core.specs.Terms.{Term, NoType, Predeclared, ErrorType, Defined, PointerTo, StructOf, InterfaceOf, Fields}
 use Rattle.go_term_core.proofs.Members.{In}
@@ -10,7 +11,7 @@ use Rattle.go_level_core.specs.table_core.Keys.{same_key_itself, same_key_true}
 use Rattle.go_level_core.specs.embed_core.Owners.{EmbeddedEdge, Found, owner_in, term_embedded, embedded_in}
 use Rattle.go_level_core.specs.Paths.{Step, FieldsLead, Hit}
 use Rattle.go_select_core.specs.Laws.{ShortPathsSuffice}
-use Rattle.go_level_core.specs.mirrors.Ways.{At, IsNumbered}
+use Rattle.go_level_core.specs.mirrors.Ways.{At, IsNumbered, Noted}
 use Rattle.go_level_core.specs.mirrors.Levels.{left_below, left}
 use Rattle.go_level_core.proofs.Edges.{step_edge}
 use Rattle.go_level_core.proofs.Weights.{lookup_more, lookup_new, left_falls}
@@ -82,8 +83,11 @@ pub avoids_none : (es : List Entry) (t : Term) (q : List ℕ) (p : Bool) (u : Te
 avoids_none es t [] p u h = (λ n num. refl, h.0)
 avoids_none es t (i ∷ q) p u h = (λ n num. refl, (h.0, h.1, h.3, avoids_none es h.0 q h.2 u h.4))
 
-free_more : (es : List Entry) (met : List (ℕ × ℕ)) (n : ℕ) (w : Term) → Free es met w → (IsNumbered es n w → ⊥) → Free es (met ++ (n, 0) ∷ []) w
-free_more es met n w free other m num = lookup_more met n 0 m (λ e. other (subst (λ k. IsNumbered es k w) e num)) ∙ free m num
+noted_first : (n : ℕ) (met : List (ℕ × ℕ)) → Noted n 0 met ((n, 0) ∷ met)
+noted_first n met m = ap (λ b. cond b (Some 0) (lookup (nat_eq m) met)) (nat_eq_equiv.symm m n)
+
+free_more : (es : List Entry) (met : List (ℕ × ℕ)) (n : ℕ) (w : Term) → Free es met w → (IsNumbered es n w → ⊥) → Free es ((n, 0) ∷ met) w
+free_more es met n w free other m num = lookup_more met ((n, 0) ∷ met) n 0 m (noted_first n met) (λ e. other (subst (λ k. IsNumbered es k w) e num)) ∙ free m num
 
 -- the last time that a path is at t: it never is, or the rest of it never comes back
 abbrev pub Rest : List Entry → List (ℕ × ℕ) → Term → Term → Type 0
@@ -92,7 +96,7 @@ Rest es met t u = (t ≡ u) ⊎ ((i : ℕ) × (p : Bool) × (v : Term) × (q : L
 same_as : (es : List Entry) (n : ℕ) (t : Term) (num : IsNumbered es n t) (w : Term) → (w ≡ t) ⊎ (w ≡ t → ⊥)
 same_as es n t num w = elim (same_node w num.entry.key) [ inl e ↦ inl (e ∙ sym num.is) | inr d ↦ inr (λ e. d (e ∙ num.is)) ]
 
-pub last_visit : (es : List Entry) (met : List (ℕ × ℕ)) (n : ℕ) (t : Term) (num : IsNumbered es n t) (w : Term) (q : List ℕ) (u : Term) → Avoids es met w q u → Avoids es (met ++ (n, 0) ∷ []) w q u ⊎ Rest es (met ++ (n, 0) ∷ []) t u
+pub last_visit : (es : List Entry) (met : List (ℕ × ℕ)) (n : ℕ) (t : Term) (num : IsNumbered es n t) (w : Term) (q : List ℕ) (u : Term) → Avoids es met w q u → Avoids es ((n, 0) ∷ met) w q u ⊎ Rest es ((n, 0) ∷ met) t u
 last_visit es met n t num w [] u h =
     elim (same_as es n t num w) [
       | inl z ↦ inr (inl (sym z ∙ h.1))
@@ -111,10 +115,10 @@ pub starts : (es : List Entry) (met : List (ℕ × ℕ)) (t : Term) (q : List �
 starts es met t [] u h = h.0
 starts es met t (i ∷ q) u h = h.0
 
-pub marked : (es : List Entry) (met : List (ℕ × ℕ)) (n : ℕ) (t : Term) (q : List ℕ) (u : Term) → IsNumbered es n t → lookup (nat_eq n) met ≡ None → Avoids es (met ++ (n, 0) ∷ []) t q u → ⊥
-marked es met n t q u num none a =
-    let x = starts es (met ++ (n, 0) ∷ []) t q u a n num in
-    let y = lookup_new met n 0 none in
+pub marked : (es : List Entry) (met : List (ℕ × ℕ)) (n : ℕ) (t : Term) (q : List ℕ) (u : Term) → IsNumbered es n t → Avoids es ((n, 0) ∷ met) t q u → ⊥
+marked es met n t q u num a =
+    let x = starts es ((n, 0) ∷ met) t q u a n num in
+    let y = lookup_new met ((n, 0) ∷ met) n 0 (noted_first n met) in
     some_none 0 (sym y ∙ x)
   where
     some_none : (p : ℕ) → Some p ≡ None → ⊥
@@ -124,18 +128,18 @@ short : (b : ℕ) (es : List Entry) (met : List (ℕ × ℕ)) (t : Term) (q : Li
 short b es met t [] u l clean h = ([], false, (h.1, refl), omega arith)
 short zero es met t (i ∷ q) u l clean h =
     let num = step_numbered es t i h.1.1 h.1.0 clean h.1.2 in
-    let f = left_falls es met num.0 0 t num.1 (h.0 num.0 num.1) in
+    let f = left_falls es met ((num.0, 0) ∷ met) num.0 0 t num.1 (h.0 num.0 num.1) (noted_first num.0 met) in
     absurd (omega (arith, f, l))
 short (suc b) es met t (i ∷ q) u l clean h =
     let num = step_numbered es t i h.1.1 h.1.0 clean h.1.2 in
     let none = h.0 num.0 num.1 in
-    let f = left_falls es met num.0 0 t num.1 none in
+    let f = left_falls es met ((num.0, 0) ∷ met) num.0 0 t num.1 none (noted_first num.0 met) in
     elim (last_visit es met num.0 t num.1 t (i ∷ q) u h) [
-      | inl a ↦ absurd (marked es met num.0 t (i ∷ q) u num.1 none a)
+      | inl a ↦ absurd (marked es met num.0 t (i ∷ q) u num.1 a)
       | inr r ↦ elim r [
         | inl e ↦ ([], false, (e, refl), omega arith)
         | inr x ↦
-            let s = short b es (met ++ (num.0, 0) ∷ []) x.2 x.3 u (omega (arith, f, l)) (clean_step es t x.0 x.1 x.2 clean x.4) x.5 in
+            let s = short b es ((num.0, 0) ∷ met) x.2 x.3 u (omega (arith, f, l)) (clean_step es t x.0 x.1 x.2 clean x.4) x.5 in
             (x.0 ∷ s.0, x.1 || s.1, (x.2, x.1, s.1, x.4, s.2, refl), omega (arith, s.3))
       ]
     ]

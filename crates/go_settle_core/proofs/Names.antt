@@ -1,6 +1,7 @@
 -- Names among others.
 use Rattle.std.proofs.Common.{◌≡◌, ℕ, Bool, true, false, not, ◌&&◌, ◌||◌, List, [], ◌∷◌, ◌++◌, map, if◌then◌else◌, refl, sym, ap, ◌∙◌, subst}
 use Rattle.std.specs.Borrow.{Bor}
+use Rattle.std.specs.HashSet.{HashSet, Updates}
 use Rattle.std.specs.List.{list_any}
 use Rattle.std.proofs.lemmas.List.{map-append}
 use Rattle.std.specs.Str.{bytes_eq}
@@ -83,7 +84,7 @@ any_named name (x ∷ xs) = ap (λ b. b || list_any (λ x. bytes_eq name x.now) 
     by true rest = refl
     by false rest = rest
 
--- a set of them with one more
+-- a list of them with one more behind
 pub inserted : (xs ys : List (Bor (List ℕ))) (x : Bor (List ℕ)) → ys ≡ (if list_any (λ y. bytes_eq x.now y.now) xs then xs else xs ++ x ∷ []) → SameNames (map (λ y. y.now) ys) (x.now ∷ map (λ y. y.now) xs)
 inserted xs ys x is n =
     ap (λ l. is_among_names (map (λ y. y.now) l) n) is ∙ by (list_any (λ y. bytes_eq x.now y.now) xs) (any_named x.now xs)
@@ -91,6 +92,12 @@ inserted xs ys x is n =
     by : (b : Bool) → b ≡ is_among_names (map (λ y. y.now) xs) x.now → is_among_names (map (λ y. y.now) (if b then xs else xs ++ x ∷ [])) n ≡ is_among_names (x.now ∷ map (λ y. y.now) xs) n
     by true h = sym (seen_again x.now (map (λ y. y.now) xs) (sym h) n)
     by false h = ap (λ l. is_among_names l n) (map-append (λ y. y.now) xs (x ∷ [])) ∙ has_last (map (λ y. y.now) xs) x.now n
+
+-- a set of them with one more
+pub put_among : {S : Type 0} (old new : HashSet (Bor (List ℕ)) S) (x : Bor (List ℕ)) → Updates (λ y z. bytes_eq y.now z.now) old new x true → SameNames (map (λ y. y.now) new.keys) (x.now ∷ map (λ y. y.now) old.keys)
+put_among old new x put n =
+    sym (any_named n new.keys)
+    ∙ (put.0 (record { ref_ptr = (0, 0); now = n }) ∙ ap (λ b. if bytes_eq x.now n then true else b) (any_named n old.keys))
 
 -- two lists of names, of which the first has the name
 pub among_few : (xs ys : List (List ℕ)) (n : List ℕ) → is_among_names xs n ≡ true → is_among_names (xs ++ ys) n ≡ true

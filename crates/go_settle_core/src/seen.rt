@@ -2,8 +2,8 @@
 ghost use Rattle.std.specs.Prelude.{◌≡◌, ℕ, List, [], ◌∷◌, ◌++◌, IfOk, OnOk, map, not};
 ghost use Rattle.go_settle_core.specs.Settled.{is_among_names};
 
-use indexmap::IndexSet;
 use std::alloc::{AllocError, Global};
+use std::collections::HashSet;
 use std::marker::Model;
 
 /// How many names are searched one by one.
@@ -14,7 +14,7 @@ const FEW: usize = 8;
 #[derive(Drop)]
 pub struct SeenNames<'a> {
     few: Vec<&'a str>,
-    more: IndexSet<&'a str>,
+    more: HashSet<&'a str>,
 }
 
 impl<'a> Model for SeenNames<'a> {
@@ -38,7 +38,7 @@ fn is_among(names: &[&str], name: &str) -> bool
 }
 
 // Adds a name to a set, unless it is there, and answers whether it was not.
-fn insert<'a>(names: &mut IndexSet<&'a str>, name: &'a str) -> Result<bool, AllocError>
+fn insert<'a>(names: &mut HashSet<&'a str>, name: &'a str) -> Result<bool, AllocError>
     ensures added { IfOk result (λ is_new. is_new ≡ not (is_among_names (map (λ n. n.now) names.old.keys) name.now)) }
     ensures seen { OnOk result ((n : List ℕ) → is_among_names (map (λ n. n.now) names.new.keys) n ≡ is_among_names (name.now ∷ map (λ n. n.now) names.old.keys) n) }
 {
@@ -63,7 +63,7 @@ impl<'a> SeenNames<'a> {
     {
         SeenNames {
             few: Vec::new(alloc),
-            more: IndexSet::new(alloc),
+            more: HashSet::new(alloc),
         }
     }
 

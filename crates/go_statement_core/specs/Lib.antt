@@ -12,7 +12,6 @@ pub mod Worked
 pub mod constant_core
 pub mod denote_core
 pub mod expr_core
-pub mod expr_core_lemmas
 pub mod literal_core
 pub mod operand_core
 pub mod tree_core

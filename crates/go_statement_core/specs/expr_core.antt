@@ -1,5 +1,6 @@
 -- What the crates above name of go_expr_core.
 pub use Rattle.go_expr_core.proofs.Alike as Alike
+pub use Rattle.go_expr_core.proofs.Arms as Arms
 pub use Rattle.go_expr_core.specs.Denoting as Denoting
 pub use Rattle.go_expr_core.specs.Faults as Faults
 pub use Rattle.go_expr_core.specs.Laws as Laws

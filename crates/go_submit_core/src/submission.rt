@@ -14,10 +14,15 @@ use std::sync::Arc;
 pub struct Ticket(pub u64);
 
 /// A tree that was submitted, with its ticket.
-#[derive(Drop)]
 pub struct Submission {
     pub ticket: Ticket,
     pub tree: ModuleTree,
+}
+
+impl Drop for Submission {
+    fn drop(self) {
+        let Submission { ticket: _, tree: _ } = self;
+    }
 }
 
 /// Submissions in the order in which they came. A handle over one shared pointer. Contracts see the list.

@@ -1,34 +1,16 @@
 -- A table with the types of one package more.
-use Rattle.std.proofs.Common.{◌≡◌, ℕ, ◌+◌, ◌<◌, Bool, true, false, List, [], ◌∷◌, ◌++◌, length, map, Some, None, refl, sym, ap, ◌∙◌, arith, cond, append_assoc, subst}
-use Rattle.std.specs.Prelude.{string_bytes}
+use Rattle.std.proofs.Common.{◌≡◌, ℕ, ◌+◌, ◌<◌, Bool, true, false, List, [], ◌∷◌, ◌++◌, length, Some, None, Result, Ok, Err, refl, sym, ap, ◌∙◌, arith, cond, append_assoc, subst}
+use Rattle.std.specs.Result.{OnErr}
 use Rattle.std.specs.Str.{bytes_eq}
-use Rattle.std.specs.String.{string_eq}
-use Rattle.std.specs.Map.{lookup}
-use Rattle.std.specs.declared.string.String.{String}
 use Rattle.std.proofs.lemmas.List.{length-append, map-append, append-nil}
-use Rattle.indexmap.specs.IndexMap.{IndexMap, get, get_by, insert_entry}
-use Rattle.indexmap.proofs.CallerLemmas.{insert_entry-new}
 use Rattle.go_table_core.specs.declared.table.Numbered.{Numbered}
 use Rattle.go_table_core.specs.Tables.{ArePackageTypes, AreOthers}
 use Rattle.go_table_core.specs.mirrors.Holding.{packages_of, all_entries, package_at, AreKept, IsTable}
 use Rattle.go_table_core.proofs.Finding.{bytes_turned, none_there}
 use Rattle.go_term_core.specs.Terms.{Term}
 
-lookup_bytes : {Y : Type 0} (path : List ℕ) (es : List (String Y × Numbered)) → lookup (λ k. bytes_eq path (string_bytes k)) es ≡ lookup (bytes_eq path) (map (λ e. (string_bytes e.0, e.1)) es)
-lookup_bytes path [] = refl
-lookup_bytes path (e ∷ es) = ap (λ o. cond (bytes_eq path (string_bytes e.0)) (Some e.1) o) (lookup_bytes path es)
-
--- what a map has at a path
-pub in_map : {Y S : Type 0} (path : List ℕ) (table : IndexMap (String Y) Numbered S) → get_by (λ k. bytes_eq path (string_bytes k)) table ≡ package_at (packages_of table) path
-in_map path table = lookup_bytes path table.entries
-
--- a new path goes last
-pub packages_of-insert : {Y S : Type 0} (old new : IndexMap (String Y) Numbered S) (key : String Y) (path : List ℕ) (p : Numbered) → string_bytes key ≡ path → package_at (packages_of old) path ≡ None → new.entries ≡ insert_entry string_eq old.entries key p → packages_of new ≡ packages_of old ++ (path, p) ∷ []
-packages_of-insert old new key path p is_path absent e =
-    let absent' : get string_eq old key ≡ None = ap (λ n. get_by (λ k. bytes_eq n (string_bytes k)) old) is_path ∙ (in_map path old ∙ absent) in
-    ap (map (λ e. (string_bytes e.0, e.1))) (e ∙ insert_entry-new string_eq old key p absent')
-    ∙ (map-append (λ e. (string_bytes e.0, e.1)) old.entries ((key, p) ∷ [])
-    ∙ ap (λ n. packages_of old ++ (n, p) ∷ []) is_path)
+packages_of-push : (ps : List Numbered) (p : Numbered) → packages_of (ps ++ p ∷ []) ≡ packages_of ps ++ (p.types.path, p) ∷ []
+packages_of-push ps p = map-append (λ q. (q.types.path, q)) ps (p ∷ [])
 
 package_at-apart : (ps : List (List ℕ × Numbered)) (q path : List ℕ) (p : Numbered) → package_at ps q ≡ None → bytes_eq q path ≡ false → package_at (ps ++ (path, p) ∷ []) q ≡ None
 package_at-apart [] q path p none apart = ap (λ b. cond b (Some p) None) apart
@@ -52,17 +34,17 @@ all_entries-more : (ps : List (List ℕ × Numbered)) (path : List ℕ) (p : Num
 all_entries-more [] path p = append-nil p.types.entries
 all_entries-more (q ∷ ps) path p = ap (λ l. q.1.types.entries ++ l) (all_entries-more ps path p) ∙ sym (append_assoc q.1.types.entries (all_entries ps) p.types.entries)
 
--- the table after an insertion, and what it shows
-pub table_more : {Y S : Type 0} (old new : IndexMap (String Y) Numbered S) (key : String Y) (path : List ℕ) (p : Numbered) (len more : ℕ) (nothing : Term)
-    → IsTable len (packages_of old) nothing → string_bytes key ≡ path → AreOthers path (all_entries (packages_of old)) → new.entries ≡ insert_entry string_eq old.entries key p
+-- the table with a package more, and what it shows
+pub table_more : (old new : List Numbered) (path : List ℕ) (p : Numbered) (len more : ℕ) (nothing : Term)
+    → IsTable len (packages_of old) nothing → AreOthers path (all_entries (packages_of old)) → new ≡ old ++ p ∷ []
     → p.first ≡ len → path ≡ p.types.path → ArePackageTypes p.types.path p.types.entries → 0 < length p.types.entries → more ≡ len + length p.types.entries
     → IsTable more (packages_of new) nothing × (all_entries (packages_of new) ≡ all_entries (packages_of old) ++ p.types.entries)
-table_more old new key path p len more nothing was is_path others e first keyed well some counted =
-    let absent : package_at (packages_of old) path ≡ None = none_there 0 (packages_of old) path was.kept others in
-    let now : packages_of new ≡ packages_of old ++ (path, p) ∷ [] = packages_of-insert old new key path p is_path absent e in
-    let shown : all_entries (packages_of new) ≡ all_entries (packages_of old) ++ p.types.entries = ap all_entries now ∙ all_entries-more (packages_of old) path p in
+table_more old new path p len more nothing was others e first keyed well some counted =
+    let absent : package_at (packages_of old) p.types.path ≡ None = ap (package_at (packages_of old)) (sym keyed) ∙ none_there 0 (packages_of old) path was.kept others in
+    let now : packages_of new ≡ packages_of old ++ (p.types.path, p) ∷ [] = ap packages_of e ∙ packages_of-push old p in
+    let shown : all_entries (packages_of new) ≡ all_entries (packages_of old) ++ p.types.entries = ap all_entries now ∙ all_entries-more (packages_of old) p.types.path p in
     let at : p.first ≡ 0 + length (all_entries (packages_of old)) = omega (arith, first, was.counted) in
-    let kept : AreKept 0 (packages_of old ++ (path, p) ∷ []) = kept_more 0 (packages_of old) path p was.kept absent at keyed well some in (
+    let kept : AreKept 0 (packages_of old ++ (p.types.path, p) ∷ []) = kept_more 0 (packages_of old) p.types.path p was.kept absent at refl well some in (
       record {
         kept = subst (λ (ps : List (List ℕ × Numbered)). AreKept 0 ps) (sym now) kept;
         none = was.none;
@@ -70,3 +52,7 @@ table_more old new key path p len more nothing was is_path others e first keyed 
       },
       shown,
     )
+
+pub on_err : {T E P : Type 0} (r : Result T E) → P → OnErr r P
+on_err (Ok x) p = tt
+on_err (Err e) p = p

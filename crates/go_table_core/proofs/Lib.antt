@@ -2,6 +2,7 @@ pub mod Keys
 pub mod Finding
 pub mod Searching
 pub mod Adding
+pub mod Placing
 pub mod Spelled
 pub mod Underlying
 pub mod Listing

@@ -4,12 +4,13 @@ use Rattle.std.specs.Prelude.{nat_lt, nat_eq}
 use Rattle.std.specs.Bool.{Decides}
 use Rattle.std.specs.Cmp.{both_ways}
 use Rattle.std.specs.Str.{bytes_eq, chars}
+use Rattle.std.specs.HashMap.{HashMap, Updates}
 use Rattle.std.specs.Map.{lookup}
 use Rattle.std.specs.Borrow.{Bor}
 use Rattle.std.proofs.lemmas.Bool.{true≢false, cases_lt}
 use Rattle.std.proofs.lemmas.Bool.Decides.{Decides-and, Decides-or, Decides-ltb, Decides-eqb}
 use Rattle.std.proofs.lemmas.List.{drop_more, drop_all}
-use Rattle.indexmap.specs.IndexMap.{IndexMap, insert_entry}
+use Rattle.std.proofs.lemmas.Map.Text.{hash_map_updates_str}
 use Rattle.go_settle_core.specs.text_core.Text.{exported}
 use Rattle.go_term_core.specs.declared.term.Field.{Field}
 use Rattle.go_term_core.specs.declared.term.MemberPlace.{MemberPlace}
@@ -24,7 +25,7 @@ use Rattle.go_table_core.specs.Entries.{Member, has_method}
 use Rattle.go_table_core.specs.Methods.{is_before, field_before, has_field_before, field_spelled, term_fields}
 use Rattle.go_table_core.specs.Shown.{member_shown, hides_field, hides_some}
 use Rattle.go_table_core.specs.mirrors.Spots.{spot, earliest, spot_before, some_before, earlier_of, earliest_with, earliest_before, found_or_none, found_before, named_places, found_places, named_before, struct_path, HasPlaces, HasPlacesSoFar, AddsField, spells_some}
-use Rattle.go_table_core.proofs.Finding.{bytes_same, bytes_apart, bytes_turned}
+use Rattle.go_table_core.proofs.Finding.{bytes_same, bytes_turned}
 
 or_false : (b : Bool) → b ≡ b || false
 or_false true = refl
@@ -163,46 +164,25 @@ pub in_names : (name : List ℕ) (es : List (Bor (List ℕ) × Earliest)) → lo
 in_names name [] = refl
 in_names name (e ∷ es) = ap (λ o. cond (bytes_eq name e.0.now) (Some e.1) o) (in_names name es)
 
-found_inserted : (es : List (Bor (List ℕ) × Earliest)) (k : Bor (List ℕ)) (v : Earliest) (other : List ℕ)
-    → found_places (map (λ e. (e.0.now, e.1)) (insert_entry (λ x y. bytes_eq x.now y.now) es k v)) other ≡ (if bytes_eq other k.now then Some v else found_places (map (λ e. (e.0.now, e.1)) es) other)
-found_inserted [] k v other = refl
-found_inserted (e ∷ es) k v other = by (bytes_eq k.now e.0.now) refl (found_inserted es k v other)
-  where
-    rest : Option Earliest
-    rest = found_places (map (λ e. (e.0.now, e.1)) es) other
-
-    swap : (s t : Bool) → (s ≡ true → t ≡ true → ⊥) → cond s (Some e.1) (cond t (Some v) rest) ≡ cond t (Some v) (cond s (Some e.1) rest)
-    swap true true h = absurd (h refl refl)
-    swap true false h = refl
-    swap false t h = refl
-
-    twice : (s : Bool) → cond s (Some v) rest ≡ cond s (Some v) (cond s (Some e.1) rest)
-    twice true = refl
-    twice false = refl
-
-    by : (b : Bool) → bytes_eq k.now e.0.now ≡ b → found_places (map (λ e. (e.0.now, e.1)) (insert_entry (λ x y. bytes_eq x.now y.now) es k v)) other ≡ cond (bytes_eq other k.now) (Some v) rest
-        → found_places (map (λ e. (e.0.now, e.1)) (if b then (e.0, v) ∷ es else e ∷ insert_entry (λ x y. bytes_eq x.now y.now) es k v)) other ≡ cond (bytes_eq other k.now) (Some v) (cond (bytes_eq other e.0.now) (Some e.1) rest)
-    by true h ind =
-        let same : k.now ≡ e.0.now = same_bytes k.now e.0.now h in
-        twice (bytes_eq other e.0.now) ∙ ap (λ n. cond (bytes_eq other n) (Some v) (cond (bytes_eq other e.0.now) (Some e.1) rest)) (sym same)
-    by false h ind =
-        ap (cond (bytes_eq other e.0.now) (Some e.1)) ind
-        ∙ swap (bytes_eq other e.0.now) (bytes_eq other k.now) (λ s t. bytes_apart k.now e.0.now h (sym (same_bytes other k.now t) ∙ same_bytes other e.0.now s))
-
-pub adds_field : {S : Type 0} (old new : IndexMap (Bor (List ℕ)) Earliest S) (k : Bor (List ℕ)) (name : List ℕ) (so_far v : Earliest) (place : MemberPlace)
-    → k.now ≡ name → new.entries ≡ insert_entry (λ x y. bytes_eq x.now y.now) old.entries k v → so_far ≡ found_or_none (found_places (named_places old) name) → v ≡ earliest_with so_far place
+pub adds_field : {S : Type 0} (old new : HashMap (Bor (List ℕ)) Earliest S) (k : Bor (List ℕ)) (name : List ℕ) (so_far v : Earliest) (place : MemberPlace)
+    → k.now ≡ name → Updates (λ x y. bytes_eq x.now y.now) old new k (Some v) → so_far ≡ found_or_none (found_places (named_places old) name) → v ≡ earliest_with so_far place
     → AddsField (named_places old) (named_places new) name place
-adds_field old new k name so_far v place is e before now = record {
+adds_field old new k name so_far v place is put before now = record {
   at = λ other.
-      ap (λ l. found_places (map (λ e. (e.0.now, e.1)) l) other) e
-      ∙ (found_inserted old.entries k v other
-      ∙ (ap (λ n. if bytes_eq other n then Some v else found_places (named_places old) other) is
-      ∙ by other (bytes_eq other name) refl));
+      sym (in_names other new.entries)
+      ∙ (hash_map_updates_str k.now old new (Some v) put other
+      ∙ (ap (cond (bytes_eq k.now other) (Some v)) (in_names other old.entries)
+      ∙ (ap (λ n. cond (bytes_eq n other) (Some v) (found_places (named_places old) other)) is
+      ∙ by other (bytes_eq name other) refl)));
 }
   where
-    by : (other : List ℕ) (b : Bool) → bytes_eq other name ≡ b → (if b then Some v else found_places (named_places old) other) ≡ (if b then Some (earliest_with (found_or_none (found_places (named_places old) other)) place) else found_places (named_places old) other)
-    by other true h = ap Some (now ∙ (ap (λ s. earliest_with s place) (before ∙ ap (λ n. found_or_none (found_places (named_places old) n)) (sym (same_bytes other name h)))))
-    by other false h = refl
+    by : (other : List ℕ) (b : Bool) → bytes_eq name other ≡ b → cond b (Some v) (found_places (named_places old) other) ≡ (if bytes_eq other name then Some (earliest_with (found_or_none (found_places (named_places old) other)) place) else found_places (named_places old) other)
+    by other true h =
+        let same : name ≡ other = same_bytes name other h in
+        ap Some (now ∙ ap (λ s. earliest_with s place) (before ∙ ap (λ n. found_or_none (found_places (named_places old) n)) same))
+        ∙ sym (ap (λ t. if t then Some (earliest_with (found_or_none (found_places (named_places old) other)) place) else found_places (named_places old) other) (bytes_same other name (sym same)))
+    by other false h =
+        sym (ap (λ t. if t then Some (earliest_with (found_or_none (found_places (named_places old) other)) place) else found_places (named_places old) other) (bytes_turned name other h))
 
 -- a field before a method
 

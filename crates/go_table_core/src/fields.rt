@@ -9,8 +9,8 @@ use crate::entry::DeclaredMethod;
 use go_settle_core::path_core::ImportPath;
 use go_settle_core::text_core::is_exported;
 use go_term_core::{Field, FieldLine, MemberPlace, TypeTerm};
-use indexmap::IndexMap;
 use std::alloc::{AllocError, Global};
+use std::collections::HashMap;
 use std::marker::Model;
 
 /// A place by its file, and by what counts there.
@@ -30,7 +30,7 @@ struct Earliest {
 /// The fields of a struct type by their names; of any other type it has none. Contracts see the type.
 pub struct FieldTable<'a> {
     underlying: &'a TypeTerm,
-    places: IndexMap<&'a str, Earliest>,
+    places: HashMap<&'a str, Earliest>,
 }
 
 impl Drop for FieldTable<'_> {
@@ -218,7 +218,7 @@ fn home_of(term: &TypeTerm) -> Option<&ImportPath>
 
 /// Adds a field to a table of names.
 fn add_field<'a>(
-    places: &mut IndexMap<&'a str, Earliest>,
+    places: &mut HashMap<&'a str, Earliest>,
     field: &'a Field,
 ) -> Result<(), AllocError>
     ensures { OnOk result (AddsField (named_places places.old) (named_places places.new) field.now.name field.now.place) }
@@ -241,10 +241,10 @@ fn add_field<'a>(
 fn places_of<'a>(
     alloc: Global,
     all: StructFields<'a>,
-) -> Result<IndexMap<&'a str, Earliest>, AllocError>
+) -> Result<HashMap<&'a str, Earliest>, AllocError>
     ensures { IfOk result (λ places. HasPlaces (named_places places) (fields_in (line_shapes all.entry.lines.now) all.entry.fields.now)) }
 {
-    let mut places = IndexMap::new(alloc);
+    let mut places = HashMap::new(alloc);
     for field in all.fields {
         add_field(&mut places, field)?;
     }

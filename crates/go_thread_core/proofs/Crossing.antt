@@ -2,12 +2,11 @@
 use denote.Param.Send.{IsSend, IsSync, sendable}
 pub use Rattle.go_path_core.proofs.modules.Module.TheSendSync as path_Module
 use Rattle.std.proofs.Crossing as std
+use Rattle.std.proofs.MapsCrossing.{HashMap-send, HashMap-sync}
 use Rattle.go_tree_nodes.proofs.types.Fields.TheLaws.TheKnot as types
 use Rattle.go_tree_nodes.proofs.exprs.Expr.TheLaws.TheKnot as exprs
 use Rattle.go_tree_nodes.proofs.stmts.Otherwise.TheLaws.TheKnot as stmts
 use Rattle.go_term_core.proofs.term.TypeTerm.TheLaws.TheKnot as terms
-pub use Rattle.arrayvec.proofs.array_vec.ArrayVec.TheSendSync as arrayvec_ArrayVec
-pub use Rattle.arrayvec.proofs.cells.Cells.TheSendSync as arrayvec_Cells
 pub use Rattle.go_answer_core.proofs.site.Held.TheSendSync as answer_Held
 pub use Rattle.go_answer_core.proofs.site.Site.TheSendSync as answer_Site
 pub use Rattle.go_block_core.proofs.binding.Binding.TheSendSync as block_Binding
@@ -66,13 +65,6 @@ pub use Rattle.go_tree_nodes.proofs.names.TextLiteral.TheSendSync as tree_nodes_
 pub use Rattle.go_tree_nodes.proofs.types.TypeName.TheSendSync as tree_nodes_TypeName
 pub use Rattle.go_tree_nodes.proofs.usage.Usage.TheSendSync as tree_nodes_Usage
 pub use Rattle.go_universe_core.proofs.Predeclared.TheSendSync as universe_Predeclared
-pub use Rattle.indexmap.proofs.columns.Columns.TheSendSync as indexmap_Columns
-pub use Rattle.indexmap.proofs.index_table.Bucket.TheSendSync as indexmap_Bucket
-pub use Rattle.indexmap.proofs.index_table.IndexTable.TheSendSync as indexmap_IndexTable
-pub use Rattle.indexmap.proofs.index_table.group.Group.TheSendSync as indexmap_Group
-pub use Rattle.indexmap.proofs.map.IndexMap.TheSendSync as indexmap_IndexMap
-pub use Rattle.smallvec.proofs.small_vec.SmallVec.TheSendSync as smallvec_SmallVec
-pub use Rattle.smallvec.proofs.storage.Data.TheSendSync as smallvec_Data
 pub use Rattle.std.proofs.alloc.Global.TheSendSync as std_Global
 pub use Rattle.std.proofs.boxed.Box.TheSendSync as std_Box
 pub use Rattle.std.proofs.hash.BuildHasherDefault.TheSendSync as std_BuildHasherDefault
@@ -140,7 +132,7 @@ use Rattle.go_snap_core.specs.part_core.contracts.parts.Parts as parts
 use Rattle.go_snap_core.specs.contracts.snapshot.Snapshot as snapshot
 use Rattle.go_snap_core.specs.contracts.shared.SharedSnapshot as shared_snapshot
 
-pub ruleset leaves = (index_Spelling.the_send, index_Spelling.the_sync, index_Spellings.the_send, index_Spellings.the_sync, arrayvec_ArrayVec.the_send, arrayvec_ArrayVec.the_sync, arrayvec_Cells.the_field_send, arrayvec_Cells.the_send, arrayvec_Cells.the_field_sync, arrayvec_Cells.the_sync, std_BuildHasherDefault.the_field_send, std_BuildHasherDefault.the_send, std_BuildHasherDefault.the_field_sync, std_BuildHasherDefault.the_sync, std_FoldHasher.the_field_send, std_FoldHasher.the_send, std_FoldHasher.the_field_sync, std_FoldHasher.the_sync, std_Option.the_field_send, std_Option.the_send, std_Option.the_field_sync, std_Option.the_sync, std_Result.the_field_send, std_Result.the_send, std_Result.the_field_sync, std_Result.the_sync, std_Memory.the_field_send, std_Memory.the_send, std_Memory.the_field_sync, std_Memory.the_sync, answer_Held.the_field_send, answer_Held.the_send, answer_Held.the_field_sync, answer_Held.the_sync, answer_Site.the_send, answer_Site.the_sync, block_Binding.the_field_send, block_Binding.the_send, block_Binding.the_field_sync, block_Binding.the_sync, block_Target.the_field_send, block_Target.the_send, block_Target.the_field_sync, block_Target.the_sync, block_Blocks.the_send, block_Blocks.the_sync, block_Exports.the_send, block_Exports.the_sync, block_ExportsContent.the_field_send, block_ExportsContent.the_send, block_ExportsContent.the_field_sync, block_ExportsContent.the_sync, block_NamedDecl.the_field_send, block_NamedDecl.the_send, block_NamedDecl.the_field_sync, block_NamedDecl.the_sync, block_BlockFault.the_field_send, block_BlockFault.the_send, block_BlockFault.the_field_sync, block_BlockFault.the_sync, block_BlockRule.the_field_send, block_BlockRule.the_send, block_BlockRule.the_field_sync, block_BlockRule.the_sync, block_Imported.the_field_send, block_Imported.the_send, block_Imported.the_field_sync, block_Imported.the_sync, constant_Parts.the_send, constant_Parts.the_sync, constant_Block.the_send, constant_Block.the_sync, constant_Piece.the_send, constant_Piece.the_sync, constant_ConstantText.the_send, constant_ConstantText.the_sync, constant_Form.the_field_send, constant_Form.the_send, constant_Form.the_field_sync, constant_Form.the_sync, constant_Constant.the_field_send, constant_Constant.the_send, constant_Constant.the_field_sync, constant_Constant.the_sync, decl_DeclKey.the_field_send, decl_DeclKey.the_send, decl_DeclKey.the_field_sync, decl_DeclKey.the_sync, decl_DeclRef.the_field_send, decl_DeclRef.the_send, decl_DeclRef.the_field_sync, decl_DeclRef.the_sync, decl_DeclKind.the_field_send, decl_DeclKind.the_send, decl_DeclKind.the_field_sync, decl_DeclKind.the_sync, denote_Outcome.the_field_send, denote_Outcome.the_send, denote_Outcome.the_field_sync, denote_Outcome.the_sync, expr_Use.the_field_send, expr_Use.the_send, expr_Use.the_field_sync, expr_Use.the_sync, face_Face.the_field_send, face_Face.the_send, face_Face.the_field_sync, face_Face.the_sync, level_EmbedPath.the_send, level_EmbedPath.the_sync, local_Fault.the_field_send, local_Fault.the_send, local_Fault.the_field_sync, local_Fault.the_sync, operand_Operand.the_field_send, operand_Operand.the_send, operand_Operand.the_field_sync, operand_Operand.the_sync, operand_ValueType.the_field_send, operand_ValueType.the_send, operand_ValueType.the_field_sync, operand_ValueType.the_sync, parse_SynFault.the_field_send, parse_SynFault.the_send, parse_SynFault.the_field_sync, parse_SynFault.the_sync, path_ImportPath.the_send, path_ImportPath.the_sync, snap_PlacedFault.the_field_send, snap_PlacedFault.the_send, snap_PlacedFault.the_field_sync, snap_PlacedFault.the_sync, term_Tag.the_send, term_Tag.the_sync, term_Basic.the_field_send, term_Basic.the_send, term_Basic.the_field_sync, term_Basic.the_sync, term_Field.the_field_send, term_Field.the_send, term_Field.the_field_sync, term_Field.the_sync, term_LocalPlace.the_field_send, term_LocalPlace.the_send, term_LocalPlace.the_field_sync, term_LocalPlace.the_sync, term_MemberPlace.the_field_send, term_MemberPlace.the_send, term_MemberPlace.the_field_sync, term_MemberPlace.the_sync, text_Form.the_field_send, text_Form.the_send, text_Form.the_field_sync, text_Form.the_sync, text_Name.the_send, text_Name.the_sync, text_Rule.the_field_send, text_Rule.the_send, text_Rule.the_field_sync, text_Rule.the_sync, text_Span.the_field_send, text_Span.the_send, text_Span.the_field_sync, text_Span.the_sync, token_Operator.the_field_send, token_Operator.the_send, token_Operator.the_field_sync, token_Operator.the_sync, tree_Role.the_field_send, tree_Role.the_send, tree_Role.the_field_sync, tree_Role.the_sync, tree_nodes_ValueKind.the_field_send, tree_nodes_ValueKind.the_send, tree_nodes_ValueKind.the_field_sync, tree_nodes_ValueKind.the_sync, tree_nodes_Key.the_field_send, tree_nodes_Key.the_send, tree_nodes_Key.the_field_sync, tree_nodes_Key.the_sync, tree_nodes_ImportDecl.the_field_send, tree_nodes_ImportDecl.the_send, tree_nodes_ImportDecl.the_field_sync, tree_nodes_ImportDecl.the_sync, tree_nodes_ImportLine.the_field_send, tree_nodes_ImportLine.the_send, tree_nodes_ImportLine.the_field_sync, tree_nodes_ImportLine.the_sync, tree_nodes_ImportName.the_field_send, tree_nodes_ImportName.the_send, tree_nodes_ImportName.the_field_sync, tree_nodes_ImportName.the_sync, tree_nodes_ImportSpec.the_field_send, tree_nodes_ImportSpec.the_send, tree_nodes_ImportSpec.the_field_sync, tree_nodes_ImportSpec.the_sync, tree_nodes_ImportSpecs.the_field_send, tree_nodes_ImportSpecs.the_send, tree_nodes_ImportSpecs.the_field_sync, tree_nodes_ImportSpecs.the_sync, tree_nodes_Receiver.the_field_send, tree_nodes_Receiver.the_send, tree_nodes_Receiver.the_field_sync, tree_nodes_Receiver.the_sync, tree_nodes_Ident.the_field_send, tree_nodes_Ident.the_send, tree_nodes_Ident.the_field_sync, tree_nodes_Ident.the_sync, tree_nodes_Idents.the_field_send, tree_nodes_Idents.the_send, tree_nodes_Idents.the_field_sync, tree_nodes_Idents.the_sync, tree_nodes_NextIdent.the_field_send, tree_nodes_NextIdent.the_send, tree_nodes_NextIdent.the_field_sync, tree_nodes_NextIdent.the_sync, tree_nodes_TextLiteral.the_field_send, tree_nodes_TextLiteral.the_send, tree_nodes_TextLiteral.the_field_sync, tree_nodes_TextLiteral.the_sync, tree_nodes_TypeName.the_field_send, tree_nodes_TypeName.the_send, tree_nodes_TypeName.the_field_sync, tree_nodes_TypeName.the_sync, tree_nodes_Usage.the_field_send, tree_nodes_Usage.the_send, tree_nodes_Usage.the_field_sync, tree_nodes_Usage.the_sync, universe_Predeclared.the_field_send, universe_Predeclared.the_send, universe_Predeclared.the_field_sync, universe_Predeclared.the_sync, indexmap_Columns.the_send, indexmap_Columns.the_sync, indexmap_Bucket.the_field_send, indexmap_Bucket.the_send, indexmap_Bucket.the_field_sync, indexmap_Bucket.the_sync, indexmap_IndexTable.the_send, indexmap_IndexTable.the_sync, indexmap_Group.the_field_send, indexmap_Group.the_send, indexmap_Group.the_field_sync, indexmap_Group.the_sync, indexmap_IndexMap.the_send, indexmap_IndexMap.the_sync, smallvec_SmallVec.the_send, smallvec_SmallVec.the_sync, smallvec_Data.the_field_send, smallvec_Data.the_send, smallvec_Data.the_field_sync, smallvec_Data.the_sync, std_Arc.the_send, std_Arc.the_sync, std_Box.the_send, std_Box.the_sync, std_String.the_field_send, std_String.the_send, std_String.the_field_sync, std_String.the_sync, std_Vec.the_send, std_Vec.the_sync, std_Global.the_field_send, std_Global.the_send, std_Global.the_field_sync, std_Global.the_sync)
+pub ruleset leaves = (index_Spelling.the_send, index_Spelling.the_sync, index_Spellings.the_send, index_Spellings.the_sync, std_BuildHasherDefault.the_field_send, std_BuildHasherDefault.the_send, std_BuildHasherDefault.the_field_sync, std_BuildHasherDefault.the_sync, std_FoldHasher.the_field_send, std_FoldHasher.the_send, std_FoldHasher.the_field_sync, std_FoldHasher.the_sync, std_Option.the_field_send, std_Option.the_send, std_Option.the_field_sync, std_Option.the_sync, std_Result.the_field_send, std_Result.the_send, std_Result.the_field_sync, std_Result.the_sync, std_Memory.the_field_send, std_Memory.the_send, std_Memory.the_field_sync, std_Memory.the_sync, answer_Held.the_field_send, answer_Held.the_send, answer_Held.the_field_sync, answer_Held.the_sync, answer_Site.the_send, answer_Site.the_sync, block_Binding.the_field_send, block_Binding.the_send, block_Binding.the_field_sync, block_Binding.the_sync, block_Target.the_field_send, block_Target.the_send, block_Target.the_field_sync, block_Target.the_sync, block_Blocks.the_send, block_Blocks.the_sync, block_Exports.the_send, block_Exports.the_sync, block_ExportsContent.the_field_send, block_ExportsContent.the_send, block_ExportsContent.the_field_sync, block_ExportsContent.the_sync, block_NamedDecl.the_field_send, block_NamedDecl.the_send, block_NamedDecl.the_field_sync, block_NamedDecl.the_sync, block_BlockFault.the_field_send, block_BlockFault.the_send, block_BlockFault.the_field_sync, block_BlockFault.the_sync, block_BlockRule.the_field_send, block_BlockRule.the_send, block_BlockRule.the_field_sync, block_BlockRule.the_sync, block_Imported.the_field_send, block_Imported.the_send, block_Imported.the_field_sync, block_Imported.the_sync, constant_Parts.the_send, constant_Parts.the_sync, constant_Block.the_send, constant_Block.the_sync, constant_Piece.the_send, constant_Piece.the_sync, constant_ConstantText.the_send, constant_ConstantText.the_sync, constant_Form.the_field_send, constant_Form.the_send, constant_Form.the_field_sync, constant_Form.the_sync, constant_Constant.the_field_send, constant_Constant.the_send, constant_Constant.the_field_sync, constant_Constant.the_sync, decl_DeclKey.the_field_send, decl_DeclKey.the_send, decl_DeclKey.the_field_sync, decl_DeclKey.the_sync, decl_DeclRef.the_field_send, decl_DeclRef.the_send, decl_DeclRef.the_field_sync, decl_DeclRef.the_sync, decl_DeclKind.the_field_send, decl_DeclKind.the_send, decl_DeclKind.the_field_sync, decl_DeclKind.the_sync, denote_Outcome.the_field_send, denote_Outcome.the_send, denote_Outcome.the_field_sync, denote_Outcome.the_sync, expr_Use.the_field_send, expr_Use.the_send, expr_Use.the_field_sync, expr_Use.the_sync, face_Face.the_field_send, face_Face.the_send, face_Face.the_field_sync, face_Face.the_sync, level_EmbedPath.the_send, level_EmbedPath.the_sync, local_Fault.the_field_send, local_Fault.the_send, local_Fault.the_field_sync, local_Fault.the_sync, operand_Operand.the_field_send, operand_Operand.the_send, operand_Operand.the_field_sync, operand_Operand.the_sync, operand_ValueType.the_field_send, operand_ValueType.the_send, operand_ValueType.the_field_sync, operand_ValueType.the_sync, parse_SynFault.the_field_send, parse_SynFault.the_send, parse_SynFault.the_field_sync, parse_SynFault.the_sync, path_ImportPath.the_send, path_ImportPath.the_sync, snap_PlacedFault.the_field_send, snap_PlacedFault.the_send, snap_PlacedFault.the_field_sync, snap_PlacedFault.the_sync, term_Tag.the_send, term_Tag.the_sync, term_Basic.the_field_send, term_Basic.the_send, term_Basic.the_field_sync, term_Basic.the_sync, term_Field.the_field_send, term_Field.the_send, term_Field.the_field_sync, term_Field.the_sync, term_LocalPlace.the_field_send, term_LocalPlace.the_send, term_LocalPlace.the_field_sync, term_LocalPlace.the_sync, term_MemberPlace.the_field_send, term_MemberPlace.the_send, term_MemberPlace.the_field_sync, term_MemberPlace.the_sync, text_Form.the_field_send, text_Form.the_send, text_Form.the_field_sync, text_Form.the_sync, text_Name.the_send, text_Name.the_sync, text_Rule.the_field_send, text_Rule.the_send, text_Rule.the_field_sync, text_Rule.the_sync, text_Span.the_field_send, text_Span.the_send, text_Span.the_field_sync, text_Span.the_sync, token_Operator.the_field_send, token_Operator.the_send, token_Operator.the_field_sync, token_Operator.the_sync, tree_Role.the_field_send, tree_Role.the_send, tree_Role.the_field_sync, tree_Role.the_sync, tree_nodes_ValueKind.the_field_send, tree_nodes_ValueKind.the_send, tree_nodes_ValueKind.the_field_sync, tree_nodes_ValueKind.the_sync, tree_nodes_Key.the_field_send, tree_nodes_Key.the_send, tree_nodes_Key.the_field_sync, tree_nodes_Key.the_sync, tree_nodes_ImportDecl.the_field_send, tree_nodes_ImportDecl.the_send, tree_nodes_ImportDecl.the_field_sync, tree_nodes_ImportDecl.the_sync, tree_nodes_ImportLine.the_field_send, tree_nodes_ImportLine.the_send, tree_nodes_ImportLine.the_field_sync, tree_nodes_ImportLine.the_sync, tree_nodes_ImportName.the_field_send, tree_nodes_ImportName.the_send, tree_nodes_ImportName.the_field_sync, tree_nodes_ImportName.the_sync, tree_nodes_ImportSpec.the_field_send, tree_nodes_ImportSpec.the_send, tree_nodes_ImportSpec.the_field_sync, tree_nodes_ImportSpec.the_sync, tree_nodes_ImportSpecs.the_field_send, tree_nodes_ImportSpecs.the_send, tree_nodes_ImportSpecs.the_field_sync, tree_nodes_ImportSpecs.the_sync, tree_nodes_Receiver.the_field_send, tree_nodes_Receiver.the_send, tree_nodes_Receiver.the_field_sync, tree_nodes_Receiver.the_sync, tree_nodes_Ident.the_field_send, tree_nodes_Ident.the_send, tree_nodes_Ident.the_field_sync, tree_nodes_Ident.the_sync, tree_nodes_Idents.the_field_send, tree_nodes_Idents.the_send, tree_nodes_Idents.the_field_sync, tree_nodes_Idents.the_sync, tree_nodes_NextIdent.the_field_send, tree_nodes_NextIdent.the_send, tree_nodes_NextIdent.the_field_sync, tree_nodes_NextIdent.the_sync, tree_nodes_TextLiteral.the_field_send, tree_nodes_TextLiteral.the_send, tree_nodes_TextLiteral.the_field_sync, tree_nodes_TextLiteral.the_sync, tree_nodes_TypeName.the_field_send, tree_nodes_TypeName.the_send, tree_nodes_TypeName.the_field_sync, tree_nodes_TypeName.the_sync, tree_nodes_Usage.the_field_send, tree_nodes_Usage.the_send, tree_nodes_Usage.the_field_sync, tree_nodes_Usage.the_sync, universe_Predeclared.the_field_send, universe_Predeclared.the_send, universe_Predeclared.the_field_sync, universe_Predeclared.the_sync, HashMap-send, HashMap-sync, std_Arc.the_send, std_Arc.the_sync, std_Box.the_send, std_Box.the_sync, std_String.the_field_send, std_String.the_send, std_String.the_field_sync, std_String.the_sync, std_Vec.the_send, std_Vec.the_sync, std_Global.the_field_send, std_Global.the_send, std_Global.the_field_sync, std_Global.the_sync)
 
 pub fields_row_send : IsSend fields.the_row
 fields_row_send = search (leaves, std.crosses, types.crosses, sendable) depth 60 fits 20000

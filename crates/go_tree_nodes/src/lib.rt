@@ -37,9 +37,7 @@ pub use usage::Usage;
 
 /// What the crates above name of `go_text_core`.
 pub mod text_core {
-    pub use go_token_core::text_core::{
-        Name, Rule, Span, add, boxed, fitted, is_blank, is_digit, is_letter,
-    };
+    pub use go_token_core::text_core::{Name, Rule, Span, add, boxed, fitted, is_blank};
 }
 
 /// What the crates above name of `go_token_core`.

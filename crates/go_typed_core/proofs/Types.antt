@@ -170,10 +170,16 @@ module _ (laws : AreGiven) (i : InputModel) (c : ContentOf) (n : ℕ) (t : FileT
   pub header_over : (u : TypeTree) → HasItem (signature_types g.signature) u → (w : Word) → type_word code u ≡ Some w → IsOver looks.types w (written_type looks u)
   header_over u k w e = by_piece header (meant laws i c n t f g all h header header_there) u k w e
 
-  pub receiver_over_word : (r : Receiver) → g.receiver ≡ Some r → (w : Word) → type_name_word code r.base ≡ Some w → IsOver looks.types w (named_type looks r.base)
-  receiver_over_word r is w e =
+  receiver_over_both : (r : Receiver) → g.receiver ≡ Some r → (w : Word) → type_name_word code r.base ≡ Some w → IsOver looks.types w (written_type looks (NamedType r.base)) × IsOver looks.types w (named_type looks r.base)
+  receiver_over_both r is w e =
       let each : AreMeant code mean (piece_uses looks (Header (Some r) g.signature)) = subst (λ x. AreMeant code mean (piece_uses looks (Header x g.signature))) is (meant laws i c n t f g all h header header_there) in
-      (named r.base (spots_first _ (type_name_spots looks r.base) each) w e).1
+      named r.base (spots_first _ (type_name_spots looks r.base) each) w e
+
+  pub receiver_over_written : (r : Receiver) → g.receiver ≡ Some r → (w : Word) → type_name_word code r.base ≡ Some w → IsOver looks.types w (written_type looks (NamedType r.base))
+  receiver_over_written r is w e = (receiver_over_both r is w e).0
+
+  pub receiver_over_word : (r : Receiver) → g.receiver ≡ Some r → (w : Word) → type_name_word code r.base ≡ Some w → IsOver looks.types w (named_type looks r.base)
+  receiver_over_word r is w e = (receiver_over_both r is w e).1
 
   -- by what names mean outside the function a type of the header is the same
   outer_same : (u : TypeTree) → HasItem (signature_types g.signature) u → written_type looks u ≡ written_type (outer_looks st) u

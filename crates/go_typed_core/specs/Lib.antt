@@ -6,7 +6,6 @@ pub mod Scope
 pub mod Fits
 pub mod Sources
 pub mod entry_core
-pub mod entry_core_lemmas
 pub mod env_core
 pub mod face_core
 pub mod file_core

@@ -5,3 +5,4 @@ pub use Rattle.go_entry_core.specs.Meanings as Meanings
 pub use Rattle.go_entry_core.proofs.Ordered as Ordered
 pub use Rattle.go_entry_core.specs.Outlines as Outlines
 pub use Rattle.go_entry_core.specs.Showing as Showing
+pub use Rattle.go_entry_core.proofs.Shown as Shown

@@ -66,7 +66,7 @@ pub mod handle_core {
 
 /// What the crates above name of `go_parse_core`.
 pub mod parse_core {
-    pub use go_answer_core::parse_core::{ParseError, Parsed, one_rule, one_tree, parse, tree_of};
+    pub use go_answer_core::parse_core::{one_rule, one_tree};
 }
 
 /// What the crates above name of `go_report_core`.

@@ -1,7 +1,7 @@
 //! Imports that are not used.
 ghost use Rattle.std.specs.Prelude.{◌≡◌, ◌++◌, ◌||◌, ℕ, IfErr, IfOk, OnOk, map, nat_eq};
 ghost use Rattle.std.specs.List.{flat_map, list_any};
-ghost use Rattle.indexmap.specs.IndexSet.{contains};
+ghost use Rattle.std.specs.HashSet.{contains};
 ghost use Rattle.go_tree_nodes.specs.Shapes.{file_of, import_of, shape_import_spec, shape_import_specs};
 ghost use Rattle.go_answer_core.specs.block_core.Naming.{specs_in, specs_of};
 ghost use Rattle.go_used_core.specs.Used.{blank_place, is_blank_name, judged_import, refused_use, without_unused};
@@ -14,8 +14,8 @@ use go_answer_core::denote_core::Outcome;
 use go_term_core::tree_core::occurrences;
 use go_text_core::Rule;
 use go_tree_nodes::{File, ImportDecl, ImportName, ImportSpec, ImportSpecs};
-use indexmap::IndexSet;
 use std::alloc::{AllocError, Global};
+use std::collections::HashSet;
 
 // Whether an import is written with the name `_`.
 fn is_blank_name(name: &ImportName) -> bool
@@ -77,7 +77,7 @@ fn refuse(answer: &mut Answer)
 }
 
 // Adds a place to others.
-fn add_place(places: &mut IndexSet<usize>, place: usize) -> Result<(), AllocError>
+fn add_place(places: &mut HashSet<usize>, place: usize) -> Result<(), AllocError>
     ensures { OnOk result ((at : ℕ) → contains nat_eq places.new at ≡ (contains nat_eq places.old at || nat_eq at place)) }
 {
     match places.insert(place) {
@@ -87,10 +87,10 @@ fn add_place(places: &mut IndexSet<usize>, place: usize) -> Result<(), AllocErro
 }
 
 // These places, each once.
-fn place_set(alloc: Global, places: &[usize]) -> Result<IndexSet<usize>, AllocError>
+fn place_set(alloc: Global, places: &[usize]) -> Result<HashSet<usize>, AllocError>
     ensures { IfOk result (λ set. (at : ℕ) → contains nat_eq set at ≡ list_any (nat_eq at) places.now) }
 {
-    let mut set = IndexSet::new(alloc);
+    let mut set = HashSet::new(alloc);
     for place in places {
         add_place(&mut set, *place)?;
     }
@@ -98,7 +98,7 @@ fn place_set(alloc: Global, places: &[usize]) -> Result<IndexSet<usize>, AllocEr
 }
 
 // Refuses an import whose place is none of these.
-fn judge(places: &IndexSet<usize>, answer: &mut Answer)
+fn judge(places: &HashSet<usize>, answer: &mut Answer)
     ensures { answer.new ≡ judged_by (contains nat_eq places.now) answer.old }
 {
     if is_import(answer.role) && !places.contains(&answer.offset) {

@@ -56,7 +56,7 @@ pub mod inline_core {
 
 /// What the crates above name of `go_names_core`.
 pub mod names_core {
-    pub use go_env_core::names_core::{OpenNames, Outside};
+    pub use go_env_core::names_core::OpenNames;
 }
 
 /// What the crates above name of `go_operand_core`.

@@ -27,16 +27,6 @@ pub mod func_core {
     pub use go_part_core::func_core::{functions_have_one_table, locals_are_declarations};
 }
 
-/// What the crates above name of `go_names_core`.
-pub mod names_core {
-    pub use go_part_core::names_core::Outside;
-}
-
-/// What the crates above name of `go_parse_core`.
-pub mod parse_core {
-    pub use go_part_core::parse_core::{ParseError, Parsed, parse, tree_of};
-}
-
 /// What the crates above name of `go_scope_core`.
 pub mod scope_core {
     pub use go_part_core::scope_core::{DeclId, InScope, Scopes, ShortDecl, ShortName};

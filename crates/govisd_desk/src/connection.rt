@@ -10,11 +10,20 @@ use std::marker::Model;
 use std::sync::Wait;
 
 /// A desk with one session of a hall, which its requests open, ask and close. Contracts see the session, if it is open.
-#[derive(Drop)]
 pub struct ConnectionDesk<'a, L: Named> {
     hall: &'a Hall<L>,
     alloc: Global,
     seat: Option<Session<'a, L>>,
+}
+
+impl<'a, L: Named> Drop for ConnectionDesk<'a, L> {
+    fn drop(self) {
+        let ConnectionDesk {
+            hall: _,
+            alloc: _,
+            seat: _,
+        } = self;
+    }
 }
 
 impl<'a, L: Named> Model for ConnectionDesk<'a, L> {

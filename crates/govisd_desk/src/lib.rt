@@ -16,5 +16,5 @@ pub mod hall {
 
 /// What the crates above name of `go_hall_core`.
 pub mod hall_core {
-    pub use go_hall::hall_core::Named;
+    pub use go_hall::hall_core::{Named, Stamps};
 }

@@ -14,11 +14,20 @@ use std::sync::Wait;
 const SESSIONS: usize = 32;
 
 /// A desk with up to 32 sessions of a hall, which requests open, ask and close by number. Contracts see the sessions that are open, by number from 1.
-#[derive(Drop)]
 pub struct ScriptDesk<'a, L: Named> {
     hall: &'a Hall<L>,
     alloc: Global,
     seats: Vec<Option<Session<'a, L>>>,
+}
+
+impl<'a, L: Named> Drop for ScriptDesk<'a, L> {
+    fn drop(self) {
+        let ScriptDesk {
+            hall: _,
+            alloc: _,
+            seats: _,
+        } = self;
+    }
 }
 
 impl<'a, L: Named> Model for ScriptDesk<'a, L> {

@@ -8,9 +8,9 @@ use crate::finding::{ReadFolder, read_folder};
 use crate::notes::push;
 use crate::progress::Progress;
 use crate::telling::told;
+use go_folder_core::Order;
 use go_snap_core::graph_core::Workspace;
 use go_snap_core::{PlacedFault, Snapshot, compile, faults_lie_in_files};
-use govisd_orders::Order;
 use std::alloc::{AllocError, Global};
 
 /// What came of the check of a folder, or of a run of its program.

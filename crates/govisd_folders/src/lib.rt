@@ -12,7 +12,7 @@ mod telling;
 
 pub use checking::{CheckAnswer, check_folder};
 pub use finding::{FoundPackages, ReadFolder, read_folder};
-pub use govisd_orders::Order;
+pub use go_folder_core::Order;
 pub use notes::{name_or_quotes, note, note_rule, push};
 pub use progress::Progress;
 pub use putting::path_of;

@@ -1,8 +1,8 @@
 //! What is answered of trees.
 use crate::tokens::add_comments;
+use go_parse_core::{ParseError, Parsed, parse, tree_of};
 use go_tree_core::{Role, Usage, at, copy, occurrences};
 use go_tree_nodes::{Decl, File};
-use govisd_core::parse_core::{ParseError, Parsed, parse, tree_of};
 use govisd_show::Lines;
 use std::alloc::Global;
 

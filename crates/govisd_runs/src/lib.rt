@@ -7,5 +7,5 @@ mod choosing;
 mod packages;
 mod running;
 
-pub use govisd_orders::RunOrder;
+pub use go_folder_core::RunOrder;
 pub use running::run_folder;

@@ -6,10 +6,10 @@ ghost use Rattle.govisd_runs.specs.Answers.{AnswersSnapshot, IsAnswerOfRun, IsRu
 
 use crate::answers::nothing_ran;
 use crate::packages::run_main;
+use go_folder_core::RunOrder;
 use go_site_core::graph_core::Workspace;
 use govisd_folders::snap_core::{PlacedFault, Snapshot, compile, faults_lie_in_files};
 use govisd_folders::{CheckAnswer, Progress, ReadFolder, push, read_folder, told};
-use govisd_orders::RunOrder;
 use std::alloc::{AllocError, Global};
 
 // Whether there is no fault, and nothing was left out.

@@ -8,10 +8,14 @@ use Rattle.std.proofs.sync.ledger.Book.TheSendSync as book
 use Rattle.std.proofs.sync.ledger.Share.TheSendSync as share
 use Rattle.left_right.proofs.reader.Reader.TheSendSync as reader
 use Rattle.left_right.proofs.writer.Writer.TheSendSync as writer
+use Rattle.logbook.proofs.tokens.Seen.TheSendSync as seen
+use Rattle.logbook.proofs.word.Word.TheSendSync as word
 use Rattle.go_thread_core.proofs.Crossing.{crossing, leaves, summary_list_row_send, summary_list_row_sync}
 use Rattle.go_graph_core.specs.contracts.planning.Plan as plan
 use Rattle.go_reach_core.specs.contracts.graph.Reached as reached
 use Rattle.go_turn_core.specs.contracts.turns.Turns as turns
+use Rattle.go_stamp_core.specs.declared.book.NamesBook as stamps
+use Rattle.go_stamp_core.specs.contracts.stamp.Stamper as stamper
 use Rattle.govisd_desk.specs.batch_core.contracts.planned.SharedReached as shared_reached
 use Rattle.govisd_desk.specs.batch_core.contracts.planned.Planned as planned
 use Rattle.govisd_desk.specs.batch_core.contracts.steady.Steady as steady
@@ -120,16 +124,19 @@ desk_row_send = search (writer.the_field_send, board_row_send, board_row_sync, s
 state_row_send : IsSend state.the_row
 state_row_send = search (event_row_send, core_row_send, desk_row_send, reader.the_send, reader.the_field_send, board_row_sync, std.crosses, sendable) depth 60 fits 20000
 
--- under each name of a ledger
-module _ (L : RattleType) (n : named.Ghosts L.Denot) (l : ledger.Ghosts L.Denot) where
-  counted_row_send : IsSend (counted.the_row L n l)
-  counted_row_send = search (state_row_send, book.the_send, share.the_send, sendable) depth 30
+-- under each name of a ledger, and of a book of stamps
+module _ (L : RattleType) (n : named.Ghosts L.Denot) (l : ledger.Ghosts L.Denot) (b : stamps.Ghosts L.Denot) where
+  stamper_row_send : (T : RattleType) → IsSend (stamper.the_row L T b)
+  stamper_row_send T = search (word.the_send, seen.the_send, sendable) depth 30
 
-  pub hall_row_send : IsSend (hall.the_row L n l)
+  counted_row_send : IsSend (counted.the_row L n l b)
+  counted_row_send = search (state_row_send, book.the_send, share.the_send, stamper_row_send, sendable) depth 30
+
+  pub hall_row_send : IsSend (hall.the_row L n l b)
   hall_row_send = search (counted_row_send, std.crosses, sendable) depth 30
 
-  pub hall_row_sync : IsSync (hall.the_row L n l)
+  pub hall_row_sync : IsSync (hall.the_row L n l b)
   hall_row_sync = search (counted_row_send, std.crosses, sendable) depth 30
 
-  pub hall_sync : IsSync (hall.the_field L n l).row
+  pub hall_sync : IsSync (hall.the_field L n l b).row
   hall_sync = search (counted_row_send, std.crosses, sendable) depth 30

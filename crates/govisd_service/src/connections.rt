@@ -9,7 +9,7 @@ use go_output_core::write_out;
 use go_wire_core::{ServeEnd, serve};
 use govisd_desk::ConnectionDesk;
 use govisd_desk::hall::Hall;
-use govisd_desk::hall_core::Named;
+use govisd_desk::hall_core::{Named, Stamps};
 use std::alloc::Global;
 use std::io::{ErrorKind, Read, Write};
 use std::marker::Brand;
@@ -235,13 +235,15 @@ fn serve_named<
     rt: &H,
     alloc: Global,
     blank: Blank,
+    stamps: Stamps,
     listener: &A,
     workers: usize,
     connections: Option<u64>,
 ) -> ServeEnd
-    requires { (blank.name ≡ L.name) × (blank.parts ≡ L.parts) × (L.all ≡ L.parts) × (1048576 < L.all) }
+    requires ledger { (blank.name ≡ L.name) × (blank.parts ≡ L.parts) × (L.all ≡ L.parts) × (1048576 < L.all) }
+    requires stamps { stamps.seen.book ≡ L.book }
 {
-    match Hall::<L>::new(alloc, blank) {
+    match Hall::<L>::new(alloc, blank, stamps) {
         Ok(hall) => serve_beside(rt, alloc, &hall, listener, workers, connections),
         Err(_) => ServeEnd::Memory,
     }
@@ -259,5 +261,13 @@ pub fn run_serve<
     A: OpenListener<Stream = S>,
     S: Read + Write + OpenStream + Send + Drop,
 >(rt: &H, alloc: Global, listener: &A, workers: usize, connections: Option<u64>) -> ServeEnd {
-    serve_named::<Brand, H, A, S>(rt, alloc, Blank::new(PARTS), listener, workers, connections)
+    serve_named::<Brand, H, A, S>(
+        rt,
+        alloc,
+        Blank::new(PARTS),
+        Stamps::new(),
+        listener,
+        workers,
+        connections,
+    )
 }

@@ -3,7 +3,7 @@ ghost use Rattle.govisd_service.specs.Threads.{HallsCross};
 
 use govisd_desk::hall_core::Named;
 
-/// Halls, under any name of a ledger, may go to a thread and be seen by several.
+/// Halls, under any names of a ledger and of a book of stamps, may go to a thread and be seen by several.
 pub fn halls_cross<L: Named>()
-    ensures { HallsCross L.row (record { all = L.all }) (record { name = L.name; parts = L.parts }) }
+    ensures { HallsCross L.row (record { all = L.all }) (record { name = L.name; parts = L.parts }) (record { book = L.book }) }
 {}

@@ -7,7 +7,7 @@ use crate::{PARTS, TURNS};
 use go_wire_core::{ServeEnd, serve};
 use govisd_desk::ScriptDesk;
 use govisd_desk::hall::Hall;
-use govisd_desk::hall_core::Named;
+use govisd_desk::hall_core::{Named, Stamps};
 use std::alloc::Global;
 use std::io::{Read, Write};
 use std::marker::Brand;
@@ -131,11 +131,20 @@ fn serve_named<
     H: Threads + Wait + Clock + Sync,
     R: Read + Drop,
     W: Write + Drop,
->(rt: &H, alloc: Global, blank: Blank, reader: R, writer: W, workers: usize) -> Served<R, W>
-    requires { (blank.name ≡ L.name) × (blank.parts ≡ L.parts) × (L.all ≡ L.parts) × (1048576 < L.all) }
+>(
+    rt: &H,
+    alloc: Global,
+    blank: Blank,
+    stamps: Stamps,
+    reader: R,
+    writer: W,
+    workers: usize,
+) -> Served<R, W>
+    requires ledger { (blank.name ≡ L.name) × (blank.parts ≡ L.parts) × (L.all ≡ L.parts) × (1048576 < L.all) }
+    requires stamps { stamps.seen.book ≡ L.book }
     ensures { IfSome (R.remaining reader) (λ bytes. IsScript result.end bytes (R.remaining result.reader) (W.contents writer) (W.contents result.writer)) }
 {
-    match Hall::<L>::new(alloc, blank) {
+    match Hall::<L>::new(alloc, blank, stamps) {
         Ok(hall) => serve_beside(rt, alloc, &hall, reader, writer, workers),
         Err(_) => unserved(reader, writer),
     }
@@ -154,5 +163,13 @@ pub fn run_script<H: Threads + Wait + Clock + Sync, R: Read + Drop, W: Write + D
 ) -> Served<R, W>
     ensures { IfSome (R.remaining reader) (λ bytes. IsScript result.end bytes (R.remaining result.reader) (W.contents writer) (W.contents result.writer)) }
 {
-    serve_named::<Brand, H, R, W>(rt, alloc, Blank::new(PARTS), reader, writer, workers)
+    serve_named::<Brand, H, R, W>(
+        rt,
+        alloc,
+        Blank::new(PARTS),
+        Stamps::new(),
+        reader,
+        writer,
+        workers,
+    )
 }

@@ -9,8 +9,8 @@ ghost use Rattle.std.specs.String.{string_cmp};
 ghost use Rattle.std.specs.Map.{keys_of};
 
 use go_decl_core::path_core::ImportPath;
+use go_decl_core::text_core::{Rule, add};
 use go_graph_core::Workspace;
-use go_tree_nodes::text_core::{Rule, add};
 use std::alloc::{AllocError, Global};
 use std::collections::BTreeMap;
 

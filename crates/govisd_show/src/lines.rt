@@ -1,5 +1,5 @@
 //! Lines, as they are written.
-use go_tree_nodes::text_core::{Rule, Span, is_digit, is_letter};
+use go_decl_core::text_core::{Rule, Span, is_digit, is_letter};
 use std::alloc::{AllocError, Global};
 use std::fmt::{Display, Write};
 

@@ -1,8 +1,8 @@
 //! The packages of a workspace as answers name them, and what each is.
 use crate::lines::Lines;
+use go_decl_core::text_core::add;
 use go_decl_core::{DeclRef, Place, outline};
 use go_graph_core::{PackageSource, SourceFile, Workspace, assemble};
-use go_tree_nodes::text_core::add;
 use std::alloc::{AllocError, Global};
 
 /// A file: its name, and the places of what it declares, which are none where it has no tree.

@@ -11,9 +11,9 @@ use Rattle.clap.specs.Values.{kind_of}
 use Rattle.clap.specs.declared.builder.action.ArgAction.TheVariants.{Count}
 use Rattle.clap.specs.declared.error.Error.{Error}
 use Rattle.clap.specs.declared.error.kind.ErrorKind.TheVariants as kind
-use Rattle.govisd_orders.specs.declared.orders.Order.{Order}
+use Rattle.go_folder_core.specs.declared.orders.Order.{Order}
 use Rattle.govisd_words.specs.declared.words.Request.{Request}
-use Rattle.govisd_orders.specs.declared.orders.RunOrder.{RunOrder}
+use Rattle.go_folder_core.specs.declared.orders.RunOrder.{RunOrder}
 use Rattle.govisd_words.specs.declared.words.CountOption.{CountOption}
 use Rattle.govisd_words.specs.declared.words.CountOption.TheVariants.{Workers, Connections, Steps}
 use Rattle.govisd_words.specs.declared.words.Daemon.{Daemon}

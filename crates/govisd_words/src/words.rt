@@ -8,7 +8,7 @@ ghost use Rattle.govisd_words.specs.Asking.{Asks, Forms, asked_in, check_app, co
 
 use clap::error::ErrorKind;
 use clap::{Arg, ArgAction, ArgMatches, Command, Error};
-use govisd_orders::{Order, RunOrder};
+use go_folder_core::{Order, RunOrder};
 use std::alloc::{AllocError, Global};
 use std::convert::AsStr;
 

@@ -71,5 +71,9 @@ coded_written = code_by (DeclRef × Option TheFace) (coded× decl_ref.the_row.co
 abbrev pub coded_declared : Coded DeclaredOf
 coded_declared = code_by (DeclRef × TheFace) (coded× decl_ref.the_row.coded coded_face) (λ w. (w.decl, w.face)) (λ p. record { decl = p.0; face = p.1 }) (λ _. refl)
 
+-- names of a block, each with its declaration where it is exported
+abbrev pub coded_names : Coded (List (List ℕ × Option DeclRef))
+coded_names = coded_list (coded× (coded_list coded_ℕ) (coded_option decl_ref.the_row.coded))
+
 abbrev pub coded_package_faces : Coded PackageFacesModel
-coded_package_faces = code_by (List ℕ × (List (List ℕ × Option DeclRef) × List DeclaredOf)) (coded× (coded_list coded_ℕ) (coded× (coded_list (coded× (coded_list coded_ℕ) (coded_option decl_ref.the_row.coded))) (coded_list coded_declared))) (λ p. (p.path, (p.names, p.faces))) (λ p. package_faces p.0 p.1.0 p.1.1) (λ _. refl)
+coded_package_faces = code_by (List ℕ × (List (List ℕ × Option DeclRef) × List DeclaredOf)) (coded× (coded_list coded_ℕ) (coded× coded_names (coded_list coded_declared))) (λ p. (p.path, (p.names, p.faces))) (λ p. package_faces p.0 p.1.0 p.1.1) (λ _. refl)

@@ -1,5 +1,5 @@
 -- The types that are reached, each with a path.
-use Rattle.std.specs.Prelude.{◌≡◌, ◌<◌, ◌≤◌, ℕ, Bool, true, false, ◌||◌, List, [], ◌∷◌, ◌++◌, length, set, slice_get, Option, Some, None, nat_eq}
+use Rattle.std.specs.Prelude.{◌≡◌, ◌<◌, ◌≤◌, ℕ, Bool, true, false, ◌||◌, List, [], ◌∷◌, ◌++◌, length, set, slice_get, Option, Some, None, nat_eq, if◌then◌else◌}
 use Rattle.std.specs.Map.{lookup}
 use Rattle.go_embed_core.specs.decl_core.declared.keys.DeclKey.{DeclKey}
 use Rattle.go_term_core.specs.Terms.{Term, Defined}
@@ -70,10 +70,14 @@ pub record Pushed (from : ℕ) (e : EmbeddedEdge) (old new : List Way) : Type 0 
   pub at : At old from y
   pub is : new ≡ old ++ arrow y e ∷ []
 
+-- the place of a number is noted
+abbrev pub Noted : ℕ → ℕ → List (ℕ × ℕ) → List (ℕ × ℕ) → Type 0
+Noted n p old new = (m : ℕ) → lookup (nat_eq m) new ≡ (if nat_eq n m then Some p else lookup (nat_eq m) old)
+
 -- an embedded field's type is entered in the level that begins at a place
 pub data Entered (es : List Entry) (begin from : ℕ) (e : EmbeddedEdge) (ws : List Way) (met : List (ℕ × ℕ)) (ws' : List Way) (met' : List (ℕ × ℕ)) : Type 0 where
   known : (n p : ℕ) → IsNumbered es n e.target → lookup (nat_eq n) met ≡ Some p → p < begin → ws' ≡ ws → met' ≡ met → Entered es begin from e ws met ws' met'
   again : (n p : ℕ) (z : Way) → IsNumbered es n e.target → lookup (nat_eq n) met ≡ Some p → begin ≤ p → At ws p z → ws' ≡ set ws p (crowded z) → met' ≡ met
       → Entered es begin from e ws met ws' met'
-  fresh : (n : ℕ) → IsNumbered es n e.target → lookup (nat_eq n) met ≡ None → Pushed from e ws ws' → met' ≡ met ++ (n, length ws) ∷ [] → Entered es begin from e ws met ws' met'
+  fresh : (n : ℕ) → IsNumbered es n e.target → lookup (nat_eq n) met ≡ None → Pushed from e ws ws' → Noted n (length ws) met met' → Entered es begin from e ws met ws' met'
   loose : IsNumber es e.target None → Pushed from e ws ws' → met' ≡ met → Entered es begin from e ws met ws' met'

@@ -2,7 +2,7 @@
 use Rattle.std.specs.Prelude.{◌≡◌, ℕ, Bool, List, Option}
 use Rattle.std.specs.List.{position_from}
 use Rattle.std.specs.Map.{lookup}
-use Rattle.indexmap.specs.IndexMap.{IndexMap}
+use Rattle.std.specs.HashMap.{HashMap}
 use Rattle.go_fragment_core.specs.declared.names.Meaning.{Meaning}
 use Rattle.go_lookup_core.specs.declared.decl_table.DeclSpot.{DeclSpot}
 use Rattle.go_lookup_core.specs.declared.decl_table.SpottedDecl.{SpottedDecl}
@@ -20,5 +20,5 @@ same_key a b = same_spot (spot_shown a) (spot_shown b)
 abbrev pub number_of : List SpottedDecl → DeclSpot → Option ℕ
 number_of items k = position_from (λ i. same_key k i.spot) 0 items
 
-abbrev pub IsNumbered : {S : Type 0} → IndexMap DeclSpot ℕ S → List SpottedDecl → Type 0
+abbrev pub IsNumbered : {S : Type 0} → HashMap DeclSpot ℕ S → List SpottedDecl → Type 0
 IsNumbered numbers items = (k : DeclSpot) → lookup (same_key k) numbers.entries ≡ number_of items k

@@ -1,6 +1,5 @@
 use Rattle.std.proofs.Common.{◌∙◌}
-use Rattle.go_open_core.proofs.Tables.{in_table}
 use Rattle.go_open_core.proofs.find_hashed.Goals as goal
 
 pub returns : goal.returns
-returns c = c.copied.ensures ∙ (c.get.ensures.value ∙ in_table c.args.name.now c.args.block.now)
+returns c = c.copied.ensures ∙ c.find.ensures

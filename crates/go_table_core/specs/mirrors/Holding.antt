@@ -1,17 +1,22 @@
 -- How a table holds its packages.
-use Rattle.std.specs.Prelude.{◌≡◌, ◌<◌, ◌+◌, ℕ, ⊤, List, [], ◌∷◌, ◌++◌, map, length, Option, None, string_bytes}
+use Rattle.std.specs.Prelude.{◌≡◌, ◌<◌, ◌+◌, ℕ, ⊤, List, [], ◌∷◌, ◌++◌, map, length, Option, None}
+use Rattle.std.specs.List.{position_from}
 use Rattle.std.specs.Str.{bytes_eq}
+use Rattle.std.specs.HashMap.{HashMap, get_by_text}
 use Rattle.std.specs.Map.{lookup}
 use Rattle.std.specs.declared.string.String.{String}
-use Rattle.indexmap.specs.IndexMap.{IndexMap}
 use Rattle.go_term_core.specs.Terms.{Term, NoType}
 use Rattle.go_table_core.specs.declared.table.Numbered.{Numbered}
 use Rattle.go_table_core.specs.Entries.{Entry}
 use Rattle.go_table_core.specs.Tables.{PackageTypesModel, ArePackageTypes}
 
--- the packages of a table by their paths
-abbrev pub packages_of : {Y S : Type 0} → IndexMap (String Y) Numbered S → List (List ℕ × Numbered)
-packages_of table = map (λ e. (string_bytes e.0, e.1)) table.entries
+-- packages by their paths
+abbrev pub packages_of : List Numbered → List (List ℕ × Numbered)
+packages_of packages = map (λ p. (p.types.path, p)) packages
+
+-- a map has the place of each package at its path
+unfoldable pub ArePlaced : {Y S : Type 0} → HashMap (String Y) ℕ S → List Numbered → Type 0
+ArePlaced places packages = (path : List ℕ) → get_by_text places path ≡ position_from (λ p. bytes_eq path p.types.path) 0 packages
 
 -- their types, one package's behind the other's
 abbrev pub all_entries : List (List ℕ × Numbered) → List Entry

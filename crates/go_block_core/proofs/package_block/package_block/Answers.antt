@@ -10,11 +10,10 @@ use Rattle.go_block_core.proofs.BlockLemmas.{block_step, block_faults_step, main
 use Rattle.go_block_core.proofs.DeclLemmas.{next_file}
 use Rattle.go_block_core.proofs.NamingLemmas.{placed_trees}
 use Rattle.go_block_core.proofs.Pieces.{no_pieces}
-use Rattle.go_block_core.proofs.TableLemmas.{block_of-empty}
 use Rattle.go_block_core.proofs.package_block.package_block.Goals as goal
 
 pub loop-file-init : goal.loop-file-init
-loop-file-init c = (block_of-empty c.new-table.result c.new-table.ensures.empty, no_pieces c.args.faults.now.items)
+loop-file-init c = (c.new-table.ensures, no_pieces c.args.faults.now.items)
 
 pub loop-file-preserved : goal.loop-file-preserved
 loop-file-preserved c =

@@ -1,5 +1,5 @@
 use Rattle.std.proofs.Common.{nat_eq, ◌∙◌}
-use Rattle.indexmap.specs.IndexSet.{contains}
+use Rattle.std.specs.HashSet.{contains}
 use Rattle.go_tree_nodes.specs.Shapes.{lines_of}
 use Rattle.go_body_core.specs.Ends.{panics_at}
 use Rattle.go_body_core.proofs.Ending.{ends_alike}

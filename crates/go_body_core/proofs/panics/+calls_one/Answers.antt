@@ -1,5 +1,5 @@
 use Rattle.std.proofs.Common.{nat_eq, sym, ap, ◌∙◌}
-use Rattle.indexmap.specs.IndexSet.{contains}
+use Rattle.std.specs.HashSet.{contains}
 use Rattle.go_tree_nodes.specs.declared.exprs.CallExpr.{out-CallExpr}
 use Rattle.go_tree_nodes.specs.Shapes.{shape}
 use Rattle.go_tree_nodes.proofs.ShapeLemmas.{call_parts, literal_parts, struct_literal_parts}

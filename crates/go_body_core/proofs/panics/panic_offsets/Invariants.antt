@@ -1,5 +1,5 @@
 use Rattle.std.proofs.Common.{◌≡◌, ℕ, ◌||◌, nat_eq, drop}
-use Rattle.indexmap.specs.IndexSet.{contains}
+use Rattle.std.specs.HashSet.{contains}
 use Rattle.go_body_core.specs.Ends.{panics_at}
 use Rattle.go_body_core.proofs.panics.panic_offsets.Given as goal
 

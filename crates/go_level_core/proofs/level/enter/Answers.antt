@@ -1,4 +1,5 @@
-use Rattle.std.proofs.Common.{◌≡◌, ◌++◌, ◌∷◌, [], length, sym, ap, ◌∙◌, refl, arith}
+use Rattle.std.proofs.Common.{◌≡◌, length, nat_eq, Some, if◌then◌else◌, sym, ap, ◌∙◌, refl, arith}
+use Rattle.std.specs.Map.{lookup}
 use Rattle.go_level_core.specs.mirrors.Ways.{known, again, fresh}
 use Rattle.go_level_core.proofs.WayLemmas.{ways_length, place_within, mark_ways}
 use Rattle.go_level_core.proofs.level.enter.Goals as goal
@@ -19,4 +20,6 @@ pub returns-clause-entered : goal.returns-clause-entered
 returns-clause-entered c =
     let l : c.len.result ≡ length c.args.levels.now.types.items = omega (arith, c.len.ensures, c.args.levels.now.types.ok.0) in
     fresh c.in-Some.number c.in-Some.ensures (sym c.place.ensures ∙ c.in_default-place.is) c.in_ok-push-2.ensures.pushed
-    (c.in_ok-push-2.ensures.met ∙ c.in_ok-add.ensures ∙ ap (λ k. c.args.levels.now.met ++ (c.in-Some.number, k) ∷ []) (l ∙ sym (ways_length _ _ c.requires.sized)))
+    (λ m.
+    ap (lookup (nat_eq m)) c.in_ok-push-2.ensures.met
+    ∙ (c.in_ok-add.ensures m ∙ ap (λ k. if nat_eq c.in-Some.number m then Some k else lookup (nat_eq m) c.args.levels.now.met) (l ∙ sym (ways_length _ _ c.requires.sized))))

@@ -20,7 +20,7 @@ loop-name-preserved c =
 pub returns-then-is_err-clause-err : goal.returns-then-is_err-clause-err
 returns-then-is_err-clause-err c =
     let err = sym c.is_err.ensures.value ∙ c.if-is_err.true in
-    (undone c.args.block.now c.declare_new.new.block c.truncate.new.self (named (take c.loop-name.name-index c.args.names.now)) c.len-before.result c.loop-name.invariant.before (on_err_at c.declare_new.result err c.declare_new.ensures.err ∙ c.loop-name.invariant.block) c.truncate.ensures.entries, inl (refl, any_is_new (block_of c.args.block.now) (names_in (named c.args.names.now)) ∙ (sym c.can_declare_any.ensures ∙ c.if-not-can_declare_any.false)))
+    (undone c.args.block.now c.declare_new.new.block c.truncate.new.self (named (take c.loop-name.name-index c.args.names.now)) c.len-before.result c.loop-name.invariant.before (on_err_at c.declare_new.result err c.declare_new.ensures.err ∙ c.loop-name.invariant.block) c.truncate.ensures, inl (refl, any_is_new (block_of c.args.block.now) (names_in (named c.args.names.now)) ∙ (sym c.can_declare_any.ensures ∙ c.if-not-can_declare_any.false)))
 
 pub returns-then-not-can_declare_any-clause-err : goal.returns-then-not-can_declare_any-clause-err
 returns-then-not-can_declare_any-clause-err c = (refl, inr (refl, any_is_new (block_of c.args.block.now) (names_in (named c.args.names.now)) ∙ (sym c.can_declare_any.ensures ∙ c.if-not-can_declare_any.true)))

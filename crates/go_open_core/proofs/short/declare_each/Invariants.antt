@@ -7,5 +7,5 @@ invariant-loop-name l = record {
   block : block_of l.block ≡ block_after (block_of l.fn.block) (named (take l.name-index l.names));
   seen : l.seen ≡ list_names [] (names_in (named (take l.name-index l.names)));
   shorts : l.shorts.items ≡ short_names (block_of l.fn.block) (names_in (named (take l.name-index l.names)));
-  before : l.before ≡ length l.fn.block.entries;
+  before : l.before ≡ length l.fn.block.names;
 }

@@ -5,7 +5,7 @@ use Rattle.go_tree_nodes.specs.Shapes.{shape}
 use Rattle.go_statement_core.specs.denote_core.declared.things.Stand.TheVariants as stands
 use Rattle.go_statement_core.specs.expr_core.Looks.{everywhere}
 use Rattle.go_statement_core.specs.expr_core.Denoting.{denoted}
-use Rattle.go_statement_core.specs.expr_core_lemmas.Arms.{call_denoted, call_has_uses, call_has_faults}
+use Rattle.go_statement_core.specs.expr_core.Arms.{call_denoted, call_has_uses, call_has_faults}
 use Rattle.go_tree_nodes.proofs.ShapeLemmas.{call_form, literal_form, struct_form}
 use Rattle.go_statement_core.specs.expr_core.Steps.{both}
 use Rattle.go_piece_core.specs.Statements as statements

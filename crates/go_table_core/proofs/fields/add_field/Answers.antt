@@ -13,4 +13,4 @@ returns-in-Ok c =
       | in-None w ↦ w.so_far-is ∙ ap found_or_none (w.in-None.ensures.value ∙ at)
     ] in
     adds_field c.args.places.now c.insert.new.self c.as_str-name.result c.args.field.now.name c.match-get.so_far c.with.result c.args.field.now.place
-    c.as_str-name.ensures c.in-Ok.ensures.entries before c.with.ensures
+    c.as_str-name.ensures c.in-Ok.ensures.updates before c.with.ensures

@@ -1,6 +1,6 @@
 use Rattle.std.proofs.Common.{nat_eq, sym, ap, set, ◌∙◌}
 use Rattle.std.proofs.lemmas.List.Edits.{map_over_more}
-use Rattle.indexmap.specs.IndexSet.{contains}
+use Rattle.std.specs.HashSet.{contains}
 use Rattle.go_used_core.specs.Used.{judged_import}
 use Rattle.go_used_core.specs.mirrors.Steps.{judged_by}
 use Rattle.go_used_core.proofs.Places.{judged_alike}

@@ -8,7 +8,7 @@ use Rattle.govisd_service.proofs.connections.take_in.Goals as goal
 pub spawn-requires-send-F : goal.spawn-requires-send-F
 spawn-requires-send-F g c κs within =
     let rt = c.type_bounds.sync-H in
-    let hall = hall_row_sync (param 1 g.row.L) g.L.Named g.L.Ledger in
+    let hall = hall_row_sync (param 1 g.row.L) g.L.Named g.L.Ledger g.L.NamesBook in
     let stream = c.type_bounds.send-S in
     let open' = atomic.the_sync in
     let alloc = std.send in

@@ -1,8 +1,8 @@
-use Rattle.std.proofs.Common.{List, Option, sym, subst}
+use Rattle.std.proofs.Common.{List, Option, length, sym, ap, ◌∙◌, subst}
 use Rattle.go_snap_core.specs.part_core.Parts.{PartModel}
 use Rattle.go_snap_core.specs.whole_core.Inputs.{HasReached, IsInputAt}
 use Rattle.go_batch_core.specs.Batches.{BatchModel, IsReady}
-use Rattle.go_snap_core.specs.graph_core.Plans.{AreReached}
+use Rattle.go_snap_core.specs.graph_core.Plans.{AreReached, IsPlan, PlanModel}
 use Rattle.go_batch_core.proofs.Steps.{assembled_at, has_reached}
 use Rattle.go_batch_core.proofs.batch.Batch.input_at.Goals as goal
 
@@ -24,7 +24,15 @@ returns c =
     let input = subst (λ (l : List (Option PartModel)). IsInputAt i.sources l c.args.place c.in_ok-input.input) c.as_slice-parts.ensures c.in_ok-input.ensures.input in
     subst (λ (b : BatchModel). IsInputAt b.sources b.parts c.args.place c.in_ok-input.input) c.self.view_is input
 
+pub input_of-requires-clause-plan : goal.input_of-requires-clause-plan
+input_of-requires-clause-plan c =
+    let i = c.self.inside in
+    subst (IsPlan i.sources) (sym c.as_plan.ensures) c.self.invariant.plans.planned
+
 pub input_of-requires-clause-reached : goal.input_of-requires-clause-reached
 input_of-requires-clause-reached c =
     let i = c.self.inside in
-    subst (AreReached i.plan) (sym c.get.ensures) c.self.invariant.plans.reached
+    subst (λ (p : PlanModel). AreReached p c.get.result.now) (sym c.as_plan.ensures) (subst (AreReached i.plan) (sym c.get.ensures) c.self.invariant.plans.reached)
+
+pub input_of-requires-clause-many : goal.input_of-requires-clause-many
+input_of-requires-clause-many c = ap length c.get.ensures ∙ c.self.invariant.plans.many ∙ ap (λ (p : PlanModel). length p.outcomes) (sym c.as_plan.ensures)

@@ -1,6 +1,6 @@
-use Rattle.std.proofs.Common.{◌-◌, get_or, [], length, ap, ◌∙◌, reverse, arith}
+use Rattle.std.proofs.Common.{◌-◌, get_or, [], ap, ◌∙◌, arith}
 use Rattle.go_level_core.proofs.ListLemmas.{at_read}
-use Rattle.go_level_core.proofs.WayLemmas.{path_link, path_end, link_within, written}
+use Rattle.go_level_core.proofs.WayLemmas.{path_link, path_end, link_within}
 use Rattle.go_level_core.proofs.trails.Trails.path.Goals as goal
 
 pub index-link-requires : goal.index-link-requires
@@ -17,10 +17,9 @@ links-smaller c =
 pub links-preserved : goal.links-preserved
 links-preserved c =
     let l = link_within _ _ _ _ c.links.invariant c.links-test.true in
-    path_link c.self.inside.links.items c.args.number c.links.at c.index-link.result.now c.links.steps.items _ c.self.invariant c.links.invariant c.links-test.true (at_read _ _ _ l c.index-link.ensures) c.in_ok-push.ensures.ok
+    path_link c.self.inside.links.items c.args.number c.links.at c.index-link.result.now c.links.steps.items _ c.self.invariant c.links.invariant c.links-test.true (at_read _ _ _ l c.index-link.ensures) c.in_ok-push.ensures.items
 
 pub returns : goal.returns
 returns c =
-    written c.reverse.new.self c.links.steps.items (c.reverse.ensures.len ∙ ap (λ xs. length xs) c.as_mut_slice.ensures.value)
-    ∙ path_end c.self.inside.links.items c.args.number c.links.at c.links.steps.items _ c.links.invariant c.links-test.false (c.reverse.ensures.after ∙ ap reverse c.as_mut_slice.ensures.value)
+    path_end c.self.inside.links.items c.args.number c.links.at c.links.steps.items _ c.links.invariant c.links-test.false c.reverse.ensures.items
     ∙ ap (λ ps. get_or ps c.args.number []) c.self.view_is

@@ -42,7 +42,7 @@ returns-clause-step c =
     let h = c.args.hand in
     let V : Service = record { accepted = i.accepted; opened = i.opened; held = i.held.items; tickets = i.tickets; waiting = i.waiting; generations = i.generations; actions = i.actions; running = i.running; published = i.published } in
     let number = i.actions + 1 in
-    let a : Action = record { generation = c.hand_out_of.new.running.generation; number = number; input = h.next.input; earlier = h.earlier; kept = c.place_if.result } in
+    let a : Action = record { generation = c.hand_out_of.new.running.generation; number = number; input = h.next.input; earlier = h.earlier; kept = c.place_if.result; other = h.other } in
     let t : Service = record { accepted = c.counted-self-inside.result; opened = i.opened; held = i.held.items; tickets = i.tickets; waiting = c.new.result; generations = i.generations + 1; actions = number; running = Some c.hand_out_of.new.running; published = i.published } in
     let said : a.number ≡ s.actions + 1 = ap (λ (x : Service). x.actions + 1) c.self.view_is in
     let state : t ≡ begun_with s r h.next.place (s.actions + 1) h.next.awaited =

@@ -28,7 +28,7 @@ returns-clause-step c =
     let hand = subst (λ (x : Running). IsHand s.published x.batch c.args.hand) same c.requires.hand in
     let number = c.self.inside.actions + 1 in
     let after = batch_with r.batch.sources (slice_set r.batch.slots c.args.hand.next.place (Taken number c.args.hand.next.awaited)) r.batch.parts in
-    let a : Action = record { generation = c.hand_out-generation.result; number = number; input = c.args.hand.next.input; earlier = c.args.hand.earlier; kept = c.place_if.result } in
+    let a : Action = record { generation = c.hand_out-generation.result; number = number; input = c.args.hand.next.input; earlier = c.args.hand.earlier; kept = c.place_if.result; other = c.args.hand.other } in
     let acts : Acts s r a (acting c.counted-self-inside.result c.hand_out-generation.new.running number V) = record {
       generation = q.2;
       number = ap (λ (x : Service). x.actions + 1) c.self.view_is;

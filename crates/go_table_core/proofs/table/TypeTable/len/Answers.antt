@@ -6,4 +6,4 @@ use Rattle.go_table_core.proofs.Finding.{table_plain}
 use Rattle.go_table_core.proofs.table.TypeTable.len.Goals as goal
 
 pub returns-clause-plain : goal.returns-clause-plain
-returns-clause-plain c = subst (λ es. All (λ e. IsUnnamed e.term) es) c.self.view_is (table_plain c.self.inside.len (packages_of c.self.inside.packages) (shape c.self.inside.nothing) c.self.invariant)
+returns-clause-plain c = subst (λ es. All (λ e. IsUnnamed e.term) es) c.self.view_is (table_plain c.self.inside.len (packages_of c.self.inside.packages.items) (shape c.self.inside.nothing) c.self.invariant.0)

@@ -1,5 +1,0 @@
-use Rattle.go_entry_core.proofs.Spelled.{places_more}
-use Rattle.go_entry_core.proofs.shown_packages.places.Goals as goal
-
-pub loop-place-preserved : goal.loop-place-preserved
-loop-place-preserved c = places_more c.loop-place.places.items _ c.loop-place.place c.loop-place.invariant c.in_ok-push.ensures.items

@@ -1,2 +1,0 @@
--- What the crates above name of go_block_core.
-pub use Rattle.go_scope_core.specs.block_core_lemmas.TableLemmas as TableLemmas

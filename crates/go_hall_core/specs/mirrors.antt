@@ -1,0 +1,2 @@
+-- What the types keep of their fields.
+pub mod Stamped

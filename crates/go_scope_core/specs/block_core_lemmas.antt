@@ -1,2 +1,0 @@
--- What the crates above name of go_block_core.
-pub use Rattle.go_block_core.proofs.TableLemmas as TableLemmas
