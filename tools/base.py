@@ -11,6 +11,7 @@ keeps nothing (rattle-kit-13b) the libraries that pass are kept for this script 
 has them. It gives no verdict: `rt ci` is the judge. Crates on the longest chain get three jobs and a better priority. Logs lie in .git/base, with the
 processor seconds of each crate in .git/base/seconds, for tools/gate.py; a crate that is named in .git/base/held is not begun, while somebody works on it.
 """
+import concurrent.futures
 import contextlib
 import hashlib
 import importlib.machinery
@@ -28,18 +29,32 @@ ROOT = os.path.dirname(os.path.dirname(os.path.abspath(__file__)))
 KIT = os.path.realpath(subprocess.run(["rt", "doc"], stdout=subprocess.PIPE, text=True, check=True).stdout.strip() + "/..")
 LOGS = f"{ROOT}/.git/base"
 
-# What the children took that a thread waited for.
+# What the children took that a crate's threads waited for.
 TAKEN = threading.local()
 
 
 def waited(pid, flags):
-    """As `os.waitpid`; it adds the processor seconds of a child that ended to those of the thread."""
+    """As `os.waitpid`; it adds the processor seconds of a child that ended to those of the crate that the thread works for."""
     found, status, usage = os.wait4(pid, flags)
-    TAKEN.seconds = getattr(TAKEN, "seconds", 0) + usage.ru_utime + usage.ru_stime if found else getattr(TAKEN, "seconds", 0)
+    if found and hasattr(TAKEN, "seconds"):
+        TAKEN.seconds.append(usage.ru_utime + usage.ru_stime)
     return found, status
 
 
 os.waitpid = waited
+
+
+class Pool(concurrent.futures.ThreadPoolExecutor):
+    """Threads that work for the crate of the thread that hands the work in."""
+
+    def submit(self, call, *words):
+        seconds = getattr(TAKEN, "seconds", [])
+
+        def run():
+            TAKEN.seconds = seconds
+            return call(*words)
+
+        return super().submit(run)
 
 
 def load():
@@ -53,6 +68,7 @@ def load():
 sys.dont_write_bytecode = True
 rt = load()
 rtlib = rt.rtlib
+rtlib.ThreadPoolExecutor = Pool
 
 
 def below(crate):
@@ -70,7 +86,7 @@ def crates():
     rt.Crate.below, rt.Crate.cuts_libraries, rtlib.Crate = below, True, rt.Crate
     rtlib.listed.cache_clear()
     rt.Crate.allowed = rt.handles_of(ROOT)
-    return {it.name: it for it in sorted(rtlib.crates_below(ROOT), key=lambda it: len(it.below()))}
+    return {it.name: it for it in sorted(rtlib.crates_below(f"{ROOT}/crates"), key=lambda it: len(it.below()))}
 
 
 # Whether the kit keeps what passes.
@@ -226,7 +242,7 @@ class Base:
         return found
 
     def prove(self, crate, stamp, jobs, priority):
-        start, is_proved = time.time(), False
+        start, is_proved, TAKEN.seconds = time.time(), False, []
         os.setpriority(os.PRIO_PROCESS, threading.get_native_id(), max(priority, -20) if os.geteuid() == 0 else 0)
         with open(f"{LOGS}/{crate.name}", "w+", encoding="utf-8", errors="replace") as crate.out:
             with contextlib.suppress(SystemExit):
@@ -234,7 +250,7 @@ class Base:
         with self.lock:
             del self.running[crate.name]
             (self.proved if is_proved else self.failed)[crate.name] = stamp
-        taken = getattr(TAKEN, "seconds", 0)
+        taken = sum(TAKEN.seconds)
         if is_proved and taken > 5:
             with open(f"{LOGS}/seconds", "a", encoding="utf-8") as file:
                 file.write(f"{crate.name} {taken:.0f}\n")

@@ -7,3 +7,4 @@ pub mod Slots
 pub mod Staying
 pub mod Steadied
 pub mod Steps
+pub mod Telling

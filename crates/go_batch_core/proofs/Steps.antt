@@ -267,7 +267,7 @@ pub told_more : (parts : List (Option PartModel)) (n : ℕ) (p : PartModel) → 
 told_more parts n p = map_set (option_map (λ (q : PartModel). q.content.summary)) parts n (Some p)
 
 -- with one more that is not added yet
-tells_push : (told : List (Option SummaryModel)) (ts : List Tell) (t : Tell) → with_tells told (ts ++ t ∷ []) ≡ tell_in (with_tells told ts) t
+pub tells_push : (told : List (Option SummaryModel)) (ts : List Tell) (t : Tell) → with_tells told (ts ++ t ∷ []) ≡ tell_in (with_tells told ts) t
 tells_push told [] t = refl
 tells_push told (u ∷ us) t = tells_push (tell_in told u) us t
 

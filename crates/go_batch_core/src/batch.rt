@@ -2,6 +2,7 @@
 ghost use Rattle.std.specs.Prelude.{◌≡◌, ◌+◌, ◌↔◌, ℕ, Contains, IfOk, IsTrue, MatchOption, Some, false, length, map, slice_get, slice_set, true};
 ghost use Rattle.go_snap_core.specs.graph_core.Plans.{AreImporters, IsOrderly};
 ghost use Rattle.go_snap_core.specs.graph_core.Workspaces.{AreAllRead};
+ghost use Rattle.go_snap_core.specs.make_core.Telling.{told_of};
 ghost use Rattle.go_snap_core.specs.part_core.Inputs.{InputModel};
 ghost use Rattle.go_snap_core.specs.whole_core.Inputs.{AreParts, HasReached, IsInputAt, ReachesPackage};
 ghost use Rattle.go_snap_core.specs.Snapshots.{IsSnapshot};
@@ -15,7 +16,7 @@ use crate::marks::is_marked;
 use crate::planned::{Planned, SharedReached};
 use crate::read::{ReadInput, ReadPart};
 use crate::slot::Slot;
-use crate::tell::{Tell, push_tell, told_with};
+use crate::tell::{Tell, push_tell, tell_all, told_with};
 use go_head_core::ListedPlan;
 use go_snap_core::graph_core::Workspace;
 use go_snap_core::make_core::{Told, input_of, package_of};
@@ -26,13 +27,10 @@ use go_turn_core::Turns;
 use std::alloc::{AllocError, Global};
 use std::marker::Model;
 
-// How many packages may be finished before what they tell is added.
-const MANY: usize = 256;
-
 /// The batch that is compiled: its workspace, what is done with the action of each package, and the parts that are there. Contracts see these
 /// three. A call takes the time of the package's own imports, of what it reaches, and of the packages that import it; no call goes over all packages but
-/// `begin`, those that make the snapshot, and `next_at`, which copies a number for each. What a package tells that was finished is added to what is told
-/// by `tell`, or where an input is made.
+/// `begin`, those that make the snapshot, and `next_at` where a package was finished since the last `tell`, which then copies a number for each. What a
+/// package tells that was finished is added to what is told by `tell`, in place, or beside it where an input is made.
 pub struct Batch {
     sources: Workspace,
     plan: ListedPlan,
@@ -141,7 +139,7 @@ fn turns_of(alloc: Global, plan: &ListedPlan, slots: &[Slot]) -> Result<Turns, A
     ensures many { IfOk result (λ t. length t.needing ≡ length plan.now.outcomes) }
 {
     let marks = marks_of(alloc, slots)?;
-    let needing = plan.importers(alloc)?;
+    let needing = plan.importers()?;
     let turns = Turns::new(alloc, marks, needing)?;
     Ok(turns)
 }
@@ -206,14 +204,14 @@ impl Batch {
         self.left
     }
 
-    // What the part of a package is made from whose action is ready.
-    fn input_at(&self, alloc: Global, place: usize) -> Result<PartInput, AllocError>
-        requires { IsReady self.now place }
+    // What the part of a package is made from whose action is ready, by what all packages tell that are finished.
+    fn input_by(&self, alloc: Global, place: usize, told: &Told) -> Result<PartInput, AllocError>
+        requires ready { IsReady self.now place }
+        requires told { told.now ≡ told_of self.now.parts }
         ensures { IfOk result (λ i. IsInputAt self.now.sources self.now.parts place i) }
     {
         parts_come_in_order();
         let parts = self.parts.as_slice();
-        let told = told_with(alloc, &self.told, &self.untold)?;
         let input = input_of(
             alloc,
             &self.sources,
@@ -221,9 +219,21 @@ impl Batch {
             self.reached.get(),
             place,
             parts,
-            &told,
+            told,
         )?;
         Ok(input)
+    }
+
+    // What the part of a package is made from whose action is ready.
+    fn input_at(&self, alloc: Global, place: usize) -> Result<PartInput, AllocError>
+        requires { IsReady self.now place }
+        ensures { IfOk result (λ i. IsInputAt self.now.sources self.now.parts place i) }
+    {
+        if self.untold.is_empty() {
+            return self.input_by(alloc, place, &self.told);
+        }
+        let told = told_with(alloc, &self.told, &self.untold)?;
+        self.input_by(alloc, place, &told)
     }
 
     // What the package of an action reaches that is ready has its parts.
@@ -279,18 +289,15 @@ impl Batch {
         })
     }
 
-    /// Adds what is told by packages that were finished since the last call, where these are many: so that inputs are made sooner. Contracts see no change.
+    /// Adds what is told by packages that were finished since the last call, in place, so that inputs are made sooner. Contracts see no change.
     ///
     /// # Errors
     ///
     /// `AllocError` where memory is wanting.
-    pub fn tell(&mut self, alloc: Global) -> Result<(), AllocError>
+    pub fn tell(&mut self) -> Result<(), AllocError>
         ensures { self.new ≡ self.old }
     {
-        if self.untold.len() < MANY {
-            return Ok(());
-        }
-        self.told = told_with(alloc, &self.told, &self.untold)?;
+        tell_all(&mut self.told, &self.untold)?;
         self.untold.truncate(0);
         Ok(())
     }

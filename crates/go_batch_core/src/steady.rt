@@ -1,5 +1,5 @@
 //! What of the last snapshot is as it was in the batch that runs.
-ghost use Rattle.std.specs.Prelude.{◌≡◌, ◌↔◌, IfOk, IfSome, IsTrue, MatchOption, Some, false, length, replicate, slice_get, slice_set, true};
+ghost use Rattle.std.specs.Prelude.{◌≡◌, ◌↔◌, Contains, IfOk, IfSome, IsTrue, MatchOption, Some, false, length, replicate, slice_get, slice_set, true};
 ghost use Rattle.go_snap_core.specs.graph_core.Workspaces.{AreAllRead};
 ghost use Rattle.go_snap_core.specs.part_core.Parts.{PartModel};
 ghost use Rattle.go_batch_core.specs.Batches.{Awaits, IsReady};
@@ -158,6 +158,13 @@ impl Steady {
         ensures { IsTrue result ↔ (slice_get self.now.same place ≡ Some true) }
     {
         is_marked(&self.same, place)
+    }
+
+    /// Whether a package is finished that tells something else than in the last snapshot.
+    pub fn has_moved(&self) -> bool
+        ensures { IsTrue result ↔ Contains self.now.moved true }
+    {
+        self.moved.any && self.moved.marks.contains(&true)
     }
 
     /// Whether a part tells what the part of a number in the last snapshot tells. The time is linear in what the two tell.

@@ -1,5 +1,5 @@
-//! What finished packages tell, added many at a time.
-ghost use Rattle.std.specs.Prelude.{◌≡◌, ◌<◌, ◌≤◌, ◌++◌, ◌∷◌, [], IfOk, OnOk, length, vec_capacity};
+//! What finished packages tell, added before inputs are made of it.
+ghost use Rattle.std.specs.Prelude.{◌≡◌, ◌<◌, ◌≤◌, ◌++◌, ◌∷◌, [], IfOk, OnErr, OnOk, length, vec_capacity};
 ghost use Rattle.go_batch_core.specs.mirrors.Tells.{AreWithin, tell_in, with_tells};
 
 use go_snap_core::make_core::Told;
@@ -21,9 +21,22 @@ impl Drop for Tell {
 // Adds what a package tells.
 fn add_tell(told: &mut Told, tell: &Tell) -> Result<(), AllocError>
     requires { tell.now.place < length told.old }
-    ensures { OnOk result (told.new ≡ tell_in told.old tell.now) }
+    ensures added { OnOk result (told.new ≡ tell_in told.old tell.now) }
+    ensures kept { OnErr result (told.new ≡ told.old) }
 {
     told.add(tell.place, tell.part.summary().share()?)
+}
+
+/// Adds what is not added yet to what is told. Where memory is wanting in the middle, some of it is added: with all of it what is told is the same.
+pub(crate) fn tell_all(told: &mut Told, untold: &[Tell]) -> Result<(), AllocError>
+    requires { AreWithin (length told.old) untold.now }
+    ensures added { OnOk result (told.new ≡ with_tells told.old untold.now) }
+    ensures kept { with_tells told.new untold.now ≡ with_tells told.old untold.now }
+{
+    for tell in untold {
+        add_tell(told, tell)?;
+    }
+    Ok(())
 }
 
 /// What is told with what is not added yet, beside it. What is told is shared.
@@ -32,9 +45,7 @@ pub(crate) fn told_with(alloc: Global, told: &Told, untold: &[Tell]) -> Result<T
     ensures { IfOk result (λ t. t ≡ with_tells told.now untold.now) }
 {
     let mut whole = told.copy(alloc)?;
-    for tell in untold {
-        add_tell(&mut whole, tell)?;
-    }
+    tell_all(&mut whole, untold)?;
     Ok(whole)
 }
 

@@ -5,3 +5,4 @@ pub mod Marking
 pub mod RowByRow
 pub mod Replacing
 pub mod Spanning
+pub mod Unmoved

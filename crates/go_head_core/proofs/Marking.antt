@@ -1,12 +1,15 @@
--- Marks, one behind another.
-use Rattle.std.proofs.Common.{◌≡◌, ◌⊎◌, ⊎_elim, inl, inr, ℕ, zero, suc, ◌+◌, ◌<◌, ◌≤◌, Bool, List, [], ◌∷◌, ◌++◌, length, get_or, map, take, refl, sym, ap, ◌∙◌, subst, arith, Option, Some, None}
+-- Marks of packages, number by number.
+use Rattle.std.proofs.Common.{◌≡◌, ◌≢◌, ◌⊎◌, ⊎_elim, inl, inr, ℕ, zero, suc, ◌+◌, ◌<◌, ◌≤◌, Bool, true, List, [], ◌∷◌, ◌++◌, length, get_or, map, replicate, set, length-set, refl, sym, ap, ◌∙◌, subst, arith, Some}
 use Rattle.std.specs.Prelude.{slice_get, IsTrue, ◌↔◌}
 use Rattle.std.specs.Option.{option_map}
-use Rattle.std.proofs.lemmas.List.{map_more, length_push, take_all}
-use Rattle.std.proofs.lemmas.Option.{slice_get-get_or, slice_get_within, get_or_from_slice_get}
+use Rattle.std.proofs.lemmas.Bool.{cases_eq, cases_lt}
+use Rattle.std.proofs.lemmas.List.{length-replicate}
+use Rattle.std.proofs.lemmas.Option.{slice_get-get_or, slice_get_within}
 use Rattle.go_graph_core.specs.Workspaces.{PackageModel}
 use Rattle.go_head_core.specs.Heads.{AreSameMarks, HaveSameHeads, head_of}
-use Rattle.go_head_core.specs.mirrors.Marking.{IsHeadOf, IsMarkOf}
+use Rattle.go_head_core.specs.mirrors.Marking.{AreSameBut, IsHeadOf, IsMarkOf}
+
+-- lists at a number
 
 pub at_end : {X : Type 0} (xs : List X) (y : X) (k : ℕ) (x : X) → slice_get (xs ++ y ∷ []) k ≡ Some x → (slice_get xs k ≡ Some x) ⊎ ((k ≡ length xs) × (y ≡ x))
 at_end [] y zero x e = inr (refl, (let both : Some y ≡ Some x = e in cc))
@@ -14,50 +17,88 @@ at_end [] y (suc k) x e = absurd cc
 at_end (z ∷ xs) y zero x e = inl e
 at_end (z ∷ xs) y (suc k) x e = ⊎_elim (λ (l : slice_get xs k ≡ Some x). inl l) (λ (r : (k ≡ length xs) × (y ≡ x)). inr (ap suc r.0, r.1)) (at_end xs y k x e)
 
--- there is a mark for each package below a number, and where the flag is set, there are as many packages, and the heads below the number are the same
-abbrev pub AreMarkedTo : List PackageModel → List PackageModel → ℕ → List Bool → Bool → Type 0
-AreMarkedTo ps qs k marks heads = (length marks ≡ k) × ((n : ℕ) (is : Bool) → slice_get marks n ≡ Some is → IsTrue is ↔ (slice_get ps n ≡ slice_get qs n)) × (IsTrue heads → (length ps ≡ length qs) × (map head_of (take k ps) ≡ map head_of (take k qs)))
+at_set : {X : Type 0} (xs : List X) (k : ℕ) (x y : X) → slice_get (set xs k y) k ≡ Some x → y ≡ x
+at_set [] k x y e = absurd cc
+at_set (z ∷ xs) zero x y e = (let both : Some y ≡ Some x = e in cc)
+at_set (z ∷ xs) (suc k) x y e = at_set xs k x y e
 
-none_marked : {A : Type 0} (n : ℕ) (x : A) → slice_get [] n ≡ Some x → ⊥
-none_marked n x e = absurd cc
+at_other : {X : Type 0} (xs : List X) (k n : ℕ) (y : X) → n ≢ k → slice_get (set xs k y) n ≡ slice_get xs n
+at_other [] k n y apart = refl
+at_other (x ∷ xs) zero zero y apart = absurd (apart refl)
+at_other (x ∷ xs) zero (suc n) y apart = refl
+at_other (x ∷ xs) (suc k) zero y apart = refl
+at_other (x ∷ xs) (suc k) (suc n) y apart = at_other xs k n y (λ e. apart (ap suc e))
 
-pub none_yet : (ps qs : List PackageModel) (heads : Bool) → (IsTrue heads → length ps ≡ length qs) → AreMarkedTo ps qs 0 [] heads
-none_yet ps qs heads long = (refl, (λ n is e. absurd (none_marked n is e)), (λ said. (long said, refl)))
+at_replicate : {X : Type 0} (many n : ℕ) (x y : X) → slice_get (replicate many x) n ≡ Some y → x ≡ y
+at_replicate zero n x y e = absurd cc
+at_replicate (suc many) zero x y e = (let both : Some x ≡ Some y = e in cc)
+at_replicate (suc many) (suc n) x y e = at_replicate many n x y e
 
-some_of : (ps : List PackageModel) (k : ℕ) (q : PackageModel) (o : Option PackageModel) → slice_get ps k ≡ o → option_map head_of o ≡ Some (head_of q) → (p : PackageModel) × (slice_get ps k ≡ Some p) × (head_of p ≡ head_of q)
-some_of ps k q None is e = absurd cc
-some_of ps k q (Some p) is e = (p, is, (let both : Some (head_of p) ≡ Some (head_of q) = e in cc))
+-- outside a span of numbers packages are the same; there is a mark for each package, and those below a number, and behind the span, are right; and where the
+-- flag is set, there are as many packages, and the heads below the number are the same
+pub record AreMarkedTo (ps qs : List PackageModel) (high number : ℕ) (marks : List Bool) (heads : Bool) : Type 0 where
+  pub low : ℕ
+  pub but : AreSameBut ps qs low high
+  pub within : high ≤ length qs
+  pub many : length marks ≡ length qs
+  pub each : (n : ℕ) (is : Bool) → slice_get marks n ≡ Some is → (n < number) ⊎ (high ≤ n) → IsTrue is ↔ (slice_get ps n ≡ slice_get qs n)
+  pub alike : IsTrue heads → (length ps ≡ length qs) × ((n : ℕ) → n < number → option_map head_of (slice_get ps n) ≡ option_map head_of (slice_get qs n))
 
-heads_more : (ps qs : List PackageModel) (k : ℕ) (q : PackageModel) → k < length qs → q ≡ get_or qs k q → map head_of (take k ps) ≡ map head_of (take k qs) → option_map head_of (slice_get ps k) ≡ Some (head_of q) → map head_of (take (k + 1) ps) ≡ map head_of (take (k + 1) qs)
-heads_more ps qs k q lq there h head =
-    let here = some_of ps k q (slice_get ps k) refl head in
-    let p = here.0 in
-    let lp : k < length ps = slice_get_within ps k p here.1 in
-    let at : get_or ps k p ≡ p = get_or_from_slice_get ps k p p here.1 in
-    map_more head_of ps k p lp ∙ ap (λ x. map head_of (take k ps) ++ head_of x ∷ []) at ∙ ap (λ l. l ++ head_of p ∷ []) h ∙ ap (λ x. map head_of (take k qs) ++ x ∷ []) here.2 ∙ ap (λ x. map head_of (take k qs) ++ head_of x ∷ []) there ∙ sym (map_more head_of qs k q lq)
+pub none_yet : (ps qs : List PackageModel) (low high : ℕ) (heads : Bool) → AreSameBut ps qs low high → high ≤ length qs → (IsTrue heads → length ps ≡ length qs) → AreMarkedTo ps qs high low (replicate (length qs) true) heads
+none_yet ps qs low high heads same ends long = record {
+  low = low;
+  but = same;
+  within = ends;
+  many = length-replicate (length qs) true;
+  each = λ n is e which.
+      let within : n < length qs = omega (arith, slice_get_within (replicate (length qs) true) n is e, length-replicate (length qs) true) in
+      let here : slice_get ps n ≡ slice_get qs n = ⊎_elim (λ (lt : n < low). same.before n lt) (λ (le : high ≤ n). same.behind n le within) which in
+      ((λ said. here), (λ equal. sym (at_replicate (length qs) n true is e)));
+  alike = λ said. (long said, (λ n lt. ap (option_map head_of) (same.before n lt)));
+}
 
-pub one_more : (ps qs : List PackageModel) (k : ℕ) (q : PackageModel) (marks : List Bool) (heads is head both : Bool) → k < length qs → q ≡ get_or qs k q → AreMarkedTo ps qs k marks heads → IsMarkOf ps k q is → IsHeadOf ps k q head → (IsTrue both → IsTrue heads × IsTrue head) → AreMarkedTo ps qs (k + 1) (marks ++ is ∷ []) both
-one_more ps qs k q marks heads is head both lq there h says same and =
-    let other : slice_get qs k ≡ Some q = slice_get-get_or qs k q lq ∙ ap Some (sym there) in (
-      length_push marks is ∙ ap (λ n. n + 1) h.0,
-      λ n x e. ⊎_elim
-          (λ (l : slice_get marks n ≡ Some x). h.1 n x l)
-          (λ (r : (n ≡ length marks) × (is ≡ x)).
-          let number : n ≡ k = r.0 ∙ h.0 in (
-            (λ said. ap (slice_get ps) number ∙ says.0 (subst IsTrue (sym r.1) said) ∙ sym other ∙ ap (slice_get qs) (sym number)),
-            (λ equal. subst IsTrue r.1 (says.1 (sym (ap (slice_get ps) number) ∙ equal ∙ ap (slice_get qs) number ∙ other))),
+pub one_more : (ps qs : List PackageModel) (high k : ℕ) (q : PackageModel) (marks : List Bool) (heads is head both : Bool) → k < length qs → k < high → q ≡ get_or qs k q → AreMarkedTo ps qs high k marks heads → IsMarkOf ps k q is → IsHeadOf ps k q head → (IsTrue both → IsTrue heads × IsTrue head) → AreMarkedTo ps qs high (k + 1) (set marks k is) both
+one_more ps qs high k q marks heads is head both lq lh there h says same and =
+    let other : slice_get qs k ≡ Some q = slice_get-get_or qs k q lq ∙ ap Some (sym there) in
+    record {
+      low = h.low;
+      but = h.but;
+      within = h.within;
+      many = length-set marks k is ∙ h.many;
+      each = λ n x e which. ⊎_elim
+          (λ (number : n ≡ k).
+          let set_here : is ≡ x = at_set marks k x is (ap (slice_get (set marks k is)) (sym number) ∙ e) in (
+            (λ said. ap (slice_get ps) number ∙ says.0 (subst IsTrue (sym set_here) said) ∙ sym other ∙ ap (slice_get qs) (sym number)),
+            (λ equal. subst IsTrue set_here (says.1 (sym (ap (slice_get ps) number) ∙ equal ∙ ap (slice_get qs) number ∙ other))),
           ))
-          (at_end marks is n x e),
-      λ said.
+          (λ (apart : n ≢ k). h.each n x (sym (at_other marks k n is apart) ∙ e) (⊎_elim (λ (lt : n < k + 1). (let less : n < k = omega (arith, lt, apart) in inl less)) (λ (le : high ≤ n). inr le) which))
+          (cases_eq n k);
+      alike = λ said.
           let two = and said in
-          let before = h.2 two.0 in
-          (before.0, heads_more ps qs k q lq there before.1 (same two.1)),
-    )
+          let before = h.alike two.0 in (
+            before.0,
+            λ n lt. ⊎_elim
+                (λ (less : n < k). before.1 n less)
+                (λ (more : k ≤ n).
+                let number : n ≡ k = omega (arith, lt, more) in
+                ap (λ m. option_map head_of (slice_get ps m)) number ∙ same two.1 ∙ sym (ap (option_map head_of) other) ∙ ap (λ m. option_map head_of (slice_get qs m)) (sym number))
+                (cases_lt n k),
+          );
+    }
 
-pub all_marked : (ps qs : List PackageModel) (k : ℕ) (marks : List Bool) (heads : Bool) → length qs ≤ k → k ≤ length qs → AreMarkedTo ps qs k marks heads → AreSameMarks ps qs marks × (IsTrue heads → HaveSameHeads ps qs)
-all_marked ps qs k marks heads end within h = (
-  record { many = omega (arith, h.0, end, within); each = h.1 },
+same_images : (ps qs : List PackageModel) → length ps ≡ length qs → ((n : ℕ) → n < length qs → option_map head_of (slice_get ps n) ≡ option_map head_of (slice_get qs n)) → HaveSameHeads ps qs
+same_images [] [] long same = refl
+same_images [] (q ∷ qs) long same = absurd (omega (arith, long))
+same_images (p ∷ ps) [] long same = absurd (omega (arith, long))
+same_images (p ∷ ps) (q ∷ qs) long same =
+    let first : head_of p ≡ head_of q = (let both : Some (head_of p) ≡ Some (head_of q) = same 0 (omega arith) in cc) in
+    let rest = same_images ps qs (omega (arith, long)) (λ n lt. same (suc n) (omega (arith, lt))) in
+    ap (λ h. h ∷ map head_of ps) first ∙ ap (λ l. head_of q ∷ l) rest
+
+pub all_marked : (ps qs : List PackageModel) (high k : ℕ) (marks : List Bool) (heads : Bool) → high ≤ k → AreMarkedTo ps qs high k marks heads → AreSameMarks ps qs marks × (IsTrue heads → HaveSameHeads ps qs)
+all_marked ps qs high k marks heads end h = (
+  record { many = h.many; each = λ n is e. h.each n is e (⊎_elim (λ (lt : n < k). inl lt) (λ (le : k ≤ n). (let past : high ≤ n = omega (arith, le, end) in inr past)) (cases_lt n k)) },
   λ said.
-      let all = h.2 said in
-      ap (map head_of) (sym (take_all k ps (omega (arith, all.0, end)))) ∙ all.1 ∙ ap (map head_of) (take_all k qs end),
+      let all = h.alike said in
+      same_images ps qs all.0 (λ n within. ⊎_elim (λ (lt : n < k). all.1 n lt) (λ (le : k ≤ n). ap (option_map head_of) (h.but.behind n (omega (arith, le, end)) within)) (cases_lt n k)),
 )

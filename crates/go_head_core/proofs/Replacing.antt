@@ -14,7 +14,7 @@ use Rattle.go_graph_core.proofs.Keeping.{found_outside, found_put}
 use Rattle.go_head_core.specs.Outside.{AreSameOutside, is_inside_any}
 use Rattle.go_head_core.specs.mirrors.Marking.{AreSameTwoAt}
 
-is_same : (a b : List ℕ) → is_at (by_bytes a) b ≡ true → a ≡ b
+pub is_same : (a b : List ℕ) → is_at (by_bytes a) b ≡ true → a ≡ b
 is_same a b h = (bytes_eq-Decides a b).0 (sym (is_eq-slice_cmp a b) ∙ h)
 
 -- a path inside a module is none outside it
@@ -48,16 +48,13 @@ found_at ps i path fs well at = lookup_from_place (eq_by_cmp_equiv nat_list_cmp_
 
 -- where the files of each path outside modules stay
 pub same_outside : (modules : List (List ℕ)) (ps qs : List PackageModel) → IsWorkspace ps → IsWorkspace qs → ((path : List ℕ) → is_inside_any modules path ≡ false → files_at qs path ≡ files_at ps path) → AreSameOutside modules ps qs
-same_outside modules ps qs one other stays = record {
-  each = λ i j path fs gs here there none.
-      let both : Some fs ≡ Some gs = sym (found_at ps i path fs one here) ∙ sym (stays path none) ∙ found_at qs j path gs other there in
-      cc;
-}
+same_outside modules ps qs one other stays = record { each = stays }
 
 -- two packages of one number
-pub same_two : (modules : List (List ℕ)) (ps qs : List PackageModel) (k : ℕ) (q : PackageModel) → AreSameOutside modules ps qs → slice_get qs k ≡ Some q → AreSameTwoAt modules ps k q
-same_two modules ps qs k q same there p here paths outside =
-    same.each k k q.0 p.1 q.1 (here ∙ ap (λ (path : List ℕ). Some (path, p.1)) paths) there outside
+pub same_two : (modules : List (List ℕ)) (ps qs : List PackageModel) (k : ℕ) (q : PackageModel) → IsWorkspace ps → IsWorkspace qs → AreSameOutside modules ps qs → slice_get qs k ≡ Some q → AreSameTwoAt modules ps k q
+same_two modules ps qs k q one other same there p here paths outside =
+    let both : Some p.1 ≡ Some q.1 = sym (found_at ps k q.0 p.1 one (here ∙ ap (λ (path : List ℕ). Some (path, p.1)) paths)) ∙ sym (same.each q.0 outside) ∙ found_at qs k q.0 q.1 other there in
+    cc
 
 pub one_package : (p q : PackageModel) → p.0 ≡ q.0 → p.1 ≡ q.1 → p ≡ q
 one_package p q paths files i = (paths i, files i)

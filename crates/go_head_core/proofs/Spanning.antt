@@ -1,5 +1,5 @@
 -- Packages in order of path: those inside a module stand from the module's text up to the text behind all that begins with it and a slash.
-use Rattle.std.proofs.Common.{◌≡◌, ◌⊎◌, ⊎_elim, inl, inr, ℕ, zero, suc, ◌+◌, ◌-◌, ◌<◌, ◌≤◌, Bool, true, false, cond, List, [], ◌∷◌, ◌++◌, length, get_or, take, drop, refl, sym, ap, ◌∙◌, subst, arith, append-nil}
+use Rattle.std.proofs.Common.{◌≡◌, ◌⊎◌, ⊎_elim, inl, inr, ℕ, zero, suc, ◌-◌, ◌<◌, ◌≤◌, Bool, true, false, cond, List, [], ◌∷◌, ◌++◌, length, get_or, take, drop, refl, sym, ap, ◌∙◌, subst, arith, append-nil}
 use Rattle.std.specs.List.{AllWithin, join_with_byte}
 use Rattle.std.specs.List.Sorted.{IsPartitionedBy, IsStrictlySortedBy}
 use Rattle.std.specs.Map.{keys_of}
@@ -63,13 +63,13 @@ no : (b : Bool) → (b ≡ true → ⊥) → b ≡ false
 no true is = absurd (is refl)
 no false is = refl
 
-outside_before : (own path : List ℕ) → is_lt (by_bytes path own) ≡ true → is_path_inside own path ≡ false
+pub outside_before : (own path : List ℕ) → is_lt (by_bytes path own) ≡ true → is_path_inside own path ≡ false
 outside_before own path before = no (is_path_inside own path) (λ inside.
     let text = inside_text own path inside in
     let both : true ≡ false = sym before ∙ ap (λ l. is_lt (by_bytes l own)) text.1 ∙ not_before own text.0 in
     absurd cc)
 
-outside_behind : (own path : List ℕ) → is_lt (by_bytes path (own ++ 48 ∷ [])) ≡ false → is_path_inside own path ≡ false
+pub outside_behind : (own path : List ℕ) → is_lt (by_bytes path (own ++ 48 ∷ [])) ≡ false → is_path_inside own path ≡ false
 outside_behind own path past = no (is_path_inside own path) (λ inside.
     let text = inside_text own path inside in
     let both : false ≡ true = sym past ∙ ap (λ l. is_lt (by_bytes l (own ++ 48 ∷ []))) text.1 ∙ before_end own text.0 text.2 in

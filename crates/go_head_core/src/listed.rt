@@ -1,4 +1,5 @@
 //! Plans whose importers are listed once.
+ghost use Rattle.std.specs.Arc.{arc_value};
 ghost use Rattle.std.specs.Prelude.{◌≡◌, IfOk, length, map};
 ghost use Rattle.go_graph_core.specs.Plans.{AreImporters};
 
@@ -33,18 +34,6 @@ impl Model for ListedPlan {
     ghost view = { λ p. p.plan };
 
     ghost invariant = { λ p. AreImporters p.plan (map (λ r. r.items) (arc_value p.importers).items) × (length (arc_value p.importers).items ≡ length p.plan.outcomes) };
-}
-
-// Rows once more.
-fn copied_rows(alloc: Global, rows: &[Vec<usize>]) -> Result<Vec<Vec<usize>>, AllocError>
-    ensures { IfOk result (λ copied. map (λ r. r.items) copied.items ≡ map (λ r. r.items) rows.now) }
-{
-    let mut copied = Vec::with_capacity(alloc, rows.len())?;
-    for row in rows {
-        let again = Vec::from_slice(alloc, row.as_slice())?;
-        copied.push(again)?;
-    }
-    Ok(copied)
 }
 
 impl ListedPlan {
@@ -88,16 +77,16 @@ impl ListedPlan {
         self.plan.order()
     }
 
-    /// For each package, by number, the numbers of the packages whose passing imports come to it, once for each such import. The lists are copied.
+    /// For each package, by number, the numbers of the packages whose passing imports come to it, once for each such import. The lists are shared; it takes no
+    /// memory.
     ///
     /// # Errors
     ///
-    /// `AllocError` where memory is wanting.
-    pub fn importers(&self, alloc: Global) -> Result<Vec<Vec<usize>>, AllocError>
-        ensures many { IfOk result (λ rows. length rows.items ≡ length self.now.outcomes) }
-        ensures rows { IfOk result (λ rows. AreImporters self.now (map (λ r. r.items) rows.items)) }
+    /// `AllocError` where they have too many owners.
+    pub fn importers(&self) -> Result<Arc<Vec<Vec<usize>>>, AllocError>
+        ensures many { IfOk result (λ rows. length (arc_value rows).items ≡ length self.now.outcomes) }
+        ensures rows { IfOk result (λ rows. AreImporters self.now (map (λ r. r.items) (arc_value rows).items)) }
     {
-        let rows = copied_rows(alloc, self.importers.as_slice())?;
-        Ok(rows)
+        Arc::try_clone(&self.importers)
     }
 }

@@ -7,6 +7,7 @@ ghost use Rattle.go_head_core.specs.mirrors.Marking.{AreSameTwo, AreSameTwoAt, I
 
 use crate::heads::is_same_package_head;
 use crate::outside::is_same_outside;
+use crate::spans::changed;
 use go_graph_core::{PackageSource, Workspace};
 use go_path_core::Module;
 use std::alloc::{AllocError, Global};
@@ -69,11 +70,12 @@ fn compare_all(
     ensures same { IfOk result (λ c. AreSameMarks packages.now others.now c.same.items) }
     ensures heads { IfOk result (λ c. IsTrue c.heads → HaveSameHeads packages.now others.now) }
 {
-    let mut same = Vec::with_capacity(alloc, others.len())?;
+    let span = changed(alloc, modules, packages, others)?;
+    let mut same = vec![in alloc; true; others.len()]?;
     let mut heads = packages.len() == others.len();
-    for number in 0..others.len() {
+    for number in span.start..span.end {
         let (mark, head) = compare_at(modules, packages, number, &others[number]);
-        same.push(mark)?;
+        same[number] = mark;
         heads = heads && head;
     }
     Ok(Compared { same, heads })
@@ -81,7 +83,8 @@ fn compare_all(
 
 /// What a workspace has of an earlier one: which packages are the same, by their numbers; and whether all paths are, the names in the clauses of all files,
 /// and the texts of their imports, in order. Imports that are spelled in another way count as others. A package of a path outside the modules that were
-/// replaced is known to be the same; the time is linear in the paths, and in the packages inside the modules.
+/// replaced is known to be the same. Where one module was replaced, and stands at the same numbers in both, no package before or behind it is looked at; else
+/// the time is linear in the paths, and in the packages inside the modules.
 ///
 /// # Errors
 ///

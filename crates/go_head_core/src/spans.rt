@@ -5,6 +5,8 @@ ghost use Rattle.std.specs.List.Sorted.{IsStrictlySortedBy};
 ghost use Rattle.std.specs.Map.{keys_of};
 ghost use Rattle.std.specs.Ordering.{is_lt};
 ghost use Rattle.go_graph_core.specs.Workspaces.{AreAllRead, IsWorkspace, by_bytes, packages_inside};
+ghost use Rattle.go_head_core.specs.Outside.{AreSameOutside};
+ghost use Rattle.go_head_core.specs.mirrors.Marking.{AreSameBut};
 
 use go_graph_core::PackageSource;
 use go_path_core::Module;
@@ -58,4 +60,66 @@ pub fn span_of<'a>(
     } else {
         Ok(packages)
     }
+}
+
+/// The packages from one number up to another.
+#[derive(Clone, Copy)]
+pub(crate) struct Span {
+    pub(crate) start: usize,
+    pub(crate) end: usize,
+}
+
+// Where two lists of packages may differ that are the same outside one module. Where the module stands at the same numbers in both, so do the packages before
+// and behind it, and none of them is looked at.
+fn changed_by_one(
+    alloc: Global,
+    own: &Module,
+    packages: &[PackageSource],
+    others: &[PackageSource],
+) -> Result<Span, AllocError>
+    requires outside { AreSameOutside (own.now ∷ []) packages.now others.now }
+    requires one { IsWorkspace packages.now }
+    requires other { IsWorkspace others.now }
+    ensures within { IfOk result (λ s. s.end ≤ length others.now) }
+    ensures same { IfOk result (λ s. AreSameBut packages.now others.now s.start s.end) }
+{
+    let behind = text_behind(alloc, own)?;
+    let first = count_before(packages, own.as_str());
+    let last = count_before(packages, behind.as_str());
+    let start = count_before(others, own.as_str());
+    let end = count_before(others, behind.as_str());
+    if first == start && last == end {
+        Ok(Span { start, end })
+    } else {
+        Ok(Span {
+            start: 0,
+            end: others.len(),
+        })
+    }
+}
+
+/// Where two lists of packages may differ that are the same outside modules: few paths are looked at where it is one module, and none else.
+///
+/// # Errors
+///
+/// `AllocError` where memory is wanting.
+pub(crate) fn changed(
+    alloc: Global,
+    modules: &[Module],
+    packages: &[PackageSource],
+    others: &[PackageSource],
+) -> Result<Span, AllocError>
+    requires outside { AreSameOutside modules.now packages.now others.now }
+    requires one { IsWorkspace packages.now }
+    requires other { IsWorkspace others.now }
+    ensures within { IfOk result (λ s. s.end ≤ length others.now) }
+    ensures same { IfOk result (λ s. AreSameBut packages.now others.now s.start s.end) }
+{
+    if modules.len() == 1 {
+        return changed_by_one(alloc, &modules[0], packages, others);
+    }
+    Ok(Span {
+        start: 0,
+        end: others.len(),
+    })
 }

@@ -1,5 +1,5 @@
 -- The names at a place are those for the identifier.
-use Rattle.std.proofs.Common.{◌≡◌, ℕ, zero, suc, ◌≤◌, true, List, [], ◌∷◌, ◌++◌, length, map, Option, Some, None, refl, sym, ap, ◌∙◌, subst, arith}
+use Rattle.std.proofs.Common.{◌≡◌, ℕ, zero, suc, ◌≤◌, Bool, true, List, [], ◌∷◌, ◌++◌, length, map, Option, Some, None, refl, sym, ap, ◌∙◌, subst, arith}
 use Rattle.std.specs.Prelude.{slice_get}
 use Rattle.std.specs.Borrow.{Bor}
 use Rattle.std.specs.Option.{option_map}
@@ -21,7 +21,7 @@ use Rattle.go_around_core.specs.entry_core.Meanings.{file_meaning}
 use Rattle.go_around_core.specs.entry_core.Outlines.{FileOutline, outline_of, outline_shown}
 use Rattle.go_around_core.specs.entry_core.Showing.{shown_in}
 use Rattle.go_local_core.specs.Binding.{NameLook}
-use Rattle.go_local_core.specs.mirrors.Walk.{Names, look_in}
+use Rattle.go_local_core.specs.mirrors.Walk.{Names}
 use Rattle.go_around_core.specs.denote_core.declared.things.Dot.TheVariants as dots
 use Rattle.go_around_core.specs.denote_core.declared.things.Outcome.{Outcome}
 use Rattle.go_around_core.specs.denote_core.declared.things.Outcome.TheVariants as outcomes
@@ -29,11 +29,13 @@ use Rattle.go_around_core.specs.handle_core.Declarations.{Declaration}
 use Rattle.go_complete_core.specs.context_core.Laws as context
 use Rattle.go_around_core.specs.expr_core.Uses.{Context, NameAt, SelectorBehind, KeyAmong, rule}
 use Rattle.go_around_core.specs.env_core.declared.meaning.Meaning.{Meaning}
-use Rattle.go_around_core.specs.func_core.Stands.{FileStand, looks_where, outer_meanings}
+use Rattle.go_around_core.specs.env_core.Looks.{TheLooks}
+use Rattle.go_around_core.specs.func_core.Stands.{FileStand, looks_where}
 use Rattle.go_around_core.specs.spot_core.Used.{SpotTree}
 use Rattle.go_around_core.specs.spot_core.Contexts.{context_of_spot}
 use Rattle.go_around_core.specs.spot_core.Opened.{FileUsed}
 use Rattle.go_around_core.specs.behind_core.Names as behind
+use Rattle.go_around_core.specs.behind_core.Names.{AreNames}
 use Rattle.go_around_core.specs.Arounds.{ListsAround, rests_on_types}
 use Rattle.go_complete_core.specs.ready_core.Packages.{PackageIn, outlines_in, stand_in, trees_in}
 use Rattle.go_complete_core.specs.package_core.Steps.{outline_there}
@@ -46,6 +48,8 @@ use Rattle.go_complete_core.specs.part_core.Inputs.{InputModel}
 use Rattle.go_complete_core.specs.part_core.Parts.{FileOf, IsPart, PartModel, file_shown, package_seen, seen_by}
 use Rattle.go_complete_core.specs.place_core.Completed.{names_placed}
 use Rattle.go_complete_core.specs.place_core.Completions.{AreNamesFor, is_of_types, stand_of}
+use Rattle.go_view_core.specs.Imported.{seen_by_imports, told_by_imports}
+use Rattle.go_view_core.specs.Laws.{ImportsDecide, looks_with, stand_seeing}
 use Rattle.go_hint_core.specs.Hints.{AreNamesByTypes, AreNamesWith, IsSeen, written_of}
 use Rattle.go_hint_core.specs.Kept.{open_by}
 use Rattle.go_complete_core.specs.body_core.Notes.{TheLocal}
@@ -81,26 +85,41 @@ at_stand st names sp x found lists h =
       );
     }
 
-module _ (p : PartModel) (q : PackageIn) (types : List Entry) (seen : IsSeen p q types) (n : ℕ) (u : FileUsed) (found : List (List ℕ)) where
-  -- the stand of a file of the package is that of the part
-  stand_same : (f : FileTree) (made : IsPart p.input p.content) → stand_in q types p.content.declared n (outline_of f) ≡ stand_of p made n f
+-- the same names by look-ups to which the identifier stands in the same context, and which say the same of each name there
+lists_alike : (looks others : TheLooks) (s : SpotTree) (found : List (List ℕ)) → context_of_spot looks s ≡ context_of_spot others s
+    → ((offset : ℕ) (name : List ℕ) → rule looks (context_of_spot looks s) offset name ≡ rule others (context_of_spot looks s) offset name) → ListsAround looks s found → ListsAround others s found
+lists_alike looks others s found context rules lists = λ rests offset.
+    let same : (name : List ℕ) → rule looks (context_of_spot looks s) offset name ≡ rule others (context_of_spot others s) offset name = λ name. rules offset name ∙ ap (λ c. rule others c offset name) context in
+    subst (λ (passes : List ℕ → Bool). AreNames passes found) (λ j name. behind.is_declared (same name j)) (lists (ap rests_on_types context ∙ rests) offset)
+
+module _ (decide : ImportsDecide) (p : PartModel) (q : PackageIn) (types : List Entry) (seen : IsSeen p q types) (n : ℕ) (u : FileUsed) (found : List (List ℕ)) where
+  -- the stand of a file of the package is that of the part, but for what is known of packages that no import comes to
+  stand_same : (f : FileTree) (made : IsPart p.input p.content)
+      → stand_in q types p.content.declared n (outline_of f) ≡ stand_seeing p.input p.content.blocks (seen_by_imports p.input) ((seen_by p.input).types ++ made.checked.types) made.checked.declared n (outline_of f)
   stand_same f made =
       let package_is = seen.seen in
       let all_types : types ≡ (seen_by p.input).types ++ made.checked.types = seen.types_are ∙ ap (λ (es : List Entry). (seen_by p.input).types ++ es) (ap (λ s. s.types.entries) made.summary) in
       λ i. stand_in (package_is i) (all_types i) (made.declared i) n (outline_of f)
 
+  -- so the names are those by the part's own stand
+  lists_there : (f : FileTree) (made : IsPart p.input p.content) (locals : Names Meaning) → ListsAround (looks_with (stand_in q types p.content.declared n (outline_of f)) locals) u.used.spot found → ListsAround (looks_with (stand_of p made n f) locals) u.used.spot found
+  lists_there f made locals lists =
+      let all_types = (seen_by p.input).types ++ made.checked.types in
+      let known = made.checked.declared in
+      let o = outline_of f in
+      lists_alike (looks_with (stand_seeing p.input p.content.blocks (seen_by_imports p.input) all_types known n o) locals) (looks_with (stand_of p made n f) locals) u.used.spot found
+      (decide.contexts p.input p.content.blocks all_types known n o locals u.used.spot seen.input made.blocks)
+      (λ offset name. decide.rules p.input p.content.blocks all_types known n o locals u.used.spot offset name seen.input made.blocks)
+      (subst (λ (s : FileStand). ListsAround (looks_with s locals) u.used.spot found) (stand_same f made) lists)
+
   pub given : (f : FileTree) → slice_get (trees_in p.input.source) n ≡ Some f → IsPlaced f → (locals : Names Meaning) → ((m : FileOf) → slice_get p.content.files n ≡ Some m → locals ≡ open_by m.answers.locals u.open_names)
-      → ListsAround (looks_where (stand_in q types p.content.declared n (outline_of f)) (look_in (outer_meanings (stand_in q types p.content.declared n (outline_of f))) locals)) u.used.spot found
-      → AreNamesByTypes p n f u found
+      → ListsAround (looks_with (stand_in q types p.content.declared n (outline_of f)) locals) u.used.spot found → AreNamesByTypes p n f u found
   given f there tokens locals open_now lists made placed h =
       let st : FileStand = stand_of p made n f in
       let file = file_there p made n f there in
       let kept = locals_kept p made n f there file.0 file.1 in
       let same : locals ≡ placed.meant = open_now file.0 file.1 ∙ (ap (λ ls. open_by ls u.open_names) kept ∙ sym (open_there st f tokens u placed)) in
-      let one : ListsAround (looks_where st (look_in (outer_meanings st) locals)) u.used.spot found =
-      subst (λ (s : FileStand). ListsAround (looks_where s (look_in (outer_meanings s) locals)) u.used.spot found) (stand_same f made) lists in
-      let two : ListsAround (looks_where st (look_in (outer_meanings st) placed.meant)) u.used.spot found =
-      subst (λ (ls : Names Meaning). ListsAround (looks_where st (look_in (outer_meanings st) ls)) u.used.spot found) same one in
+      let two : ListsAround (looks_with st placed.meant) u.used.spot found = subst (λ (ls : Names Meaning). ListsAround (looks_with st ls) u.used.spot found) same (lists_there f made locals lists) in
       at_stand st (names_placed st f u placed) u.used.spot u.used.ident found two h
 
 -- where a file of a package stands, by what is made for it
@@ -125,28 +144,28 @@ module _ (p : PartModel) (q : PackageIn) (types : List Entry) (seen : IsSeen p q
 
   module _ (u : FileUsed) where
     -- by the outline and what is kept
-    pub named : (found : List (List ℕ)) (known : List (Option TheFace)) (home : List ℕ) (written : List WrittenOf) (o : FileOutline) (m : FileOf) → known ≡ p.content.declared → home ≡ q.path → written ≡ written_of q types
+    pub named : ImportsDecide → (found : List (List ℕ)) (known : List (Option TheFace)) (home : List ℕ) (written : List WrittenOf) (o : FileOutline) (m : FileOf) → known ≡ p.content.declared → home ≡ q.path → written ≡ written_of q types
         → slice_get (outlines_in q) n ≡ Some o → slice_get p.content.files n ≡ Some m
-        → ListsAround (looks_where (made_stand q types known home written n o.places) (look_in (outer_meanings (made_stand q types known home written n o.places)) (open_by m.answers.locals u.open_names))) u.used.spot found
+        → ListsAround (looks_with (made_stand q types known home written n o.places) (open_by m.answers.locals u.open_names)) u.used.spot found
         → AreNamesWith p n u found
-    named found known home written o m of_known of_home of_written at kept lists = λ f there.
+    named decide found known home written o m of_known of_home of_written at kept lists = λ f there.
         let locals : Names Meaning = open_by m.answers.locals u.open_names in
         let now : (x : FileOf) → slice_get p.content.files n ≡ Some x → locals ≡ open_by x.answers.locals u.open_names =
         (λ x here. (let e : Some m ≡ Some x = sym kept ∙ here in let same : m ≡ x = cc in ap (λ (y : FileOf). open_by y.answers.locals u.open_names) same)) in
-        given p q types seen n u found f there (all_at_place IsPlaced q.trees n f seen.placed (in_package f there)) locals now
-        (subst (λ (st : FileStand). ListsAround (looks_where st (look_in (outer_meanings st) locals)) u.used.spot found) (stand_there known home written o f of_known of_home of_written at there) lists)
+        given decide p q types seen n u found f there (all_at_place IsPlaced q.trees n f seen.placed (in_package f there)) locals now
+        (subst (λ (st : FileStand). ListsAround (looks_with st locals) u.used.spot found) (stand_there known home written o f of_known of_home of_written at there) lists)
 
     -- by places and locals that are those of the outline and of what is kept
-    pub named_by : (found : List (List ℕ)) (known : List (Option TheFace)) (home : List ℕ) (written : List WrittenOf) (places : List Place) (locals : List TheLocal) (o : FileOutline) (m : FileOf)
+    pub named_by : ImportsDecide → (found : List (List ℕ)) (known : List (Option TheFace)) (home : List ℕ) (written : List WrittenOf) (places : List Place) (locals : List TheLocal) (o : FileOutline) (m : FileOf)
         → known ≡ p.content.declared → home ≡ q.path → written ≡ written_of q types → places ≡ o.places → locals ≡ m.answers.locals
         → slice_get (outlines_in q) n ≡ Some o → slice_get p.content.files n ≡ Some m
-        → ListsAround (looks_where (made_stand q types known home written n places) (look_in (outer_meanings (made_stand q types known home written n places)) (open_by locals u.open_names))) u.used.spot found
+        → ListsAround (looks_with (made_stand q types known home written n places) (open_by locals u.open_names)) u.used.spot found
         → AreNamesWith p n u found
-    named_by found known home written places locals o m of_known of_home of_written of_places of_locals at kept lists =
-        let one : ListsAround (looks_where (made_stand q types known home written n o.places) (look_in (outer_meanings (made_stand q types known home written n o.places)) (open_by locals u.open_names))) u.used.spot found =
-        subst (λ (ps : List Place). ListsAround (looks_where (made_stand q types known home written n ps) (look_in (outer_meanings (made_stand q types known home written n ps)) (open_by locals u.open_names))) u.used.spot found) of_places lists in
-        named found known home written o m of_known of_home of_written at kept
-        (subst (λ (ls : List TheLocal). ListsAround (looks_where (made_stand q types known home written n o.places) (look_in (outer_meanings (made_stand q types known home written n o.places)) (open_by ls u.open_names))) u.used.spot found) of_locals one)
+    named_by decide found known home written places locals o m of_known of_home of_written of_places of_locals at kept lists =
+        let one : ListsAround (looks_with (made_stand q types known home written n o.places) (open_by locals u.open_names)) u.used.spot found =
+        subst (λ (ps : List Place). ListsAround (looks_with (made_stand q types known home written n ps) (open_by locals u.open_names)) u.used.spot found) of_places lists in
+        named decide found known home written o m of_known of_home of_written at kept
+        (subst (λ (ls : List TheLocal). ListsAround (looks_with (made_stand q types known home written n o.places) (open_by ls u.open_names)) u.used.spot found) of_locals one)
 
     -- without an outline, and without anything kept, there is no such file
     pub no_outline : (found : List (List ℕ)) (os : List Outline) → map outline_shown os ≡ outlines_in q → slice_get os n ≡ None → AreNamesWith p n u found
@@ -183,8 +202,8 @@ outline_at os all n o is at = sym (ap (λ (l : List FileOutline). slice_get l n)
 pub kept_there : (fs : List PartFile) (all : List FileOf) (n : ℕ) (m : PartFile) → map file_shown fs ≡ all → slice_get fs n ≡ Some m → slice_get all n ≡ Some (file_shown m)
 kept_there fs all n m is at = sym (ap (λ (l : List FileOf). slice_get l n) is) ∙ (slice_get-map file_shown fs n ∙ ap (option_map file_shown) at)
 
--- a package as a part sees it
+-- a package as a part sees it that knows of other packages what those show that its imports come to
 pub is_package : (i : InputModel) (source : PackageModel) (b blocks : BlocksModel) (imports : List (List Imported)) (shown : List ExportsModel) (faces : List PackageFacesModel)
-    → source ≡ i.source → b ≡ blocks → imports ≡ i.imports → shown ≡ exports_told i.reached → faces ≡ faces_told i.reached
-    → package_of source b imports shown faces ≡ package_seen i blocks (seen_by i)
+    → source ≡ i.source → b ≡ blocks → imports ≡ i.imports → shown ≡ exports_told (told_by_imports i) → faces ≡ faces_told (told_by_imports i)
+    → package_of source b imports shown faces ≡ package_seen i blocks (seen_by_imports i)
 is_package i source b blocks imports shown faces of_source of_blocks of_imports of_shown of_faces = λ j. package_of (of_source j) (of_blocks j) (of_imports j) (of_shown j) (of_faces j)

@@ -7,11 +7,13 @@ use Rattle.go_tree_nodes.specs.Spelling.{IsPlaced}
 use Rattle.go_around_core.specs.table_core.Entries.{Entry}
 use Rattle.go_around_core.specs.face_core.Written.{WrittenOf, package_written}
 use Rattle.go_complete_core.specs.ready_core.Packages.{PackageIn, outlines_in, trees_in}
+use Rattle.go_complete_core.specs.part_core.Inputs.{IsInput}
 use Rattle.go_complete_core.specs.part_core.Parts.{IsPart, PartModel, package_seen, seen_by}
 use Rattle.go_around_core.specs.spot_core.Opened.{FileUsed}
 use Rattle.go_complete_core.specs.place_core.Completed.{names_placed}
 use Rattle.go_complete_core.specs.place_core.Completions.{AreNamesFor, context_at, is_of_types, stand_of}
 use Rattle.go_complete_core.specs.place_core.Laws.{IsPlacedIn}
+use Rattle.go_view_core.specs.Imported.{seen_by_imports}
 
 -- wherever it stands in its file, exactly these names have a declaration in its place, if its outcome rests on types there
 abbrev pub AreNamesByTypes : PartModel → ℕ → FileTree → FileUsed → List (List ℕ) → Type 0
@@ -28,8 +30,10 @@ AreNamesWith p n u found = (f : FileTree) → slice_get (trees_in p.input.source
 abbrev pub written_of : PackageIn → List Entry → List WrittenOf
 written_of q types = package_written q.shows q.path q.blocks types (outlines_in q)
 
--- a package and the types that it sees are those of a part, and the tokens of its files follow one another
+-- a package is that of a part, where of other packages it is known what those show that its imports come to; the types are all that it sees, and the
+-- tokens of its files follow one another
 pub record IsSeen (p : PartModel) (q : PackageIn) (types : List Entry) : Type 0 where
-  pub seen : q ≡ package_seen p.input p.content.blocks (seen_by p.input)
+  pub input : IsInput p.input
+  pub seen : q ≡ package_seen p.input p.content.blocks (seen_by_imports p.input)
   pub types_are : types ≡ (seen_by p.input).types ++ p.content.summary.types.entries
   pub placed : All IsPlaced q.trees

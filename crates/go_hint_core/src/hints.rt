@@ -25,10 +25,10 @@ use go_around_core::{OpenLocal, PlaceAt, names_at_dot, names_at_key};
 use go_complete_core::answer_core::HeldLocal;
 use go_complete_core::part_core::{Part, PartFile, types_of};
 use go_complete_core::ready_core::{PackageAt, package_outlines};
-use go_complete_core::summary_core::view_of;
 use go_decl_core::Outline;
 use go_text_core::{Name, Rule, add};
 use go_tree_nodes::File;
+use go_view_core::{imports_decide, view_of_imports};
 use std::alloc::{AllocError, Global};
 
 // The names at a spot where these locals are open: none for a name that stands for itself, and none behind the dot of a type's name.
@@ -86,6 +86,7 @@ fn names_of_file(
     requires file { slice_get part.now.content.files number ≡ Some (file_shown file.now) }
     ensures { IfOk result (λ names. AreNamesWith part.now number (spot_seen found.now) names.items) }
 {
+    imports_decide();
     let path = at.package.path().share()?;
     let home = Home::new(alloc, path)?;
     let content = part.content();
@@ -129,7 +130,7 @@ fn names_kept(
     }
 }
 
-// The same of a file of a package, by what is seen of the packages that it reaches.
+// The same of a file of a package, by what is seen of other packages.
 fn names_over(
     alloc: Global,
     part: &Part,
@@ -161,8 +162,7 @@ fn names_in(
     ensures { IfOk result (λ names. AreNamesWith part.now number (spot_seen found.now) names.items) }
 {
     let input = part.input();
-    let summaries = input.reached().list(alloc)?;
-    let view = view_of(alloc, &summaries)?;
+    let view = view_of_imports(alloc, input)?;
     let types = types_of(alloc, part)?;
     let content = part.content();
     let at = PackageAt {

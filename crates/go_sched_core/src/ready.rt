@@ -1,7 +1,8 @@
 //! A step in two: what it needs is made first, and the state changes without memory.
-ghost use Rattle.std.specs.Prelude.{◌≡◌, IfErr, IfOk, IfSome, MatchOption, false, true};
+ghost use Rattle.std.specs.Prelude.{◌≡◌, IfErr, IfOk, IfSome, IsTrue, MatchOption, false, true};
+ghost use Rattle.go_batch_core.specs.Batches.{NoneReady};
 ghost use Rattle.go_batch_core.specs.part_core.Parts.{PartModel};
-ghost use Rattle.go_submit_core.specs.Published.{BeginsWith};
+ghost use Rattle.go_submit_core.specs.Published.{AreSound, BeginsWith};
 ghost use Rattle.go_sched_core.specs.Outs.{KnowsInput};
 ghost use Rattle.go_sched_core.specs.Prepared.{IsAllowed};
 ghost use Rattle.go_sched_core.specs.Steps.{Step, accepts};
@@ -10,7 +11,7 @@ use crate::change::Change;
 use crate::event::{Event, Reply};
 use crate::machine::Core;
 use crate::running::Running;
-use go_batch_core::ReadPart;
+use go_batch_core::{Batch, ReadPart, Steady};
 use go_submit_core::Batches;
 use go_text_core::Rule;
 use std::alloc::{AllocError, Global};
@@ -74,22 +75,40 @@ impl Ready {
     }
 }
 
-// Adds what is told in a batch.
-fn tell_in(alloc: Global, running: &mut Option<Running>) -> Result<(), AllocError>
+// Whether an input is likely to be made for the next action of a batch: where its package is not known to be the one of the last snapshot, or a package
+// tells something else than there.
+fn wants_input(batch: &Batch, steady: &Option<Steady>) -> bool
+    ensures { IsTrue result → NoneReady batch.now → ⊥ }
+{
+    match (batch.ready(), steady) {
+        (Some(place), Some(steady)) => !steady.is_same(place) || steady.has_moved(),
+        (Some(_), None) => true,
+        (None, _) => false,
+    }
+}
+
+// Adds what is told in a batch, where an input is likely to be made for its next action.
+fn tell_in(running: &mut Option<Running>, steady: &Option<Steady>) -> Result<(), AllocError>
     ensures { running.new ≡ running.old }
 {
     match running {
-        Some(running) => running.batch.tell(alloc),
+        Some(running) => {
+            if wants_input(&running.batch, steady) {
+                running.batch.tell()
+            } else {
+                Ok(())
+            }
+        }
         None => Ok(()),
     }
 }
 
 impl Core {
-    // Adds what is told in the batch that runs, so that inputs are made sooner. Contracts see no change.
+    // Adds what is told in the batch that runs, where an input is likely to be made next. Contracts see no change.
     fn tell(&mut self) -> Result<(), AllocError>
         ensures { self.new ≡ self.old }
     {
-        tell_in(self.alloc, &mut self.running)
+        tell_in(&mut self.running, &self.steady)
     }
 
     /// Makes all that a step grows, and changes nothing.
@@ -165,6 +184,7 @@ impl Core {
         ensures event { result.event ≡ ready.event }
         ensures accepted { accepts result.reply ≡ true }
         ensures published { self.new.published ≡ ready.batches }
+        ensures sound { AreSound self.new.published }
     {
         let Ready {
             from: _,
@@ -172,6 +192,7 @@ impl Core {
             change,
         } = ready;
         let reply = self.make(change, &event);
+        let _last = self.published.last();
         Committed { event, reply }
     }
 
@@ -181,18 +202,23 @@ impl Core {
         ensures step { Step self.old ready.event result self.new }
         ensures accepted { accepts result ≡ true }
         ensures published { self.new.published ≡ ready.batches }
+        ensures sound { AreSound self.new.published }
     {
         let Committed { event: _, reply } = self.commit_with_event(ready);
         reply
     }
 
-    /// One step.
+    /// One step. Each published snapshot is the one of what was published up to it, before and after.
     pub fn step(&mut self, event: Event) -> Reply
-        ensures { Step self.old event result self.new }
+        ensures step { Step self.old event result self.new }
+        ensures sound { AreSound self.new.published }
     {
         match self.prepare(event) {
             Ok(ready) => self.commit(ready),
-            Err(reply) => reply,
+            Err(reply) => {
+                let _last = self.published.last();
+                reply
+            }
         }
     }
 }

@@ -2,7 +2,8 @@
 use Rattle.std.proofs.Common.{◌≡◌, ℕ, ◌+◌, ◌-◌, ◌<◌, List, [], ◌∷◌, ◌++◌, length, take, Option, Some, None, sym, ap, ◌∙◌, subst, ⊎_elim, Bor, arith}
 use Rattle.std.specs.Prelude.{slice_get, MatchOption}
 use Rattle.std.specs.Option.{option_copied}
-use Rattle.std.proofs.lemmas.List.{take-append-le, take_all}
+use Rattle.std.proofs.lemmas.List.{take-append-le, take_all, flat_map_more}
+use Rattle.std.proofs.lemmas.List.Elements.{All-append, All-nil}
 use Rattle.std.proofs.Math.Seq.{take-append-add}
 use Rattle.std.proofs.lemmas.Option.{slice_get_within, get_or_from_slice_get}
 use Rattle.go_snap_core.specs.graph_core.Workspaces.{PackageModel, AreAllRead, IsWorkspace, replaced}
@@ -11,9 +12,10 @@ use Rattle.go_snap_core.specs.whole_core.Inputs.{IsPartOf}
 use Rattle.go_snap_core.specs.Snapshots.{IsPartAt, IsSnapshot, SnapshotModel}
 use Rattle.go_submit_core.specs.declared.submission.Submission.{Submission}
 use Rattle.go_submit_core.specs.declared.published.PublishedBatch.{PublishedBatch}
+use Rattle.go_submit_core.specs.Laws.{submissions_of}
 use Rattle.go_submit_core.specs.Modules.{with_trees}
 use Rattle.go_submit_core.specs.Published.{AreSound, IsOneWorker, last_of, modules_of, sources_of}
-use Rattle.go_submit_core.specs.Submitted.{submitted}
+use Rattle.go_submit_core.specs.Submitted.{AreWorkspaces, submitted}
 use Rattle.go_submit_core.specs.mirrors.Keeping.{IsKept}
 use Rattle.go_submit_core.proofs.Lists.{at_end, fold_push, none_last, numbered_at}
 
@@ -48,14 +50,15 @@ pub submitted_push : (ps : List PackageModel) (ss : List Submission) (s : Submis
 submitted_push ps ss s = fold_push (λ w x. replaced x.tree.own w x.tree.packages) ps ss s
 
 -- the batches with one more are kept
-pub kept_push : (bs : List PublishedBatch) (b : PublishedBatch) (modules longer : List (List ℕ)) → IsKept bs modules → IsOneWorker (submitted (sources_of bs) b.submissions) b.snapshot → longer ≡ with_trees modules b.submissions → IsKept (bs ++ b ∷ []) longer
-kept_push bs b modules longer kept is more = record {
+pub kept_push : (bs : List PublishedBatch) (b : PublishedBatch) (modules longer : List (List ℕ)) → IsKept bs modules → IsOneWorker (submitted (sources_of bs) b.submissions) b.snapshot → longer ≡ with_trees modules b.submissions → AreWorkspaces b.submissions → IsKept (bs ++ b ∷ []) longer
+kept_push bs b modules longer kept is more trees = record {
   sound = sound_push bs b kept.sound (subst (λ (ps : List PackageModel). IsOneWorker ps b.snapshot) (sym (sources_push bs b)) is);
   modules_are = more ∙ ap (λ ms. with_trees ms b.submissions) kept.modules_are ∙ sym (modules_push bs b);
+  trees = subst AreWorkspaces (flat_map_more (λ (x : PublishedBatch). x.submissions) [] bs b) (All-append (λ (s : Submission). IsWorkspace s.tree.packages) (submissions_of bs) b.submissions kept.trees trees);
 }
 
 pub kept_none : (modules : List (List ℕ)) → modules ≡ [] → IsKept [] modules
-kept_none modules e = record { sound = record { each = λ k b at. absurd (cc) }; modules_are = e }
+kept_none modules e = record { sound = record { each = λ k b at. absurd (cc) }; modules_are = e; trees = All-nil (λ (s : Submission). IsWorkspace s.tree.packages) }
 
 -- the files of a package whose part is published are as they are read
 pub part_is_read : (s : SnapshotModel) (path : List ℕ) (p : PartModel) → IsWorkspace s.sources → IsSnapshot s.sources s.parts s.faults → IsPartAt s.sources s.parts path p → AreAllRead p.input.source

@@ -1,8 +1,8 @@
 -- What was submitted.
-use Rattle.std.specs.Prelude.{refl, ℕ, Bool, nat_eq, List}
+use Rattle.std.specs.Prelude.{refl, ℕ, Bool, nat_eq, List, All}
 use Rattle.std.specs.List.{fold, list_any}
 use Rattle.std.specs.Coded.{Coded, code_by, coded×, coded_list, coded_ℕ}
-use Rattle.go_snap_core.specs.graph_core.Workspaces.{PackageModel, replaced}
+use Rattle.go_snap_core.specs.graph_core.Workspaces.{PackageModel, IsWorkspace, replaced}
 use Rattle.go_submit_core.specs.Trees.{TreeModel, coded_tree}
 use Rattle.go_submit_core.specs.declared.submission.Submission.{Submission}
 
@@ -19,3 +19,7 @@ submitted ps ss = fold (λ w s. replaced s.tree.own w s.tree.packages) ps ss
 -- a ticket is among those of submissions
 abbrev pub has_ticket : ℕ → List Submission → Bool
 has_ticket n ss = list_any (λ s. nat_eq s.ticket.0 n) ss
+
+-- each tree is a workspace
+abbrev pub AreWorkspaces : List Submission → Type 0
+AreWorkspaces ss = All (λ s. IsWorkspace s.tree.packages) ss

@@ -2,9 +2,11 @@
 ghost use Rattle.std.specs.Prelude.{◌≡◌, ◌++◌, ◌∷◌, [], IfOk, IfSome, MatchOption, length, slice_get};
 ghost use Rattle.std.specs.Option.{option_copied};
 ghost use Rattle.go_snap_core.specs.graph_core.Workspaces.{AreAllRead};
+ghost use Rattle.go_submit_core.specs.Laws.{HaveLastTrees};
 ghost use Rattle.go_submit_core.specs.Published.{AreSound, IsEarlierPart, IsFoundIn, IsOneWorker, last_of, modules_of, number_of, sources_of};
 ghost use Rattle.go_submit_core.specs.Submitted.{submitted};
 
+use crate::laws::published_trees;
 use crate::list::BatchList;
 use crate::module_list::ModuleList;
 use crate::modules::shared_modules;
@@ -97,6 +99,7 @@ impl Batches {
         requires { IsOneWorker (submitted (sources_of self.now) batch.submissions) batch.snapshot }
         ensures { IfOk result (λ b. b ≡ self.now ++ batch ∷ []) }
     {
+        batch.submissions.are_workspaces();
         let modules = self.list.modules.with_those_of(alloc, &batch.submissions)?;
         let batches = self.list.batches.with_one(alloc, batch)?;
         Ok(Batches {
@@ -172,6 +175,14 @@ impl Batches {
             Some(batch) => batch.snapshot.get().sources().copy(alloc),
             None => Ok(Workspace::empty(alloc)),
         }
+    }
+
+    /// What is published of each module is its last tree, of all batches in order, and nothing where there is none. There is nothing to run.
+    pub fn have_last_trees(&self)
+        ensures { HaveLastTrees self.now }
+    {
+        published_trees();
+        let _list = &self.list;
     }
 
     /// The last published part of the package of a path, shared, where there is one. It takes no memory.

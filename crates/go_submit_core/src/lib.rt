@@ -14,7 +14,7 @@ mod submission;
 mod tree_rules;
 
 pub use batches::Batches;
-pub use laws::{batches_replace, last_trees, one_worker, submissions_replace};
+pub use laws::{batches_replace, last_trees, one_worker, published_trees, submissions_replace};
 pub use module_tree::ModuleTree;
 pub use modules::{add_module, add_trees, is_among, is_same_module};
 pub use published::PublishedBatch;

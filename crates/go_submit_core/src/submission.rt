@@ -1,7 +1,7 @@
 //! Submissions.
 ghost use Rattle.std.specs.Prelude.{◌≡◌, IfOk, OnOk};
 ghost use Rattle.go_snap_core.specs.graph_core.Workspaces.{replaced};
-ghost use Rattle.go_submit_core.specs.Submitted.{has_ticket, submitted};
+ghost use Rattle.go_submit_core.specs.Submitted.{AreWorkspaces, has_ticket, submitted};
 
 use crate::module_tree::ModuleTree;
 use go_snap_core::graph_core::Workspace;
@@ -25,7 +25,7 @@ impl Drop for Submission {
     }
 }
 
-/// Submissions in the order in which they came. A handle over one shared pointer. Contracts see the list.
+/// Submissions in the order in which they came. A handle over one shared pointer. Contracts see the list, and that each tree is a workspace.
 pub struct Submissions {
     list: Arc<Vec<Submission>>,
 }
@@ -40,13 +40,15 @@ impl Model for Submissions {
     ghost use Rattle.std.specs.Prelude.{List};
     ghost use Rattle.std.specs.Arc.{arc_value};
     ghost use Rattle.go_submit_core.specs.declared.submission.Submission.{Submission};
-    ghost use Rattle.go_submit_core.specs.Submitted.{coded_submissions};
+    ghost use Rattle.go_submit_core.specs.Submitted.{AreWorkspaces, coded_submissions};
 
     ghost Value = { List Submission };
 
     ghost coded = { coded_submissions };
 
     ghost view = { λ s. (arc_value s.list).items };
+
+    ghost invariant = { λ s. AreWorkspaces (arc_value s.list).items };
 }
 
 // Puts a tree in the place of its module's packages.
@@ -56,6 +58,15 @@ fn put_tree(sources: &mut Workspace, tree: &ModuleTree) -> Result<(), AllocError
     match sources.replace(tree.own(), tree.packages()) {
         Ok(()) => Ok(()),
         Err(_) => Err(AllocError),
+    }
+}
+
+// The packages of each tree are a workspace.
+fn are_workspaces(submissions: &[Submission])
+    ensures { AreWorkspaces submissions.now }
+{
+    for submission in submissions {
+        let _packages = submission.tree.packages().packages();
     }
 }
 
@@ -77,6 +88,7 @@ impl Submissions {
     pub fn new(alloc: Global, list: Vec<Submission>) -> Result<Submissions, AllocError>
         ensures { IfOk result (λ s. s ≡ list.items) }
     {
+        are_workspaces(&list);
         Ok(Submissions {
             list: Arc::new(alloc, list)?,
         })
@@ -100,6 +112,13 @@ impl Submissions {
         ensures { result.now ≡ self.now }
     {
         self.list.as_slice()
+    }
+
+    // Each tree is a workspace.
+    pub(crate) fn are_workspaces(&self)
+        ensures { AreWorkspaces self.now }
+    {
+        let _list = &self.list;
     }
 
     /// The packages of a workspace, with each tree in the place of its module's packages, one after another. The packages are shared.

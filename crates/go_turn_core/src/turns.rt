@@ -1,4 +1,5 @@
 //! The nodes of a graph in turn.
+ghost use Rattle.std.specs.Arc.{arc_value};
 ghost use Rattle.std.specs.Prelude.{◌≡◌, ◌<◌, ℕ, All, IfOk, MatchOption, Some, length, map, slice_get, slice_set};
 ghost use Rattle.go_turn_core.specs.declared.mark.Mark.TheVariants.{Taken, Finished};
 ghost use Rattle.go_turn_core.specs.mirrors.Counting.{AreFresh, AreNodes};
@@ -8,30 +9,41 @@ use crate::counts::{Counts, counted, queued, release, take_out};
 use crate::mark::Mark;
 use std::alloc::{AllocError, Global};
 use std::marker::Model;
+use std::sync::Arc;
 
-/// The nodes of a graph by what is done with them, and which need which. Contracts see these two. The time of a call is that of the needs that
-/// it ends.
-#[derive(Drop)]
+/// The nodes of a graph by what is done with them, and which need which. Contracts see these two. Which need which is shared with whoever has it too. The
+/// time of a call is that of the needs that it ends.
 pub struct Turns {
     marks: Vec<Mark>,
-    needing: Vec<Vec<usize>>,
+    needing: Arc<Vec<Vec<usize>>>,
     counts: Counts,
 }
 
+impl Drop for Turns {
+    fn drop(self) {
+        let Turns {
+            marks: _,
+            needing: _,
+            counts: _,
+        } = self;
+    }
+}
+
 impl Model for Turns {
+    ghost use Rattle.std.specs.Arc.{arc_value};
     ghost use Rattle.std.specs.Prelude.{map, vec_capacity};
     ghost use Rattle.go_turn_core.specs.Turns.{TurnsModel, turns_with};
     ghost use Rattle.go_turn_core.specs.mirrors.Counting.{AreKept};
 
     ghost Value = { TurnsModel };
 
-    ghost view = { λ t. turns_with t.marks.items (map (λ r. r.items) t.needing.items) };
+    ghost view = { λ t. turns_with t.marks.items (map (λ r. r.items) (arc_value t.needing).items) };
 
-    ghost invariant = { λ t. AreKept t.marks.items (map (λ r. r.items) t.needing.items) t.counts.missing.items t.counts.queue.items (vec_capacity t.counts.queue) };
+    ghost invariant = { λ t. AreKept t.marks.items (map (λ r. r.items) (arc_value t.needing).items) t.counts.missing.items t.counts.queue.items (vec_capacity t.counts.queue) };
 }
 
 impl Turns {
-    /// The nodes of a graph of which none is taken or finished: `needing` has for each node those that need it.
+    /// The nodes of a graph of which none is taken or finished: `needing` has for each node those that need it. It is shared, not copied.
     ///
     /// # Errors
     ///
@@ -39,14 +51,14 @@ impl Turns {
     pub fn new(
         alloc: Global,
         marks: Vec<Mark>,
-        needing: Vec<Vec<usize>>,
+        needing: Arc<Vec<Vec<usize>>>,
     ) -> Result<Turns, AllocError>
         requires fresh { AreFresh marks.items }
-        requires many { length needing.items ≡ length marks.items }
-        requires nodes { AreNodes (length marks.items) (map (λ r. r.items) needing.items) }
-        ensures { IfOk result (λ t. t ≡ turns_with marks.items (map (λ r. r.items) needing.items)) }
+        requires many { length (arc_value needing).items ≡ length marks.items }
+        requires nodes { AreNodes (length marks.items) (map (λ r. r.items) (arc_value needing).items) }
+        ensures { IfOk result (λ t. t ≡ turns_with marks.items (map (λ r. r.items) (arc_value needing).items)) }
     {
-        let missing = counted(alloc, marks.len(), &needing)?;
+        let missing = counted(alloc, marks.len(), needing.as_slice())?;
         let queue = queued(alloc, &marks, &missing)?;
         Ok(Turns {
             marks,

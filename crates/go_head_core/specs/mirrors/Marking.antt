@@ -1,5 +1,5 @@
 -- One package beside that of its number in an earlier list.
-use Rattle.std.specs.Prelude.{◌≡◌, ◌↔◌, ℕ, Bool, false, List, Some, IsTrue, slice_get}
+use Rattle.std.specs.Prelude.{◌≡◌, ◌<◌, ◌≤◌, ◌↔◌, ℕ, Bool, false, List, Some, IsTrue, length, slice_get}
 use Rattle.std.specs.Option.{option_map}
 use Rattle.go_graph_core.specs.Workspaces.{PackageModel}
 use Rattle.go_head_core.specs.Heads.{head_of}
@@ -20,3 +20,8 @@ AreSameTwo modules p q = p.0 ≡ q.0 → is_inside_any modules q.0 ≡ false →
 -- the same of the package of that number, if there is one
 abbrev pub AreSameTwoAt : List (List ℕ) → List PackageModel → ℕ → PackageModel → Type 0
 AreSameTwoAt modules ps n q = (p : PackageModel) → slice_get ps n ≡ Some p → AreSameTwo modules p q
+
+-- number by number the packages of both lists are the same, but from one number up to another
+pub record AreSameBut (ps qs : List PackageModel) (low high : ℕ) : Type 0 where
+  pub before : (n : ℕ) → n < low → slice_get ps n ≡ slice_get qs n
+  pub behind : (n : ℕ) → high ≤ n → n < length qs → slice_get ps n ≡ slice_get qs n

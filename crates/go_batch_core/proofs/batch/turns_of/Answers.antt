@@ -1,4 +1,5 @@
 use Rattle.std.proofs.Common.{ℕ, Vec, Global, length, map, sym, ap, subst, ◌∙◌}
+use Rattle.std.specs.Arc.{arc_value}
 use Rattle.std.proofs.lemmas.List.{length-map}
 use Rattle.go_snap_core.specs.graph_core.Plans.{AreImporters}
 use Rattle.go_turn_core.specs.Turns.{TurnsModel}
@@ -13,7 +14,7 @@ pub new-requires-clause-many : goal.new-requires-clause-many
 new-requires-clause-many c = c.in_ok-needing.ensures.many ∙ sym c.requires.many ∙ sym (length-map c.args.slots.now mark_of) ∙ ap length (sym c.in_ok-marks.ensures)
 
 pub new-requires-clause-nodes : goal.new-requires-clause-nodes
-new-requires-clause-nodes c = nodes_of c.args.plan.now (map (λ (r : Vec ℕ Global). r.items) c.in_ok-needing.needing.items) (length c.in_ok-marks.marks.items) c.in_ok-needing.ensures.rows (ap length c.in_ok-marks.ensures ∙ length-map c.args.slots.now mark_of ∙ c.requires.many)
+new-requires-clause-nodes c = nodes_of c.args.plan.now (map (λ (r : Vec ℕ Global). r.items) (arc_value c.in_ok-needing.needing).items) (length c.in_ok-marks.marks.items) c.in_ok-needing.ensures.rows (ap length c.in_ok-marks.ensures ∙ length-map c.args.slots.now mark_of ∙ c.requires.many)
 
 pub returns-clause-importers : goal.returns-clause-importers
 returns-clause-importers c = subst (λ (t : TurnsModel). AreImporters c.args.plan.now t.needing) (sym c.in_ok-turns.ensures) c.in_ok-needing.ensures.rows

@@ -14,5 +14,5 @@ pub returns : goal.returns
 returns c =
     let home = c.in_ok-home.ensures ∙ (c.in_ok-path.ensures ∙ c.path.ensures) in
     let known = ap (λ fs. map (option_map face_shown) fs) c.deref.ensures.value ∙ ap (λ (x : ContentOf). x.declared) c.content-content.ensures.value in
-    named_by c.args.part.now (package_in_shown shown_in c.args.at.now) c.args.types.now c.requires.seen c.args.number (spot_seen c.args.found.now) c.in_ok-names.names.items _ _ _ _ _ (outline_shown c.args.outline.now) (file_shown c.args.file.now)
+    named_by c.args.part.now (package_in_shown shown_in c.args.at.now) c.args.types.now c.requires.seen c.args.number (spot_seen c.args.found.now) c.imports_decide.ensures c.in_ok-names.names.items _ _ _ _ _ (outline_shown c.args.outline.now) (file_shown c.args.file.now)
     known home c.requires.written refl (ap (λ ls. map local_shown ls) c.deref-2.ensures.value) c.requires.outline c.requires.file c.in_ok-names.ensures

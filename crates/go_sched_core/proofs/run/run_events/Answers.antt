@@ -9,4 +9,4 @@ pub loop-event-preserved : goal.loop-event-preserved
 loop-event-preserved c =
     let es = c.loop-event.yielded ++ c.in-Some.event ∷ [] in
     let same = c.push_reserved.ensures.items ∙ ap (λ l. l ++ c.step.result ∷ []) c.reserve.ensures.items in
-    subst (λ (rs : List Reply). Run empty es rs c.step.new.self) (sym same) (run_more empty c.loop-event.yielded c.loop-event.replies.items c.loop-event.core c.in-Some.event c.step.result c.step.new.self c.loop-event.invariant c.step.ensures)
+    subst (λ (rs : List Reply). Run empty es rs c.step.new.self) (sym same) (run_more empty c.loop-event.yielded c.loop-event.replies.items c.loop-event.core c.in-Some.event c.step.result c.step.new.self c.loop-event.invariant c.step.ensures.step)

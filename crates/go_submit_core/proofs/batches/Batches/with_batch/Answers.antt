@@ -16,6 +16,6 @@ invariant_of-result c =
     let kept : IsKept bs old = subst (λ (l : List PublishedBatch). IsKept l old) c.self.view_is c.self.invariant in
     let batches : c.in_ok-batches.batches ≡ bs ++ b ∷ [] = c.in_ok-batches.ensures ∙ ap (λ (w : Listing). w.batches ++ b ∷ []) c.deref-2.ensures ∙ ap (λ (l : List PublishedBatch). l ++ b ∷ []) c.self.view_is in
     let modules : c.in_ok-modules.modules ≡ with_trees old b.submissions = c.in_ok-modules.ensures ∙ ap (λ (w : Listing). with_trees w.modules b.submissions) c.deref.ensures in
-    let pushed = kept_push bs b old c.in_ok-modules.modules kept c.requires modules in
+    let pushed = kept_push bs b old c.in_ok-modules.modules kept c.requires modules c.are_workspaces.ensures in
     let here : IsKept c.in_ok-batches.batches c.in_ok-modules.modules = subst (λ (l : List PublishedBatch). IsKept l c.in_ok-modules.modules) (sym batches) pushed in
     subst (λ (w : Listing). IsKept w.batches w.modules) (sym c.in_ok-new.ensures.ok) here

@@ -1,4 +1,5 @@
 use Rattle.std.proofs.Common.{◌-◌, ℕ, length, map, ap, ◌∙◌, subst}
+use Rattle.std.specs.Arc.{arc_value}
 use Rattle.std.specs.Prelude.{MatchOption, slice_get, vec_capacity}
 use Rattle.go_turn_core.specs.Turns.{TurnsModel, IsReady}
 use Rattle.go_turn_core.proofs.Owing.{next_in_queue}
@@ -8,5 +9,5 @@ pub returns : goal.returns
 returns c =
     let i = c.self.inside in
     subst (λ (t : TurnsModel). MatchOption c.copied.result ((node : ℕ) → IsReady t node → ⊥) (λ node. IsReady t node)) c.self.view_is
-    (next_in_queue i.marks.items (map (λ r. r.items) i.needing.items) i.counts.missing.items i.counts.queue.items (vec_capacity i.counts.queue) c.copied.result c.self.invariant
+    (next_in_queue i.marks.items (map (λ r. r.items) (arc_value i.needing).items) i.counts.missing.items i.counts.queue.items (vec_capacity i.counts.queue) c.copied.result c.self.invariant
     (c.copied.ensures ∙ c.last.ensures.value ∙ ap (λ q. slice_get q (length q - 1)) c.deref.ensures.value))

@@ -4,18 +4,18 @@ use Rattle.go_snap_core.specs.whole_core.Inputs.{HasReached, IsInputAt}
 use Rattle.go_batch_core.specs.Batches.{BatchModel, IsReady}
 use Rattle.go_snap_core.specs.graph_core.Plans.{AreReached, IsPlan, PlanModel}
 use Rattle.go_batch_core.proofs.Steps.{assembled_at, has_reached}
-use Rattle.go_batch_core.proofs.batch.Batch.input_at.Goals as goal
+use Rattle.go_batch_core.proofs.batch.Batch.input_by.Goals as goal
 
 pub input_of-requires-clause-assembled : goal.input_of-requires-clause-assembled
 input_of-requires-clause-assembled c =
     let i = c.self.inside in
-    let ready = subst (λ (b : BatchModel). IsReady b c.args.place) (sym c.self.view_is) c.requires in
+    let ready = subst (λ (b : BatchModel). IsReady b c.args.place) (sym c.self.view_is) c.requires.ready in
     assembled_at i.sources i.slots.items i.parts c.args.place c.self.invariant.right ready.untaken
 
 pub input_of-requires-clause-parts : goal.input_of-requires-clause-parts
 input_of-requires-clause-parts c =
     let i = c.self.inside in
-    let ready = subst (λ (b : BatchModel). IsReady b c.args.place) (sym c.self.view_is) c.requires in
+    let ready = subst (λ (b : BatchModel). IsReady b c.args.place) (sym c.self.view_is) c.requires.ready in
     subst (λ (l : List (Option PartModel)). HasReached i.sources l c.args.place) (sym c.as_slice-parts.ensures) (has_reached c.parts_come_in_order.ensures i.sources i.slots.items i.parts c.args.place c.self.invariant.right ready.imports)
 
 pub returns : goal.returns

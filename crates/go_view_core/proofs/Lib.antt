@@ -1,0 +1,5 @@
+mod Enough
+mod Meaning
+mod Alike
+mod Deciding
+mod Keeping

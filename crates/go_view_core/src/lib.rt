@@ -1,0 +1,11 @@
+//! What a package sees of the packages that its imports come to. A type of a package that is reached and not imported may stand behind a value; a name of it
+//! may not: so of the others the types are enough.
+//!
+//! The Go specification, "Import declarations", "Qualified identifiers".
+#![tactic(auto)]
+
+mod laws;
+mod view;
+
+pub use laws::imports_decide;
+pub use view::view_of_imports;
