@@ -32,6 +32,7 @@ pub use Rattle.go_expr_core.proofs.things.Use.TheSendSync as expr_Use
 pub use Rattle.go_face_core.proofs.face.Face.TheSendSync as face_Face
 pub use Rattle.go_index_core.proofs.spellings.Spelling.TheSendSync as index_Spelling
 pub use Rattle.go_index_core.proofs.spellings.Spellings.TheSendSync as index_Spellings
+pub use Rattle.go_instruction_core.proofs.instruction.Instruction.TheSendSync as instruction_Instruction
 pub use Rattle.go_level_core.proofs.path.EmbedPath.TheSendSync as level_EmbedPath
 pub use Rattle.go_local_core.proofs.Fault.TheSendSync as local_Fault
 pub use Rattle.go_operand_core.proofs.types.Operand.TheSendSync as operand_Operand
@@ -124,6 +125,9 @@ use Rattle.go_snap_core.specs.summary_core.contracts.list.SummaryList as summary
 use Rattle.go_snap_core.specs.summary_core.contracts.reached.ReachedSummaries as reached
 use Rattle.go_snap_core.specs.part_core.contracts.input.PartInput as input
 use Rattle.go_answer_core.specs.contracts.locals.HeldLocal as held_local
+use Rattle.go_answer_core.specs.contracts.site.Site as site
+use Rattle.go_object_core.specs.contracts.object.FunctionCode as function_code
+use Rattle.go_object_core.specs.contracts.object.Object as object
 use Rattle.go_snap_core.specs.package_core.contracts.checked.FileAnswers as answers
 use Rattle.go_snap_core.specs.part_core.contracts.files.PartFile as part_file
 use Rattle.go_snap_core.specs.part_core.contracts.content.PackageContent as content
@@ -709,5 +713,17 @@ shared_snapshot_row_send = first_of (search (snapshot_row_send, snapshot_row_syn
 
 pub shared_snapshot_row_sync : IsSync shared_snapshot.the_row
 shared_snapshot_row_sync = first_of (search (snapshot_row_send, snapshot_row_sync, path_ImportPath.the_send, path_ImportPath.the_sync, text_Name.the_send, text_Name.the_sync, std.crosses, sendable) depth 60 fits 20000, search (snapshot_row_send, snapshot_row_sync, leaves, std.crosses, sendable) depth 60 fits 20000, search (snapshot_row_send, snapshot_row_sync, term_row_send, term_row_sync, term_send, term_sync, term_signature_row_send, term_signature_row_sync, term_signature_send, term_signature_sync, declared_method_row_send, declared_method_row_sync, declared_method_send, declared_method_sync, type_entry_row_send, type_entry_row_sync, type_entry_send, type_entry_sync, defined_row_send, defined_row_sync, package_types_row_send, package_types_row_sync, declared_face_row_send, declared_face_row_sync, declared_face_send, declared_face_sync, package_faces_row_send, package_faces_row_sync, summary_row_send, summary_row_sync, summary_list_row_send, summary_list_row_sync, reached_row_send, reached_row_sync, input_row_send, input_row_sync, held_local_row_send, held_local_row_sync, held_local_send, held_local_sync, answers_row_send, answers_row_sync, answers_send, answers_sync, part_file_row_send, part_file_row_sync, part_file_send, part_file_sync, content_row_send, content_row_sync, content_send, content_sync, part_row_send, part_row_sync, parts_row_send, parts_row_sync, leaves, std.crosses, sendable) depth 60 fits 20000)
+
+function_code_row_send : IsSend (function_code.the_row site.the_row)
+function_code_row_send = search (answer_Site.the_send, instruction_Instruction.the_send, text_Name.the_send, std.crosses, sendable) depth 60 fits 20000
+
+function_code_row_sync : IsSync (function_code.the_row site.the_row)
+function_code_row_sync = search (answer_Site.the_sync, instruction_Instruction.the_sync, text_Name.the_sync, std.crosses, sendable) depth 60 fits 20000
+
+pub object_row_send : IsSend (object.the_row site.the_row)
+object_row_send = search (function_code_row_send, path_ImportPath.the_send, text_Name.the_send, std.crosses, sendable) depth 60 fits 20000
+
+pub object_row_sync : IsSync (object.the_row site.the_row)
+object_row_sync = search (function_code_row_sync, path_ImportPath.the_sync, text_Name.the_sync, std.crosses, sendable) depth 60 fits 20000
 
 pub ruleset crossing = (shared_snapshot_row_send, shared_snapshot_row_sync, snapshot_row_send, snapshot_row_sync, parts_row_send, parts_row_sync, part_row_send, part_row_sync, input_row_send, input_row_sync, summary_row_send, summary_row_sync, workspace_row_send, workspace_row_sync, assembled_row_send, assembled_row_sync, package_source_row_send, package_source_row_sync, source_file_row_send, source_file_row_sync, path_ImportPath.the_send, path_ImportPath.the_sync, path_Module.the_send, path_Module.the_sync)

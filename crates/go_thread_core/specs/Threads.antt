@@ -1,6 +1,8 @@
 -- What may go to a thread (`IsSend`), and be seen by several at one time (`IsSync`), as the logic has the two.
 use denote.Param.Send.{IsSend, IsSync}
+use Rattle.go_answer_core.specs.contracts.site.Site as site
 use Rattle.go_block_core.specs.graph_core.contracts.workspace.Workspace as workspace
+use Rattle.go_object_core.specs.contracts.object.Object as object
 use Rattle.go_snap_core.specs.part_core.contracts.input.PartInput as input
 use Rattle.go_snap_core.specs.part_core.contracts.part.Part as part
 use Rattle.go_snap_core.specs.part_core.contracts.parts.Parts as parts
@@ -24,3 +26,6 @@ SnapshotsCross = IsSend snapshot.the_row × IsSync snapshot.the_row
 
 abbrev pub SharedSnapshotsCross : Type 0
 SharedSnapshotsCross = IsSend shared_snapshot.the_row × IsSync shared_snapshot.the_row
+
+abbrev pub ObjectsCross : Type 0
+ObjectsCross = IsSend (object.the_row site.the_row) × IsSync (object.the_row site.the_row)

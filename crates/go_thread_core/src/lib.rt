@@ -1,10 +1,12 @@
-//! What threads may take and see: modules with their packages, inputs, parts and snapshots. The lemmas are in `proofs/Crossing`; a function
+//! What threads may take and see: modules with their packages, inputs, parts, snapshots and objects. The lemmas are in `proofs/Crossing`; a function
 //! that gives such values to threads cites them.
 #![tactic(auto)]
 
-ghost use Rattle.go_thread_core.specs.Threads.{InputsCross, PartsCross, SharedSnapshotsCross, SinglePartsCross, SnapshotsCross, WorkspacesCross};
+ghost use Rattle.go_thread_core.specs.Threads.{InputsCross, ObjectsCross, PartsCross, SharedSnapshotsCross, SinglePartsCross, SnapshotsCross, WorkspacesCross};
 
+use go_answer_core::Site;
 use go_block_core::graph_core::Workspace;
+use go_object_core::Object;
 use go_snap_core::part_core::{Part, PartInput, Parts};
 use go_snap_core::{SharedSnapshot, Snapshot};
 
@@ -51,4 +53,11 @@ pub fn shared_snapshots_cross()
     ensures { SharedSnapshotsCross }
 {
     is_shared_by_threads::<SharedSnapshot>();
+}
+
+/// Objects, with the declarations that their code refers to.
+pub fn objects_cross()
+    ensures { ObjectsCross }
+{
+    is_shared_by_threads::<Object<Site>>();
 }
