@@ -57,8 +57,8 @@ def strings_prepended(n):
 
 @shape
 def strings_compared(n):
-    """Long strings, alike up to their ends, each compared with another."""
-    build = 'const s0 = "abcdefgh"\n' + "".join(f"const s{i + 1} = s{i} + s{i}\n" for i in range(16))
+    """Strings nearly as long as a constant may be, 983,041 bytes, alike up to their ends, compared some 50,000 times."""
+    build = 'const s0 = "abcdefghijklmno"\n' + "".join(f"const s{i + 1} = s{i} + s{i}\n" for i in range(16))
     return build + 'const a = s16 + "a"\nconst b = s16 + "b"\n' + lines("const c% = a < b\n", n)
 
 

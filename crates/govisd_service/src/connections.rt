@@ -4,7 +4,7 @@ ghost use Rattle.go_output_core.specs.Outputs.{IsWrittenOut};
 ghost use Rattle.govisd_service.specs.Ends.{IsConnection, turned_away};
 
 use crate::workers::start;
-use crate::{PARTS, TURNS};
+use crate::{PARTS, STACK, TURNS};
 use go_output_core::write_out;
 use go_wire_core::{ServeEnd, serve};
 use govisd_desk::ConnectionDesk;
@@ -18,7 +18,7 @@ use std::sync::Wait;
 use std::sync::atomic::{AtomicU64, Ordering};
 use std::sync::ledger::Blank;
 use std::thread;
-use std::thread::{Scope, Threads};
+use std::thread::{Builder, Scope, Threads};
 use std::time::{Clock, Duration};
 
 /// The most connections that are served at once.
@@ -91,8 +91,9 @@ fn take_in<
         return;
     }
     let _before = open.fetch_add(1, Ordering::SeqCst);
-    if scope
-        .spawn(move || serve_stream(rt, alloc, hall, open, stream))
+    let connection = Builder::new().stack_size(STACK);
+    if connection
+        .spawn_scoped(scope, move || serve_stream(rt, alloc, hall, open, stream))
         .is_err()
     {
         let _before = open.fetch_sub(1, Ordering::SeqCst);

@@ -15,3 +15,6 @@ const TURNS: u64 = 16_777_216;
 
 /// The parts of a hall's ledger of submits: more than sessions can be opened.
 const PARTS: u64 = 1_048_577;
+
+/// The stack of a worker and of a connection in bytes, which the limit of the process does not make smaller: a tree of height 200 wants some 800 KB.
+const STACK: usize = 2_097_152;

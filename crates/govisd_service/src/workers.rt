@@ -1,8 +1,9 @@
 //! The workers of a hall.
+use crate::STACK;
 use govisd_desk::hall::{Hall, OpenGate, work};
 use govisd_desk::hall_core::Named;
 use std::sync::Wait;
-use std::thread::{Scope, Threads};
+use std::thread::{Builder, Scope, Threads};
 use std::time::Clock;
 
 /// Starts so many workers in a scope. `false` where not all of them can be started.
@@ -13,7 +14,11 @@ pub(crate) fn start<'s, E, L: Named + Send + Sync, H: Threads + Wait + Clock + S
     workers: usize,
 ) -> bool {
     for _ in 0..workers {
-        if scope.spawn(move || work(rt, hall, &OpenGate)).is_err() {
+        let worker = Builder::new().stack_size(STACK);
+        if worker
+            .spawn_scoped(scope, move || work(rt, hall, &OpenGate))
+            .is_err()
+        {
             return false;
         }
     }

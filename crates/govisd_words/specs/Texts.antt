@@ -12,7 +12,7 @@ use Rattle.govisd_words.specs.declared.words.CountOption.TheVariants.{Workers, C
 
 -- what the program takes, and its exit statuses
 abbrev pub program_help_text : List ℕ
-program_help_text = codes "Answers questions on Go sources\n\nUsage: govisd <COMMAND>\n\nCommands:\n  resolve  Reads a Go file from standard input, and writes what each identifier in it denotes\n  check    Checks the Go packages of a folder, and tells each fault with its place\n  explain  Says what a rule means, with an example that breaks it\n  run      Compiles the Go packages of a folder, and runs one\n  script   Serves Go sessions by lines of JSON on standard input and output\n  serve    Serves Go sessions by lines of JSON over TCP\n  help     Writes this text, or that of a command: govisd help explain\n\nOptions:\n  -h, --help     Writes this text\n  -V, --version  Writes the version\n\nExamples:\n  govisd resolve < a.go\n  govisd check . --module example.com/mine\n  govisd explain N1\n  govisd serve --listen 127.0.0.1:7000\n\nExit status: 0 where the source has no fault or a service came to its end, 1 where it has one or the run failed, 2 where the command line, the folder or a name is refused\n"
+program_help_text = codes "Answers questions on Go sources\n\nUsage: govisd <COMMAND>\n\nCommands:\n  resolve  Reads a Go file from standard input, and writes what each identifier in it denotes\n  check    Checks the Go packages of a folder, and tells each fault with its place\n  explain  Says what a rule means, with an example that breaks it\n  run      Compiles the Go packages of a folder, and runs one\n  script   Serves Go sessions by lines of JSON on standard input and output\n  serve    Serves Go sessions by lines of JSON over TCP\n  help     Writes this text, or that of a command: govisd help explain\n\nOptions:\n  -h, --help     Writes this text\n  -V, --version  Writes the version\n\nExamples:\n  govisd resolve < a.go\n  govisd check . --module example.com/mine\n  govisd explain N1\n  govisd serve --listen 127.0.0.1:7000\n\nExit status: 0 where the source has no fault or a service came to its end, 1 where it has one or the run failed, 2 where the command line, the folder or a name is refused.\nThose of run: govisd help run\n"
 
 abbrev pub resolve_help_text : List ℕ
 resolve_help_text = codes "Reads a Go file from standard input, and writes what each identifier in it denotes\n\nUsage: govisd resolve\n\nOptions:\n  -h, --help  Writes this text\n\nThe file is taken as the one file of a package that stands alone, so each import in it is refused. It may have 1,048,576 bytes of UTF-8.\nWritten is a line for each identifier that is used, in order of place: its offset in bytes from 0, its role, the identifier,\nand the declaration that it denotes or the rule that it breaks. Behind these stand the other faults, as fault OFFSET RULE.\n\nExample:\n  govisd resolve < a.go\n\nExit status: 0 where the source has no fault, 1 where it has one or the run failed, 2 where the command line is refused\n"

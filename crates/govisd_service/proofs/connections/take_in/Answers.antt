@@ -5,8 +5,8 @@ use Rattle.std.proofs.sync.atomic.AtomicU64.TheSendSync as atomic
 use Rattle.govisd_service.proofs.Crossing.{hall_row_sync}
 use Rattle.govisd_service.proofs.connections.take_in.Goals as goal
 
-pub spawn-requires-send-F : goal.spawn-requires-send-F
-spawn-requires-send-F g c κs within =
+pub spawn_scoped-requires-send-F : goal.spawn_scoped-requires-send-F
+spawn_scoped-requires-send-F g c κs within =
     let rt = c.type_bounds.sync-H in
     let hall = hall_row_sync (param 1 g.row.L) g.L.Named g.L.Ledger g.L.NamesBook in
     let stream = c.type_bounds.send-S in

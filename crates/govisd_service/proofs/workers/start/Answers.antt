@@ -3,8 +3,8 @@ use denote.Param.Send.{sendable}
 use Rattle.govisd_service.proofs.Crossing.{hall_row_sync}
 use Rattle.govisd_service.proofs.workers.start.Goals as goal
 
-pub spawn-requires-send-F : goal.spawn-requires-send-F
-spawn-requires-send-F g c κs within =
+pub spawn_scoped-requires-send-F : goal.spawn_scoped-requires-send-F
+spawn_scoped-requires-send-F g c κs within =
     let rt = c.type_bounds.sync-H in
     let hall = hall_row_sync (param 1 g.row.L) g.L.Named g.L.Ledger g.L.NamesBook in
     search (rt, hall, sendable) depth 30
