@@ -1,17 +1,19 @@
 #!/usr/bin/env python3
 """Asks a running daemon over sockets, as editors and as hostile peers do:
 
-    python3 bench/serving.py PROGRAM [--seconds N] [--modules N] [--packages N] [rows|crowd|hostile|memory|deep|descriptors|speed]..
+    python3 bench/serving.py PROGRAM [--seconds N] [--modules N] [--packages N] [PART]..
 
 Each part starts `PROGRAM serve` on a free port of the loopback address, says what it looked at, and ends with an error where a reply is another than the
 one that is wanted. `rows` are the lines of one session, also sent by bytes; `crowd` 32 sessions at once for so many seconds (60 unless told), each against
 a model of what it must be told; `hostile` peers that send no requests, half lines, lines that are too long, never read, go away, or do so in a build;
-`memory` one session that edits until the memory of the process ends, while 31 others go on; `deep` trees as high as they may be, and one higher, in
-threads with 2 MB of stack; `descriptors` more connections than there are file descriptors for; `speed` a workspace of 32 modules with 128 packages each,
-unless told, and edits in it.
+`memory` one session that edits until the memory of the process ends, while 31 others go on; `memory_of_batches` what batches of one edit keep, in ten
+packages and in 32 modules with 128 packages each, unless told; `deep` trees as high as they may be, and one higher, under a limit of 256 KB for the stack;
+`descriptors` more connections than there are file descriptors for; `speed` the times of edits in such a workspace. `memory_of_batches` and `speed` have
+bounds, and end with an error where one does not hold.
 """
 import argparse
 import json
+import multiprocessing
 import os
 import random
 import re
@@ -463,11 +465,11 @@ def one_deep(daemon, me):
 
 
 def deep(program):
-    """Trees of every form as high as they may be, in every thread, with 2 MB of stack each."""
-    with Daemon(program, workers=8, STACK=2 << 20) as daemon:
+    """Trees of every form as high as they may be, in every thread: each has 2 MB of stack, though the limit is less than such trees want."""
+    with Daemon(program, workers=8, STACK=256 << 10) as daemon:
         failures = Failures()
         failures.join(failures.run(one_deep, [(daemon, me) for me in range(32)]))
-        print("deep: 32 sessions built trees of height 200 without fault, and higher ones with P2, in threads with 2 MB of stack")
+        print("deep: 32 sessions built trees of height 200 without fault, and higher ones with P2, under a limit of 256 KB for the stack")
 
 
 def descriptors(program):
@@ -491,22 +493,47 @@ def descriptors(program):
         print("descriptors: 16 of them, three sessions beside 30 connections that find none, and another behind these")
 
 
+class Bounds:
+    """What must hold of a part: what does not is told at its end."""
+
+    def __init__(self):
+        self.missed = []
+
+    def want(self, holds, bound):
+        if not holds:
+            self.missed.append(f"FAILED: {bound}")
+
+    def tell(self):
+        if self.missed:
+            raise SystemExit("\n".join(self.missed))
+
+
 def timed(work, count):
-    """The times of so many runs in milliseconds, as their middle one and that of which one in a hundred takes longer."""
+    """The times of so many runs in milliseconds."""
     times = []
     for number in range(count):
-        began = time.time()
+        began = time.perf_counter()
         work(number)
-        times.append((time.time() - began) * 1000)
-    times.sort()
-    return f"p50 {times[len(times) // 2]:.1f} ms, p99 {times[len(times) * 99 // 100]:.1f} ms"
+        times.append((time.perf_counter() - began) * 1000)
+    return times
 
 
-def timed_with_processor(daemon, work, count):
-    """The same, with what each run took of the daemon's processor time, which other work on the machine changes least."""
+def percentile(times, percent):
+    """The least time which so many in a hundred are at most."""
+    return sorted(times)[-(-len(times) * percent // 100) - 1]
+
+
+def shown(times):
+    return f"p50 {percentile(times, 50):.2f} ms, p99 {percentile(times, 99):.2f} ms"
+
+
+def timed_edits(what, daemon, work, count):
+    """The times of so many edits, which are told with what each took of the daemon's processor time: other work on the machine changes that least."""
     before = daemon.spent()
     times = timed(work, count)
-    return f"{times}, {(daemon.spent() - before) / count:.1f} ms of processor time each"
+    spent = (daemon.spent() - before) / count
+    print(f"speed: {what} {shown(times)}, {spent:.1f} ms of processor time each; {daemon.resident():.0f} MB", flush=True)
+    return times
 
 
 def package_of_workspace(module, number):
@@ -521,19 +548,27 @@ def package_of_workspace(module, number):
     return "".join(lines)
 
 
-def fill_module(peer, module, packages):
-    peer.open(module)
-    for number in range(packages):
-        peer.edit(f"{module}/p{number}", "p.go", package_of_workspace(module, number))
-    if peer.build()["faults"]:
+def requests_of_module(module, packages):
+    """The lines that open a module, edit all its packages and build it."""
+    edits = [{"cmd": "edit", "path": f"{module}/p{it}", "file": "p.go", "text": package_of_workspace(module, it)} for it in range(packages)]
+    asked = [{"cmd": "open", "module": module}, *edits, {"cmd": "build"}]
+    return b"".join(json.dumps(it, separators=(",", ":")).encode() + b"\n" for it in asked)
+
+
+def fill_module(peer, requests):
+    """Sends the lines at once, and reads the reply to each."""
+    peer.send(requests)
+    replies = [json.loads(peer.line()) for _ in range(requests.count(b"\n"))]
+    if not all("ok" in it for it in replies) or replies[-1]["ok"]["faults"]:
         raise SystemExit("a workspace without faults has some")
 
 
 def fill_workspace(daemon, modules, packages):
-    """All modules at once, each by a session of its own: the connections, and the seconds until all are built."""
+    """All modules at once, each by a session of its own, whose lines are made beforehand: the connections, and the seconds until all are built."""
     peers, failures = [Peer(daemon, timeout=3600) for _ in range(modules)], Failures()
+    requests = [requests_of_module(f"ex.com/m{number}", packages) for number in range(modules)]
     began = time.time()
-    failures.join(failures.run(fill_module, [(peer, f"ex.com/m{number}", packages) for number, peer in enumerate(peers)]))
+    failures.join(failures.run(fill_module, [*zip(peers, requests)]))
     return peers, time.time() - began
 
 
@@ -558,51 +593,186 @@ def seconds_of_check(program, modules, packages):
         return time.time() - began
 
 
-def edit_workspace(daemon, peers, packages):
-    """Edits in the first module, and questions while all other sessions ask."""
+def import_constant(peers, packages):
+    """The last two packages of each module but the first import a constant of its last package, 60 in all where there are so many: how many do."""
+    last, failures = packages - 1, Failures()
+    peers[0].edit(f"ex.com/m0/p{last}", "q.go", f"package p{last}\n\nconst K = 0\n")
+    peers[0].build()
+
+    def import_in(peer, module):
+        for number in (last - 1, last):
+            peer.edit(f"ex.com/m{module}/p{number}", "q.go", f'package p{number}\n\nimport k "ex.com/m0/p{last}"\n\nfunc h() int {{ return k.K }}\n')
+        if peer.build()["faults"]:
+            raise SystemExit("an import of a constant has a fault")
+
+    importing = [(peer, module) for module, peer in enumerate(peers)][1:31]
+    failures.join(failures.run(import_in, importing))
+    return 2 * len(importing)
+
+
+def edit_bodies(daemon, peers, packages, bounds):
+    """Edits of one body in the first module, as many as the events of a daemon allow."""
     peer, last = peers[0], packages - 1
-    told = max(0, packages - 61)
 
     def body(number):
         peer.edit(f"ex.com/m0/p{last}", "q.go", f"package p{last}\n\nfunc h() int {{ return {number} }}\n")
         peer.build()
 
+    # adds the file
+    body(100)
+    times = timed_edits("an edit of one body and its build", daemon, body, 10)
+    times += timed_edits("the next 90", daemon, body, 90)
+    is_quick = percentile(times, 50) <= 20 and percentile(times, 99) <= 40
+    bounds.want(is_quick, f"an edit of one body and its build: p50 at most 20 ms, p99 at most 40 ms, and not {shown(times)}")
+
+
+def edit_constants(daemon, peers, packages, bounds):
+    """Edits of constants in the first module that others import, and questions while all other sessions ask."""
+    peer, last = peers[0], packages - 1
+    told = max(0, packages - 61)
+
     def constant(number):
         peer.edit(f"ex.com/m0/p{told}", "p.go", package_of_workspace("ex.com/m0", told).replace(f"const N = {told}", f"const N = {number}"))
         peer.build()
 
-    def asked(asker, number):
-        text = package_of_workspace(f"ex.com/m{number}", last)
-        asker.ask(cmd="complete", path=f"ex.com/m{number}/p{last}", file="p.go", offset=text.index(".N") + 1)
+    def shown_constant(number):
+        peer.edit(f"ex.com/m0/p{last}", "q.go", f"package p{last}\n\nconst K = {number + 1}\n")
+        peer.build()
 
-    print(f"speed: an edit of one body and its build {timed_with_processor(daemon, body, 10)}; {daemon.resident():.0f} MB", flush=True)
-    print(f"speed: the next 190 {timed_with_processor(daemon, body, 190)}; {daemon.resident():.0f} MB", flush=True)
-    print(f"speed: an edit of a constant that 60 packages import, and its build {timed_with_processor(daemon, constant, 20)}", flush=True)
-    failures, stop = Failures(), threading.Event()
+    timed_edits("an edit of a constant that 60 packages import, each of which imports those before it, and its build", daemon, constant, 20)
+    importers = import_constant(peers, packages)
+    timed_edits(f"the same of one that {importers} packages import, in pairs of which one imports the other", daemon, shown_constant, 60)
+    complete_beside(peers, last, bounds)
 
-    def goes_on(asker, number):
+
+def ask_complete(peer, question):
+    """Asks what may stand at a place, which is some names."""
+    reply = peer.ask(cmd="complete", **question)
+    if not reply.get("ok", {}).get("names"):
+        raise SystemExit(f"{question} is told {reply}")
+
+
+def ask_on(peers, questions, begun, stop):
+    """Each of the sessions asks its question until it is stopped, and pauses a millisecond behind each reply."""
+    failures, all_told = Failures(), threading.Barrier(len(peers), begun.set)
+
+    def goes_on(peer, question):
+        ask_complete(peer, question)
+        all_told.wait(60)
         while not stop.is_set():
-            asked(asker, number)
+            ask_complete(peer, question)
+            time.sleep(0.001)
 
-    threads = failures.run(goes_on, [(it, number) for number, it in enumerate(peers) if number])
-    print(f"speed: complete beside {len(threads)} sessions that ask {timed(lambda _: asked(peer, 0), 200)}", flush=True)
+    failures.join(failures.run(goes_on, [*zip(peers, questions)]))
+
+
+def complete_beside(peers, last, bounds):
+    """Questions of the first session while all others ask too, in a process of their own: threads of this one would wait for one another."""
+    questions = []
+    for number in range(len(peers)):
+        own = f"ex.com/m{number}"
+        questions.append({"path": f"{own}/p{last}", "file": "p.go", "offset": package_of_workspace(own, last).index(".N") + 1})
+    fork = multiprocessing.get_context("fork")
+    begun, stop = fork.Event(), fork.Event()
+    others = fork.Process(target=ask_on, args=(peers[1:], questions[1:], begun, stop))
+    others.start()
+    if not begun.wait(60):
+        others.kill()
+        raise SystemExit("the other sessions are not told")
+    times = timed(lambda _: ask_complete(peers[0], questions[0]), 1000)
     stop.set()
-    failures.join(threads)
+    others.join()
+    if others.exitcode:
+        raise SystemExit("the other sessions failed")
+    print(f"speed: complete beside {len(peers) - 1} sessions that ask {shown(times)}", flush=True)
+    bounds.want(percentile(times, 99) <= 5, f"complete beside sessions that ask: p99 at most 5 ms, and not {shown(times)}")
 
 
 def speed(program, modules=32, packages=128):
-    """Edits in a large workspace: to the reply of the build."""
-    check = seconds_of_check(program, modules, packages)
+    """Edits in a large workspace: to the reply of the build. A daemon takes 1,048,576 events, two for each package of a batch."""
+    bounds, check, took = Bounds(), seconds_of_check(program, modules, packages), {}
     print(f"speed: {modules * packages} packages: check {check:.1f} s", flush=True)
-    for workers in (1, 4):
+    for workers, edit in ((1, edit_bodies), (4, edit_bodies), (4, edit_constants)):
         with Daemon(program, workers=workers) as daemon:
-            peers, seconds = fill_workspace(daemon, modules, packages)
-            print(f"speed: {workers} workers: edits and builds {seconds:.1f} s, {seconds / check:.2f} of check; {daemon.resident():.0f} MB", flush=True)
-            if workers > 1:
-                edit_workspace(daemon, peers, packages)
+            peers, took[workers] = fill_workspace(daemon, modules, packages)
+            of_check, of_one = took[workers] / check, took[workers] / took[1]
+            told = f"{took[workers]:.1f} s, {of_check:.2f} of check, {of_one:.2f} of one worker; {daemon.resident():.0f} MB"
+            print(f"speed: {workers} workers: edits and builds {told}", flush=True)
+            if workers == 1:
+                bounds.want(of_check <= 1.2, f"edits and builds by one worker: at most 1.2 of check, and not {of_check:.2f}")
+            else:
+                bounds.want(of_one <= 0.4, f"edits and builds by {workers} workers: at most 0.4 of one worker, and not {of_one:.2f}")
+            edit(daemon, peers, packages, bounds)
+    bounds.tell()
 
 
-PARTS = {"rows": rows, "crowd": crowd, "hostile": hostile, "memory": memory, "deep": deep, "descriptors": descriptors, "speed": speed}
+def edit_last(peer, module, texts, number):
+    """Edits a body in the last of the packages and builds it: whether the daemon takes so many events."""
+    last = len(texts) - 1
+    peer.edit(f"{module}/p{last}", "p.go", texts[last].replace("return c - 1\n", f"return c - {number + 2}\n"))
+    reply = peer.ask(cmd="build")
+    if reply != {"err": "H1"} and reply.get("ok", {}).get("faults") != []:
+        raise SystemExit(f"the build of a package without faults is told {reply}")
+    return reply != {"err": "H1"}
+
+
+def build_all(peer, module, texts):
+    """A module of packages with these texts."""
+    peer.open(module)
+    for number, text in enumerate(texts):
+        peer.edit(f"{module}/p{number}", "p.go", text)
+    if peer.build()["faults"]:
+        raise SystemExit("packages without faults have some")
+
+
+def memory_of_package(program, texts):
+    """The MB that the last of the packages takes, told from 32 and from 64 of its kind beside the others."""
+    taken, last = [], len(texts) - 1
+    for count in (32, 64):
+        more = [texts[last].replace(f"package p{last}\n", f"package p{last + it}\n") for it in range(1, count)]
+        with Daemon(program) as daemon, Peer(daemon) as peer:
+            build_all(peer, "ex.com/m", texts + more)
+            taken.append(daemon.resident())
+    return (taken[1] - taken[0]) / 32
+
+
+def memory_in_few_packages(program, bounds):
+    """What one of 1,000 batches keeps, each an edit of a body in one of ten packages, by what that package takes."""
+    texts = [package_of_workspace("ex.com/m", number) for number in range(10)]
+    package = memory_of_package(program, texts)
+    with Daemon(program) as daemon, Peer(daemon) as peer:
+        build_all(peer, "ex.com/m", texts)
+        taken = [daemon.resident() for number in range(1000) if edit_last(peer, "ex.com/m", texts, number)]
+    if len(taken) < 1000:
+        raise SystemExit(f"{len(taken)} batches of ten packages, and then H1")
+    batch = (taken[-1] - taken[9]) / 990
+    told = f"a batch keeps {batch * 1024:.1f} KB, {batch / package:.2f} of the {package * 1024:.1f} KB of a package"
+    print(f"memory_of_batches: 1,000 edits of a body in 10 packages: {told}; {taken[9]:.1f} MB after 10, {taken[-1]:.1f} after all", flush=True)
+    bounds.want(batch < 3 * package, f"what a batch of ten packages keeps: less than three packages take, and not {batch / package:.2f}")
+
+
+def memory_in_many_packages(program, modules, packages, bounds):
+    """What a large workspace takes after 100 batches of one edit, or as many as the events of a daemon allow, by what it took after ten."""
+    texts, taken = [package_of_workspace("ex.com/m0", number) for number in range(packages)], []
+    with Daemon(program, workers=4) as daemon:
+        peers, _ = fill_workspace(daemon, modules, packages)
+        while len(taken) < 100 and edit_last(peers[0], "ex.com/m0", texts, len(taken)):
+            taken.append(daemon.resident())
+    grown = taken[-1] / taken[9]
+    told = f"{taken[9]:.0f} MB after 10, {taken[-1]:.0f} after all, {grown:.2f} times as much"
+    print(f"memory_of_batches: {len(taken)} edits of a body in {modules * packages} packages: {told}", flush=True)
+    bounds.want(grown <= 1.5, f"the memory of a large workspace after all batches: at most 1.5 times that after ten, and not {grown:.2f}")
+
+
+def memory_of_batches(program, modules=32, packages=128):
+    """What batches of one edit of a body keep."""
+    bounds = Bounds()
+    memory_in_few_packages(program, bounds)
+    memory_in_many_packages(program, modules, packages, bounds)
+    bounds.tell()
+
+
+PARTS = {it.__name__: it for it in (rows, crowd, hostile, memory, memory_of_batches, deep, descriptors, speed)}
 
 
 def main():
@@ -613,7 +783,8 @@ def main():
     parser.add_argument("--modules", type=int, default=32)
     parser.add_argument("--packages", type=int, default=128)
     given = parser.parse_intermixed_args()
-    told = {"crowd": [given.seconds], "speed": [given.modules, given.packages]}
+    workspace = [given.modules, given.packages]
+    told = {"crowd": [given.seconds], "speed": workspace, "memory_of_batches": workspace}
     for part in given.parts or PARTS:
         PARTS[part](given.program, *told.get(part, []))
 
