@@ -71,8 +71,9 @@ class Function:
         self.file, self.name, self.begin, self.block = file, found[2], found.start(), block
         self.end = end_of(text, self.begin, found[1])
         self.text, self.rest = text[self.begin : self.end], text[found.end() : self.end]
-        self.rows = range(text.count("\n", 0, self.begin) + 1, text.count("\n", 0, self.end) + 2)
         self.attributes = ATTRIBUTES.search(text[: self.begin])[0]
+        first = text.count("\n", 0, self.begin) - self.attributes.count("\n")
+        self.rows = range(first + 1, text.count("\n", 0, self.end) + 2)
         parts = file[len("src/") : -len(".rt")].split("/")
         self.module = [part for part in parts if part not in ("lib", "main", "mod")]
         self.inside = [*([block.owner] if block else []), self.name]

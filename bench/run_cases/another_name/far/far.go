@@ -1,0 +1,9 @@
+package far
+
+func init() {
+	println("a")
+}
+
+func main() {
+	println("b")
+}

@@ -1,0 +1,5 @@
+package limits
+
+const Last = 100 - c
+
+const c = 1

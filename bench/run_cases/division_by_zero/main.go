@@ -1,0 +1,3 @@
+package main
+
+func main() { x := 0; println(7 / x) }

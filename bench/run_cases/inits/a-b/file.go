@@ -1,0 +1,5 @@
+package ab
+
+func init() {
+	println(1)
+}

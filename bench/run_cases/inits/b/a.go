@@ -1,0 +1,9 @@
+package b
+
+func init() {
+	println(3)
+}
+
+func init() {
+	println(4)
+}

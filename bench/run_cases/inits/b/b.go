@@ -1,0 +1,5 @@
+package b
+
+func init() {
+	println(5)
+}

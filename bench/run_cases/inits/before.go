@@ -1,0 +1,5 @@
+package main
+
+func init() {
+	println(9)
+}

@@ -1,0 +1,7 @@
+package z
+
+const Seven = 7
+
+func init() {
+	println(6)
+}

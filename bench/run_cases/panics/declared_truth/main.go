@@ -1,0 +1,9 @@
+package main
+
+type flag bool
+
+func main() {
+	f := flag(true)
+	println(f)
+	panic(!f)
+}

@@ -1,0 +1,5 @@
+package main
+
+func main() {
+	panic(-9223372036854775807 - 1)
+}

@@ -1,0 +1,5 @@
+package text
+
+func init() {
+	println("a")
+}

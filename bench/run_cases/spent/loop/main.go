@@ -1,0 +1,7 @@
+package main
+
+func main() {
+	for n := 0; ; n++ {
+		println(n)
+	}
+}

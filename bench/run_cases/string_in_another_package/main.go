@@ -1,0 +1,3 @@
+package a
+
+func main() { println("a") }

@@ -1,0 +1,3 @@
+package main
+
+func main() { println(1 + 2, true) }

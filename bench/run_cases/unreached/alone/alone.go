@@ -1,0 +1,5 @@
+package alone
+
+func init() {
+	println("a")
+}
