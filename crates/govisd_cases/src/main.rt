@@ -3,7 +3,8 @@
 //! `govisd_cases KIND FILE.. [-- KIND FILE..]..` reads of each file a text, a table of cases or the archive of a workspace, and writes the answers of
 //! the kind before it in lines. The kinds for texts and tables are at the head of data/cases.txt, and those for snapshots of workspaces in
 //! `govisd_snapshot`. Of the kind `script` a file has the lines of sessions, which are served as `govisd script` does, and `broken` serves it where reading or
-//! writing fails. The status is 2 where there is no kind, and 1 where a file cannot be read.
+//! writing fails. Of the kind `events` it has lists of events, and of `gates` a word is no file: both are in `govisd_events`. The status is 2 where there
+//! is no kind, and 1 where a file cannot be read.
 #![tactic(auto)]
 
 mod script;
@@ -16,6 +17,22 @@ use std::thread::Threads;
 use std::time::Clock;
 use std::{env, fs, io};
 
+/// Adds what is answered to a text, where the kind is one of lists of events or of snapshots.
+fn add_of_text(
+    out: &mut Lines,
+    alloc: Global,
+    kind: &str,
+    file: &str,
+    text: &str,
+    last: &str,
+) -> bool {
+    if kind == "events" {
+        govisd_events::show_events(alloc, out, text);
+        return true;
+    }
+    govisd_snapshot::add_of_file(out, alloc, kind, file, text, last)
+}
+
 /// What is answered to a file of these bytes. The last bytes are those of the file before it of the same kind, and none before the first.
 fn answer(
     alloc: Global,
@@ -26,9 +43,7 @@ fn answer(
 ) -> Result<String, AllocError> {
     let mut out = Lines::new(alloc);
     let is_answered = match (str::from_utf8(bytes), str::from_utf8(last)) {
-        (Ok(text), Ok(last)) => govisd_snapshot::add_of_file(
-            &mut out, alloc, kind, file, text, last,
-        ),
+        (Ok(text), Ok(last)) => add_of_text(&mut out, alloc, kind, file, text, last),
         _ => false,
     };
     if !is_answered {
@@ -43,6 +58,14 @@ fn show(rt: &HostRuntime, kind: &str, file: &str, last: &[u8]) -> io::Result<Vec
     let lines = answer(rt.alloc(), kind, file, bytes.as_slice(), last)?;
     print!(rt; "{lines}")?;
     Ok(bytes)
+}
+
+/// Writes what workers do behind gates.
+fn show_gates<T: Threads + Wait + Clock + Sync>(rt: &HostRuntime, threads: &T) -> io::Result<()> {
+    let mut out = Lines::new(rt.alloc());
+    govisd_events::show_gates(threads, rt.alloc(), &mut out);
+    let lines = out.finish()?;
+    print!(rt; "{lines}")
 }
 
 /// Takes a word: `--` ends a kind and its files, a word without a kind before it is the kind, and each behind it a file. Gives the number of the word
@@ -71,6 +94,7 @@ fn show_word<T: Threads + Wait + Clock + Sync>(
     match name.as_str() {
         "script" => script::show_script(rt, threads, word.as_str())?,
         "broken" => script::show_faults(rt, threads, word.as_str())?,
+        "gates" => show_gates(rt, threads)?,
         name => *last = show(rt, name, word.as_str(), last.as_slice())?,
     }
     Ok(kind)

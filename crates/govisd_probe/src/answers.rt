@@ -12,6 +12,7 @@ fn add_text_answer(out: &mut Lines, alloc: Global, kind: &str, text: &str) {
         "parse" | "uses" | "places" | "copies" | "decl" | "stmt" | "expr" | "typed" => {
             trees::add_answer(out, alloc, kind, text);
         }
+        "renamed" => trees::add_renamed(out, alloc, text),
         "chain" | "ring" | "complete" => shapes::add_answer(out, alloc, kind, text),
         "sources" | "replaced" | "copied" | "packages" | "plan" | "scope" | "keys" => {
             workspaces::add_answer(out, alloc, kind, text);

@@ -1,7 +1,8 @@
 //! What is answered of trees.
 use crate::tokens::add_comments;
+use crate::words::pair;
 use go_parse_core::{ParseError, Parsed, parse, tree_of};
-use go_tree_core::{Role, Usage, at, copy, occurrences};
+use go_tree_core::{Role, Usage, at, copy, occurrences, renamed};
 use go_tree_nodes::{Decl, File};
 use govisd_show::Lines;
 use std::alloc::Global;
@@ -91,6 +92,24 @@ pub fn add_prefixes(out: &mut Lines, alloc: Global, text: &str) {
         }
     }
     out.count("", count, "\n");
+}
+
+/// Adds the occurrences of a file in which the identifier that is used at an offset is spelled otherwise, or `none` where none is used there. The
+/// offset and the other spelling stand before the text of the file.
+pub fn add_renamed(out: &mut Lines, alloc: Global, asked: &str) {
+    let (offset, rest) = pair(asked);
+    let (name, text) = pair(rest);
+    match tree_of(alloc, text) {
+        Ok(tree) => match at(&tree, offset.parse().unwrap_or(0)) {
+            Some(id) => match renamed(alloc, &tree, id, name) {
+                Ok(tree) => add_uses(out, alloc, &tree),
+                Err(_) => out.cut(),
+            },
+            None => out.line("none"),
+        },
+        Err(ParseError::Memory) => out.cut(),
+        Err(ParseError::Fault(fault)) => out.fault(fault.rule, fault.offset),
+    }
 }
 
 /// Adds the answer of a kind to a text, or to a file in which it is a declaration, a statement, an expression or a type.

@@ -11,7 +11,7 @@ use Rattle.govisd_show.specs.graph_core.Workspaces.{PackageModel, AreAllRead, Is
 use Rattle.govisd_show.specs.graph_core.Zips.{numbered_back}
 use Rattle.go_snap_core.specs.ready_core.Packages.{trees_in}
 use Rattle.go_snap_core.specs.part_core.Inputs.{InputModel}
-use Rattle.go_snap_core.specs.part_core.Parts.{ContentOf, IsPart, PartModel, part_with}
+use Rattle.go_snap_core.specs.part_core.Parts.{IsPart, PartModel, part_with}
 use Rattle.go_snap_core.specs.whole_core.Inputs.{AreParts, IsPartOf}
 use Rattle.go_snap_core.specs.whole_core.Checks.{trees_are_placed}
 use Rattle.go_snap_core.specs.Snapshots.{ArePartsOf, IsPartAt}

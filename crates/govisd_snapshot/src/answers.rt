@@ -53,12 +53,12 @@ pub fn spelling_at(text: &str, offset: usize) -> &str {
     }
 }
 
-/// Adds what an occurrence of a text has.
-pub fn add_answer(out: &mut Lines, spelling: &SiteSpelling<'_>, text: &str, answer: &Answer) {
+/// Adds what an occurrence has that is spelled so.
+pub fn add_answer(out: &mut Lines, spelling: &SiteSpelling<'_>, spelled: &str, answer: &Answer) {
     out.count("", answer.offset, " ");
     out.add(answer.role.word());
     out.add(" ");
-    out.add(spelling_at(text, answer.offset));
+    out.add(spelled);
     out.add(" ");
     match &answer.outcome {
         Outcome::Declared(site) => {
@@ -101,7 +101,7 @@ pub fn add_outcomes(
     for number in 0..usize::MAX {
         out.count("", number, " ");
         match snapshot.outcome(path, name, OccId(number)) {
-            Some(answer) => add_answer(out, spelling, text, answer),
+            Some(answer) => add_answer(out, spelling, spelling_at(text, answer.offset), answer),
             None => return out.line("none"),
         }
     }

@@ -113,7 +113,7 @@ fn add_answers(
 ) {
     for answer in &file.answers {
         if all || matches!(answer.outcome, Outcome::Refused(_)) {
-            add_answer(out, spelling, text, answer);
+            add_answer(out, spelling, spelling_at(text, answer.offset), answer);
         }
     }
     for fault in &file.faults {

@@ -26,6 +26,7 @@
 //! | `listing PATH` | `object PATH NAME IMPORTS`, and behind it the functions of the package as they run; `no object` where the package has a fault, and `no package` where the path has none |
 //! | `refs PATH` | for each function of the package, by its number, what the occurrences of its body come to; `NUMBER none` for the first number that no function has; `no object` and `no package` as above |
 //! | `objects` | the same of all packages that have no fault, in order of path, as the snapshot makes them together |
+//! | `renamed PATH FILE NUMBER NAME` | what the occurrence of the number has where the identifier is spelled as the name and all else is as it was, and what is reported of the package then; `none` where it is no identifier, `no file` and `no package` where there is none |
 //! | `again` | where there is an archive before, of each package that has a part whether the snapshot that is made over that archive's has `kept` its part or `made` it, and `again same` where that snapshot has the sources, the faults and the outcomes of the one that is made from nothing |
 //! | `compare PATH` | whether the summary of the package and what its part is made from are the `same` as in the archive before, or `another`; `none` where one of the two archives has no such package |
 //!
@@ -61,6 +62,7 @@ mod joining;
 mod listings;
 mod method_sets;
 mod questions;
+mod respelling;
 mod selectors;
 mod shot;
 mod type_questions;

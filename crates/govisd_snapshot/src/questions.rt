@@ -3,6 +3,7 @@ use crate::again::add_again;
 use crate::answers::add_outcomes;
 use crate::comparing::add_comparison;
 use crate::listings::{add_emitted, add_objects};
+use crate::respelling::add_respelled;
 use crate::shot::{Shot, snapshot_of};
 use go_path_core::ImportPath;
 use govisd_show::{Lines, member_place};
@@ -41,6 +42,7 @@ fn add_of_package(out: &mut Lines, alloc: Global, last: &str, shot: &Shot<'_>, l
         "listing" => add_emitted(out, alloc, shot, &path, true),
         "refs" => add_emitted(out, alloc, shot, &path, false),
         "compare" => add_over(out, alloc, last, shot, Some(&path)),
+        "renamed" => add_respelled(out, alloc, shot, &path, file),
         _ => {}
     }
 }
