@@ -60,11 +60,17 @@ class Daemon:
         with open(f"/proc/{self.process.pid}/status", encoding="ascii") as file:
             return next(int(line.split()[1]) for line in file if line.startswith("VmRSS")) / 1024
 
-    def spent(self):
-        """The processor time of the process in milliseconds."""
-        with open(f"/proc/{self.process.pid}/stat", encoding="ascii") as file:
-            fields = file.read().rpartition(")")[2].split()
-        return (int(fields[11]) + int(fields[12])) * 1000 / os.sysconf("SC_CLK_TCK")
+    def spent_by_threads(self):
+        """The processor time of each thread in milliseconds."""
+        tasks = f"/proc/{self.process.pid}/task"
+        return {it: milliseconds(f"{tasks}/{it}/stat") for it in os.listdir(tasks)}
+
+
+def milliseconds(path):
+    """The processor time in a file `stat` of a process or a thread."""
+    with open(path, encoding="ascii") as file:
+        fields = file.read().rpartition(")")[2].split()
+    return (int(fields[11]) + int(fields[12])) * 1000 / os.sysconf("SC_CLK_TCK")
 
 
 class Peer:
@@ -528,11 +534,13 @@ def shown(times):
 
 
 def timed_edits(what, daemon, work, count):
-    """The times of so many edits, which are told with what each took of the daemon's processor time: other work on the machine changes that least."""
-    before = daemon.spent()
+    """The times of so many edits, which are told with what each took of the daemon's processor time, which other work on the machine changes least, and
+    how much of that its busiest thread took: of one worker that is the core machine with what is compiled."""
+    before = daemon.spent_by_threads()
     times = timed(work, count)
-    spent = (daemon.spent() - before) / count
-    print(f"speed: {what} {shown(times)}, {spent:.1f} ms of processor time each; {daemon.resident():.0f} MB", flush=True)
+    spent = [(it - before.get(thread, 0)) / count for thread, it in daemon.spent_by_threads().items()]
+    told = f"{sum(spent):.1f} ms of processor time each, {max(spent):.1f} of it in one thread"
+    print(f"speed: {what} {shown(times)}, {told}; {daemon.resident():.0f} MB", flush=True)
     return times
 
 

@@ -3,12 +3,13 @@
 //! `govisd_cases KIND FILE.. [-- KIND FILE..]..` reads of each file a text, a table of cases or the archive of a workspace, and writes the answers of
 //! the kind before it in lines. The kinds for texts and tables are at the head of data/cases.txt, and those for snapshots of workspaces in
 //! `govisd_snapshot`. Of the kind `script` a file has the lines of sessions, which are served as `govisd script` does, and `broken` serves it where reading or
-//! writing fails. Of the kind `events` it has lists of events, and of `gates` a word is no file: both are in `govisd_events`. The status is 2 where there
-//! is no kind, and 1 where a file cannot be read.
+//! writing fails. Of the kind `events` it has lists of events, and of `gates` a word is no file: both are in `govisd_events`. Of the kind `check` it is
+//! a folder, which is checked as the module `example.com/FOLDER`. The status is 2 where there is no kind, and 1 where a file cannot be read.
 #![tactic(auto)]
 
 mod script;
 
+use govisd_folders::{Order, check_folder};
 use govisd_show::Lines;
 use std::alloc::{AllocError, Global};
 use std::process::ExitCode;
@@ -68,6 +69,23 @@ fn show_gates<T: Threads + Wait + Clock + Sync>(rt: &HostRuntime, threads: &T) -
     print!(rt; "{lines}")
 }
 
+/// The check of a folder as a module.
+fn order_of<'a>(folder: &'a str, module_path: &'a str) -> Order<'a> {
+    Order {
+        folder,
+        module_path: Some(module_path),
+        json: false,
+    }
+}
+
+/// Writes what a check of a folder answers, what it says beside, and its status.
+fn show_check(rt: &HostRuntime, folder: &str) -> io::Result<()> {
+    let module_path = format!(in rt.alloc(); "example.com/{folder}")?;
+    let order = order_of(folder, module_path.as_str());
+    let answer = check_folder(rt, &order)?;
+    print!(rt; "{}{}status {}\n", answer.text, answer.said, answer.status)
+}
+
 /// Takes a word: `--` ends a kind and its files, a word without a kind before it is the kind, and each behind it a file. Gives the number of the word
 /// that is the kind then, and 0 for none.
 fn show_word<T: Threads + Wait + Clock + Sync>(
@@ -95,6 +113,7 @@ fn show_word<T: Threads + Wait + Clock + Sync>(
         "script" => script::show_script(rt, threads, word.as_str())?,
         "broken" => script::show_faults(rt, threads, word.as_str())?,
         "gates" => show_gates(rt, threads)?,
+        "check" => show_check(rt, word.as_str())?,
         name => *last = show(rt, name, word.as_str(), last.as_slice())?,
     }
     Ok(kind)
