@@ -88,7 +88,7 @@ module _ (agree : BudgetsAgree) (program : List SourceOf) (ds : List ℕ) (h : H
     panics_only = λ m value out e. (m, panic_means m value out (meaning program ds m) e (beside m));
     never_stuck = λ m out e. not_stuck m out (meaning program ds m) e (beside m);
     goes_on = λ n out e. runs_of n (Unfinished out) e;
-    goes_on_only = λ m out e. let x = spent_means m out (meaning program ds m) e (beside m) in (m, x.0, x.1, x.2);
+    goes_on_only = λ m out e. let x = spent_means m out (meaning program ds m) e (beside m) in (m, omega arith, x.0, x.1, x.2);
   }
 
 pub meant_code_means : BudgetsAgree → MeantCodeMeansTheSource

@@ -30,7 +30,7 @@ pub record DoesWhatItMeans (program : List SourceOf) (starts : List ℕ) : Type 
   pub panics_only : (m : ℕ) (value : PanicValue) (out : List ℕ) → machine (code_of_program program) starts m ≡ PanickedRun value out → (n : ℕ) × (meaning program starts n ≡ Panicked value out)
   pub never_stuck : (m : ℕ) (out : List ℕ) → machine (code_of_program program) starts m ≢ Stuck out
   pub goes_on : (n : ℕ) (out : List ℕ) → meaning program starts n ≡ Unfinished out → (m : ℕ) × (n ≤ m) × (machine (code_of_program program) starts m ≡ Spent out)
-  pub goes_on_only : (m : ℕ) (out : List ℕ) → machine (code_of_program program) starts m ≡ Spent out → (n : ℕ) × (text : List ℕ) × Prints (meaning program starts n) text × Begins out text
+  pub goes_on_only : (m : ℕ) (out : List ℕ) → machine (code_of_program program) starts m ≡ Spent out → (n : ℕ) × (m ≤ n) × (text : List ℕ) × Prints (meaning program starts n) text × Begins out text
 
 -- of any program that means something
 abbrev pub MeantCodeMeansTheSource : Type 0

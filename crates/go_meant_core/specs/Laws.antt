@@ -22,7 +22,7 @@ pub record RunsAsMeant (p : ProgramOf) (sources : List SourceOf) (starts : List 
   pub panics_only : (steps : ℕ) (value : PanicValue) (out : List ℕ) → Gives p steps (PanickedRun value out) → (n : ℕ) × (meaning sources starts n ≡ Panicked value out)
   pub never_stuck : (steps : ℕ) → GetsStuck p steps → ⊥
   pub goes_on : (n : ℕ) (out : List ℕ) → meaning sources starts n ≡ Unfinished out → (steps : ℕ) × (n ≤ steps) × Gives p steps (Spent out)
-  pub goes_on_only : (steps : ℕ) (out : List ℕ) → Gives p steps (Spent out) → (n : ℕ) × (text : List ℕ) × Prints (meaning sources starts n) text × Begins out text
+  pub goes_on_only : (steps : ℕ) (out : List ℕ) → Gives p steps (Spent out) → (n : ℕ) × (steps ≤ n) × (text : List ℕ) × Prints (meaning sources starts n) text × Begins out text
 
 abbrev pub ProgramsRunAsMeant : Type 0
 ProgramsRunAsMeant = (p : ProgramOf) (sources : List SourceOf) (r : RunnableOf) → IsMeant p sources r → RunsAsMeant p sources r.starts
