@@ -5,7 +5,7 @@ use Rattle.std.specs.Prelude.{Contains}
 use Rattle.std.proofs.lemmas.Bool.{cases_lt}
 use Rattle.go_tree_nodes.specs.text_core.declared.span.Span.{Span}
 use Rattle.go_tree_nodes.specs.declared.files.Receiver.{Receiver}
-use Rattle.go_tree_nodes.specs.Heights.{branch_height, decl_height, else_height, exprs_height, fields_height, file_height, for_height, group_height, height, init_height, items_height, lines_height, methods_height, params_height, receiver_height, result_height, signature_height, simple_height, some_expr_height, some_exprs_height, some_simple_height, some_type_height, specs_height, stmt_height, tops_height, type_height, types_height, value_height, value_spec_height, values_height}
+use Rattle.go_tree_nodes.specs.Heights.{branch_height, decl_height, else_height, exprs_height, fields_height, file_height, for_height, group_height, height, init_height, items_height, lines_height, methods_height, params_height, receiver_height, result_height, signature_height, simple_height, some_expr_height, some_exprs_height, some_simple_height, some_type_height, specs_height, stmt_height, tops_height, type_height, type_spec_height, types_height, value_height, value_spec_height, values_height}
 use Rattle.go_tree_nodes.specs.Trees.{Separated, One, Then, TypeTree, FieldTrees, MethodTrees, SignatureTree, ResultTree, ParamTrees, NamedType, Pointer, ParenType, Struct, Interface, NoFields, NamedFields, EmbeddedField, NoMethods, Method, Signed, NoResult, OneResult, Results, NoParams, Param, ExprTree, ItemTrees, Integer, Text, Named, Paren, Unary, Binary, Select, Call, Literal, StructLiteral, NoItems, Item, ValueSpecTree, Specs, Single, Group, ValueTree, TypeDeclTree, TypeSpecTree, SimpleTree, Alone, Step, Assign, Update, Define, ForTree, Forever, While, Clauses, StmtTree, BranchTree, ElseTree, Lines, Empty, Declare, Simple, Return, Break, Continue, Block, If, For, Branch, NoElse, ElseBlock, ElseIf, NoLines, Line, FuncTree, DeclTree, Value, Types, Func, TopTree, FileTree, of_specs}
 use Rattle.go_front_core.specs.HeightLaws.{HeightsAreOfPaths, IsFilePath, IsLargest, IsTreePath, Ends, GoesOn}
 use Rattle.go_front_core.specs.HeightNodes.{Node, BlockNode, ExprNode, ForNode, FuncNode, IfNode, LoneNode, ReturnNode, SimpleNode, TypeNode, TypesNode, ValueNode, nodes_below, decl_node, else_nodes, expr_below, exprs_nodes, fields_nodes, file_nodes, for_nodes, func_below, if_below, init_nodes, items_nodes, lines_nodes, methods_nodes, params_nodes, receiver_nodes, result_nodes, return_below, signature_nodes, simple_below, some_expr_nodes, some_simple_nodes, some_type_nodes, stmt_node, type_below, types_below, value_below, value_spec_nodes, values_nodes}
@@ -137,7 +137,7 @@ value_over : (v : ValueTree) → value_height v ≡ highest (value_below v) + 1
 value_over v = ap (λ n. n + 1) (sym (specs_highest value_spec_nodes value_spec_height value_spec_highest v.specs))
 
 types_over : (t : TypeDeclTree) → types_height t ≡ highest (types_below t) + 1
-types_over t = ap (λ n. n + 1) (sym (specs_highest (λ (s : TypeSpecTree). TypeNode s.type_expr ∷ []) (λ s. type_height s.type_expr) (λ s. omega arith) t.specs))
+types_over t = ap (λ n. n + 1) (sym (specs_highest (λ (s : TypeSpecTree). TypeNode s.type_expr ∷ []) type_spec_height (λ s. omega arith) t.specs))
 
 receiver_highest : (r : Option Receiver) → highest (receiver_nodes r) ≡ receiver_height r
 receiver_highest None = refl

@@ -9,8 +9,8 @@ use Rattle.go_tree_nodes.specs.declared.decls.ValueKind.TheVariants as kinds
 use Rattle.go_tree_nodes.specs.Terminals.{Terminal}
 use Rattle.go_tree_nodes.specs.Trees.{Separated, TypeTree, ExprTree, ValueSpecTree, Specs, Single, Group, ValueTree, TypeSpecTree, TypeDeclTree}
 use Rattle.go_tree_nodes.specs.Spelling.{mark, word, spell_ident, spell_idents, spell_some_type, spell_values, spell_value_spec, spell_specs_of, spell_specs, keyword_of, spell_value, spell_type_spec, spell_types}
-use Rattle.go_tree_nodes.specs.Rules.{IsNothing, HasEnough, Wf_type, Wf_some_type, Wf_values, Wf_value_spec, Wf_group, Wf_specs, Wf_value, Wf_types}
-use Rattle.go_tree_nodes.specs.Heights.{type_height, some_type_height, values_height, value_spec_height, group_height, specs_height, value_height, types_height}
+use Rattle.go_tree_nodes.specs.Rules.{IsNothing, HasEnough, Wf_type, Wf_some_type, Wf_values, Wf_value_spec, Wf_group, Wf_specs, Wf_value, Wf_type_spec, Wf_types}
+use Rattle.go_tree_nodes.specs.Heights.{type_height, some_type_height, values_height, value_spec_height, group_height, specs_height, value_height, type_spec_height, types_height}
 use Rattle.go_parse_core.specs.LeftOut.{Symbol, sure, Closes, symbol_semicolon, symbols_type, symbols_some, symbols_values, symbols_value_spec, symbols_group, symbols_specs, symbols_value, symbols_type_spec, symbols_types, Fills_type, Fills_some, Fills_values, Fills_value_spec, Fills_group, Fills_specs, Fills_value, Fills_type_spec, Fills_types}
 use Rattle.go_parse_core.proofs.LeftOutParts.{Any, Opens, opens_along, opens_not, Splits, nothing, sure_then, one_then, both, maps, loose, join_nothing, join_both, join_sure, join_one, filled, filled_fills, filled_kept, filled_full, join_loose, Good, Filled, AnyLike, higher, both_high, in_parens, join_parens}
 use Rattle.go_parse_core.proofs.LeftOutTypes.{idents_open, type_split, type_fill}
@@ -43,12 +43,6 @@ GoodSomeValues = Good (Fills_some Fills_values) Wf_values values_height SomeLike
 
 abbrev GoodValueSpec : ValueKind → ValueSpecTree → ValueSpecTree → Type 0
 GoodValueSpec kind = Good Fills_value_spec (Wf_value_spec kind) value_spec_height AnyLike
-
-abbrev Wf_type_spec : TypeSpecTree → Type 0
-Wf_type_spec t = Wf_type t.type_expr
-
-abbrev type_spec_height : TypeSpecTree → ℕ
-type_spec_height t = type_height t.type_expr
 
 abbrev GoodTypeSpec : TypeSpecTree → TypeSpecTree → Type 0
 GoodTypeSpec = Good Fills_type_spec Wf_type_spec type_spec_height AnyLike

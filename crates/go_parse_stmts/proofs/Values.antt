@@ -10,8 +10,8 @@ use Rattle.go_tree_nodes.specs.declared.decls.ValueKind.TheVariants as kinds
 use Rattle.go_tree_nodes.specs.Terminals.{Terminal}
 use Rattle.go_tree_nodes.specs.Trees.{Separated, One, Then, TypeTree, ExprTree, ValueSpecTree, ValueTree, TypeSpecTree, TypeDeclTree}
 use Rattle.go_tree_nodes.specs.Spelling.{mark, word, spell_ident, spell_idents, spell_type, spell_exprs, spell_some_type, spell_values, spell_value_spec, spell_specs, keyword_of, spell_value, spell_type_spec, spell_types}
-use Rattle.go_tree_nodes.specs.Rules.{Wf_type, Wf_some_type, Wf_values, HasEnough, Wf_value_spec, Wf_value, Wf_types}
-use Rattle.go_tree_nodes.specs.Heights.{type_height, exprs_height, some_type_height, values_height, value_spec_height, specs_height, value_height, types_height}
+use Rattle.go_tree_nodes.specs.Rules.{Wf_type, Wf_some_type, Wf_values, HasEnough, Wf_value_spec, Wf_value, Wf_type_spec, Wf_types}
+use Rattle.go_tree_nodes.specs.Heights.{type_height, exprs_height, some_type_height, values_height, value_spec_height, specs_height, value_height, type_spec_height, types_height}
 use Rattle.go_parse_exprs.specs.parse_types.mirrors.Marks.{Grammar, ◌>>=◌, Reading, MarkAhead, need, mark_at, keyword_at, name_at, idents_go}
 use Rattle.go_parse_exprs.specs.parse_types.mirrors.TypeReading.{begins_type, type_at}
 use Rattle.go_parse_exprs.specs.mirrors.ExprReading.{exprs_at}
@@ -116,7 +116,7 @@ value_complete v b rest wf ends =
 
 -- types
 
-type_spec_found : (b : ℕ) (t : TypeSpecTree) (rest : List Terminal) → Wf_type t.type_expr → Ends false rest → AgreesAt (type_spec_at b (spell_type_spec t ++ rest)) (Ok (t, rest)) b (type_height t.type_expr)
+type_spec_found : (b : ℕ) (t : TypeSpecTree) (rest : List Terminal) → Wf_type_spec t → Ends false rest → AgreesAt (type_spec_at b (spell_type_spec t ++ rest)) (Ok (t, rest)) b (type_height t.type_expr)
 type_spec_found b t rest wf ends =
     bind_agrees (type_at b (spell_type t.type_expr ++ rest)) (t.type_expr, rest) (λ y. Ok (type_spec t.name y.0, y.1)) (Ok (t, rest)) b (type_height t.type_expr) b (type_height t.type_expr)
     (type_complete t.type_expr b rest wf ends.dot) (inl refl) (λ h. h)
@@ -124,8 +124,8 @@ type_spec_found b t rest wf ends =
 pub types_complete : (t : TypeDeclTree) (b : ℕ) (rest : List Terminal) → Wf_types t → Ends false rest → AgreesAt (types_at b t.keyword (spell_specs spell_type_spec t.specs ++ rest)) (Ok (t, rest)) (suc b) (types_height t)
 types_complete t b rest wf ends =
     let spec = type_spec_at b in
-    let high = λ (s : TypeSpecTree). type_height s.type_expr in
-    let P = λ (s : TypeSpecTree). Wf_type s.type_expr in
+    let high = type_spec_height in
+    let P = Wf_type_spec in
     let found : FoundSpec TypeSpecTree spec spell_type_spec b high P rest =
     record { grouped = λ x wf. record { before_mark = λ s ts. type_spec_found b x (mark operator.Semicolon s ∷ ts) wf (ends_semicolon false s ts); before_end = λ z ts. type_spec_found b x (mark operator.CloseParen z ∷ ts) wf (ends_paren z ts); opens = λ ts. refl }; alone = λ x wf. type_spec_found b x rest wf ends; some = λ x. omega arith; no_group = λ x ts. refl } in
     let ts = spell_specs spell_type_spec t.specs ++ rest in
@@ -182,18 +182,18 @@ value_sound b kind keyword ts x e =
     let front = word (keyword_of kind) keyword in
     subst (ReadsItem ValueTree spell_value value_height Wf_value (suc b) (front ∷ ts)) same (record { spelled_as = ap (λ l. front ∷ l) r.spelled_as; wf = r.wf; low = omega (arith, r.low) })
 
-pub type_spec_sound : (b : ℕ) → ItemsRead TypeSpecTree spell_type_spec (λ s. type_height s.type_expr) (λ s. Wf_type s.type_expr) b (type_spec_at b)
+pub type_spec_sound : (b : ℕ) → ItemsRead TypeSpecTree spell_type_spec type_spec_height Wf_type_spec b (type_spec_at b)
 type_spec_sound b ts x e =
     let n = bind_ok (need (name_at ts)) (λ x. type_at b x.1 >>= λ t. Ok (type_spec x.0 t.0, t.1)) x e in
     let t = bind_ok (type_at b n.0.1) (λ t. Ok (type_spec n.0.0 t.0, t.1)) x n.2 in
     let r = type_sound b n.0.1 t.0 t.1 in
     let same : (type_spec n.0.0 t.0.0, t.0.1) ≡ x = cc (t.2) in
-    subst (ReadsItem TypeSpecTree spell_type_spec (λ s. type_height s.type_expr) (λ s. Wf_type s.type_expr) b ts) same (record { spelled_as = name_was ts n.0 (need_ok (name_at ts) n.0 n.1) ∙ ap (λ l. spell_ident n.0.0 ∷ l) r.spelled; wf = r.wf; low = r.low })
+    subst (ReadsItem TypeSpecTree spell_type_spec type_spec_height Wf_type_spec b ts) same (record { spelled_as = name_was ts n.0 (need_ok (name_at ts) n.0 n.1) ∙ ap (λ l. spell_ident n.0.0 ∷ l) r.spelled; wf = r.wf; low = r.low })
 
 pub types_sound : (b : ℕ) (k : Span) (ts : List Terminal) (x : TypeDeclTree × List Terminal) → types_at b k ts ≡ Ok x → ReadsItem TypeDeclTree spell_types types_height Wf_types (suc b) (word keyword.«Type» k ∷ ts) x
 types_sound b k ts x e =
-    let high = λ (s : TypeSpecTree). type_height s.type_expr in
-    let P = λ (s : TypeSpecTree). Wf_type s.type_expr in
+    let high = type_spec_height in
+    let P = Wf_type_spec in
     let w = bind_ok (specs_at (type_spec_at b) ts) (λ x. Ok (type_decl k x.0, x.1)) x e in
     let r = specs_sound TypeSpecTree (type_spec_at b) spell_type_spec high P b (type_spec_sound b) ts w.0 w.1 in
     let same : (type_decl k w.0.0, w.0.1) ≡ x = cc (w.2) in

@@ -1,7 +1,7 @@
 -- How high a tree is: the declarations, types, expressions, statements and blocks on its longest path.
 use Rattle.std.specs.Prelude.{ℕ, ◌+◌, max, List, [], ◌∷◌, Option, Some, None}
 use Rattle.go_token_core.specs.text_core.declared.span.Span.{Span}
-use Rattle.go_tree_nodes.specs.Trees.{Separated, One, Then, TypeTree, FieldTrees, MethodTrees, SignatureTree, ResultTree, ParamTrees, NamedType, Pointer, ParenType, Struct, Interface, NoFields, NamedFields, EmbeddedField, NoMethods, Method, Signed, NoResult, OneResult, Results, NoParams, Param, ExprTree, ItemTrees, Integer, Text, Named, Paren, Unary, Binary, Select, Call, Literal, StructLiteral, NoItems, Item, ValueSpecTree, Specs, Single, Group, ValueTree, TypeDeclTree, SimpleTree, Alone, Step, Assign, Update, Define, IfTree, ForTree, Forever, While, Clauses, StmtTree, BranchTree, ElseTree, Lines, Empty, Declare, Simple, Return, Break, Continue, Block, If, For, Branch, NoElse, ElseBlock, ElseIf, NoLines, Line, DeclTree, Value, Types, Func, TopTree, FileTree}
+use Rattle.go_tree_nodes.specs.Trees.{Separated, One, Then, TypeTree, FieldTrees, MethodTrees, SignatureTree, ResultTree, ParamTrees, NamedType, Pointer, ParenType, Struct, Interface, NoFields, NamedFields, EmbeddedField, NoMethods, Method, Signed, NoResult, OneResult, Results, NoParams, Param, ExprTree, ItemTrees, Integer, Text, Named, Paren, Unary, Binary, Select, Call, Literal, StructLiteral, NoItems, Item, ValueSpecTree, Specs, Single, Group, ValueTree, TypeSpecTree, TypeDeclTree, SimpleTree, Alone, Step, Assign, Update, Define, IfTree, ForTree, Forever, While, Clauses, StmtTree, BranchTree, ElseTree, Lines, Empty, Declare, Simple, Return, Break, Continue, Block, If, For, Branch, NoElse, ElseBlock, ElseIf, NoLines, Line, DeclTree, Value, Types, Func, TopTree, FileTree}
 
 -- a type's name is one node, with or without a package; stars of receivers and embedded fields are none
 abbrev mutual
@@ -78,8 +78,11 @@ specs_height f (Group first xs last) = group_height f xs
 abbrev pub value_height : ValueTree → ℕ
 value_height v = specs_height value_spec_height v.specs + 1
 
+abbrev pub type_spec_height : TypeSpecTree → ℕ
+type_spec_height t = type_height t.type_expr
+
 abbrev pub types_height : TypeDeclTree → ℕ
-types_height t = specs_height (λ s. type_height s.type_expr) t.specs + 1
+types_height t = specs_height type_spec_height t.specs + 1
 
 -- a simple statement in a header is a node
 abbrev pub simple_height : SimpleTree → ℕ
