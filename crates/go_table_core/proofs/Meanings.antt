@@ -1,15 +1,13 @@
 -- The laws of tables.
-use Rattle.std.proofs.Common.{◌≡◌, ◌↔◌, ◌<◌, ◌⊎◌, Bool, true, false, [], ◌∷◌, Option, Some, None, refl, sym, ap, ◌∙◌, subst, arith}
+use Rattle.std.proofs.Common.{◌≡◌, ◌↔◌, ◌<◌, ◌⊎◌, Bool, true, [], ◌∷◌, Option, Some, None, refl, sym, ap, ◌∙◌, subst, arith}
 use Rattle.std.specs.Prelude.{IsTrue, Contains}
-use Rattle.std.proofs.lemmas.Bool.{true≢false}
 use Rattle.std.proofs.lemmas.List.Elements.{Contains-append_left}
 use Rattle.go_settle_core.specs.decl_core.declared.keys.DeclKey.{DeclKey}
 use Rattle.go_term_core.specs.declared.term.Basic.TheVariants as basics
 use Rattle.go_term_core.specs.Terms.{Term, NoType, Predeclared, ErrorType, Defined, PointerTo, StructOf, InterfaceOf, term_keys}
-use Rattle.go_term_core.specs.Identity.{Identical}
 use Rattle.go_table_core.specs.Entries.{Entry, EntryLook, term_in, underlying_in, methods_in, declared_methods, members_keys}
 use Rattle.go_table_core.specs.Underlying.{IdenticalUnder}
-use Rattle.go_table_core.specs.Assign.{Assigned, AValue, ANil, AnInteger, AText, ABoolean, IsNamed, IsInterface, IsPointer, IsValueAssignable, identical, alike, implements_it, IsFitting, IsTermAssignable}
+use Rattle.go_table_core.specs.Assign.{Assigned, AValue, ANil, AnInteger, AText, ABoolean, IsInterface, IsPointer, IsValueAssignable, identical, alike, implements_it, IsFitting, IsTermAssignable}
 use Rattle.go_table_core.specs.Laws.{IsReached, AgreeFrom, UnderlyingIsLocal, AssignedAgrees, AssignableIsLocal}
 
 pub alone : (k : DeclKey) → Contains (k ∷ []) k
@@ -91,46 +89,3 @@ assignable_local look other a t implements operand target =
     let both = operand_agrees look other a operand in
     let ts = same_underlying look other t target in
     (moves look other a t (IsTrue implements) both.0 ts, moves other look a t (IsTrue implements) both.1 (sym ts))
-
--- what the code finds of a value of a type
-
-abbrev Fits : EntryLook → Term → Term → Type 0 → Type 0
-Fits look v t implements = IsFitting look (AValue v) t implements
-
-pub value_of_nothing : (look : EntryLook) (v t uv : Term) (implements : Type 0) → uv ≡ underlying_in look v → uv ≡ NoType → IsTrue false ↔ Fits look v t implements
-value_of_nothing look v t uv implements vs none = (λ h. absurd (true≢false (sym h)), λ h. absurd (h.0 (sym vs ∙ none)))
-
-pub value_identical : (look : EntryLook) (v t uv : Term) (implements : Type 0) → uv ≡ underlying_in look v → (uv ≡ NoType → ⊥) → Identical v t → IsTrue true ↔ Fits look v t implements
-value_identical look v t uv implements vs some h = (λ x. (λ none. some (vs ∙ none), identical h), λ x. refl)
-
-pub value_implements : (look : EntryLook) (v t uv ut : Term) (implements : Type 0) → uv ≡ underlying_in look v → (uv ≡ NoType → ⊥) → ut ≡ underlying_in look t → IsInterface ut × implements → IsTrue true ↔ Fits look v t implements
-value_implements look v t uv ut implements vs some ts h = (λ x. (λ none. some (vs ∙ none), implements_it (subst (λ (u : Term). IsInterface u) ts h.0) h.1), λ x. refl)
-
-value_refused : (look : EntryLook) (v t ut : Term) (implements : Type 0) → ut ≡ underlying_in look t → (Identical v t → ⊥) → (IsInterface ut × implements → ⊥) → IsNamed v × IsNamed t → IsValueAssignable look v t implements → ⊥
-value_refused look v t ut implements ts other foreign named (identical h) = other h
-value_refused look v t ut implements ts other foreign named (alike h apart) = apart named
-value_refused look v t ut implements ts other foreign named (implements_it i h) = foreign (subst (λ (u : Term). IsInterface u) (sym ts) i, h)
-
-pub value_named : (look : EntryLook) (v t ut : Term) (implements : Type 0) → ut ≡ underlying_in look t → (Identical v t → ⊥) → (IsInterface ut × implements → ⊥) → IsNamed v × IsNamed t → IsTrue false ↔ Fits look v t implements
-value_named look v t ut implements ts other foreign named = (λ h. absurd (true≢false (sym h)), λ h. absurd (value_refused look v t ut implements ts other foreign named h.1))
-
-value_left : (look : EntryLook) (v t uv ut : Term) (implements : Type 0) → uv ≡ underlying_in look v → ut ≡ underlying_in look t → (Identical v t → ⊥) → (IsInterface ut × implements → ⊥) → IsValueAssignable look v t implements → IdenticalUnder true uv ut
-value_left look v t uv ut implements vs ts other foreign (identical h) = absurd (other h)
-value_left look v t uv ut implements vs ts other foreign (alike h apart) =
-    subst (λ (u : Term). IdenticalUnder true uv u) (sym ts) (subst (λ (u : Term). IdenticalUnder true u (underlying_in look t)) (sym vs) h)
-value_left look v t uv ut implements vs ts other foreign (implements_it i h) = absurd (foreign (subst (λ (u : Term). IsInterface u) (sym ts) i, h))
-
-pub value_alike : (look : EntryLook) (v t uv ut : Term) (implements : Type 0) (r : Bool) → uv ≡ underlying_in look v → (uv ≡ NoType → ⊥) → ut ≡ underlying_in look t → (Identical v t → ⊥) → (IsInterface ut × implements → ⊥) → (IsNamed v × IsNamed t → ⊥) → (IsTrue r ↔ IdenticalUnder true uv ut)
-    → IsTrue r ↔ Fits look v t implements
-value_alike look v t uv ut implements r vs some ts other foreign unnamed same = (
-  λ x. (λ none. some (vs ∙ none), alike (subst (λ (u : Term). IdenticalUnder true (underlying_in look v) u) ts (subst (λ (u : Term). IdenticalUnder true u ut) vs (same.0 x))) unnamed),
-  λ h. same.1 (value_left look v t uv ut implements vs ts other foreign h.1),
-)
-
--- what it finds of an operand
-
-pub no_target : (look : EntryLook) (a : Assigned) (t ut : Term) (implements : Type 0) → ut ≡ underlying_in look t → ut ≡ NoType → IsTrue false ↔ IsTermAssignable look a t implements
-no_target look a t ut implements ts none = (λ h. absurd (true≢false (sym h)), λ h. absurd (h.0 (sym ts ∙ none)))
-
-pub target_fits : (look : EntryLook) (a : Assigned) (t ut : Term) (implements : Type 0) (r : Bool) → ut ≡ underlying_in look t → (ut ≡ NoType → ⊥) → (IsTrue r ↔ IsFitting look a t implements) → IsTrue r ↔ IsTermAssignable look a t implements
-target_fits look a t ut implements r ts some d = (λ x. (λ none. some (ts ∙ none), d.0 x), λ h. d.1 h.1)

@@ -9,9 +9,6 @@ use Rattle.go_table_core.specs.declared.entry.TypeEntry.{TypeEntry}
 use Rattle.std.specs.Global.{Global}
 use Rattle.std.specs.declared.sync.Arc.{Arc}
 use Rattle.go_settle_core.specs.decl_core.declared.keys.DeclKey.{DeclKey}
-use Rattle.go_table_core.specs.declared.assign.Operand.{Operand}
-use Rattle.go_table_core.specs.declared.assign.Operand.TheVariants as operands
-use Rattle.go_table_core.specs.Assign.{Assigned, AValue, ANil, AnInteger, AText, ABoolean}
 use Rattle.go_term_core.specs.Terms.{Term, NoType, StructOf, Fields, NoField, AField}
 use Rattle.go_table_core.specs.Entries.{Member, Entry, has_method}
 
@@ -36,14 +33,6 @@ hides_some path ms _ = false
 -- where a type is marked to hide nothing, none of its methods has the identifier of a field
 abbrev pub HidesRightly : Bool → Entry → Type 0
 HidesRightly hides e = (hides ≡ false) → hides_some e.key.path e.methods e.term ≡ false
-
--- what an operand is
-abbrev pub assigned_shown : Operand → Assigned
-assigned_shown (operands.Value t) = AValue (shape t.now)
-assigned_shown operands.Nil = ANil
-assigned_shown operands.Integer = AnInteger
-assigned_shown operands.Text = AText
-assigned_shown operands.Boolean = ABoolean
 
 -- the line that a field may have
 abbrev pub line_shown : Option (Bor FieldLine) → Line

@@ -14,7 +14,7 @@ mod laws;
 mod table;
 
 pub use alike::{identical_under, identical_under_but_for_tags};
-pub use assign::{Operand, assignable, is_named_type};
+pub use assign::is_named_type;
 pub use entry::{DeclaredMethod, DefinedType, TypeEntry};
 pub use fields::{FieldTable, StructField, StructFields, term_fields};
 pub use indexed::IndexedTerm;

@@ -16,9 +16,7 @@ mod settled;
 
 pub use build::{TypeFault, build_types};
 pub use go_table_core::settle_core::{Kind, Kinds, can_embed, kind_of, settle, settle_signature};
-pub use go_table_core::{
-    DeclaredMethod, DefinedType, Located, Operand, PackageTypes, TypeEntry, TypeTable, assignable,
-};
+pub use go_table_core::{DeclaredMethod, DefinedType, Located, PackageTypes, TypeEntry, TypeTable};
 pub use go_term_core::{
     Basic, Field, LocalPlace, MemberPlace, Method, Signature, Tag, TypeTerm, has_same_signature,
     identical, identical_but_for_tags,
