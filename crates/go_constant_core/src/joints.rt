@@ -7,7 +7,7 @@ use go_token_core::text_core::add;
 use std::alloc::{AllocError, Global};
 
 /// How many bytes a piece has at most that is made of two.
-pub(crate) const PIECE: usize = 1024;
+pub(crate) const PIECE: usize = 4096;
 
 /// How many pieces a block has at most that is made of two.
 const BLOCK: usize = 64;
