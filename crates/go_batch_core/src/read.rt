@@ -3,7 +3,7 @@ ghost use Rattle.std.specs.Prelude.{◌≡◌, ◌↔◌, IfOk, IfSome, IsTrue};
 ghost use Rattle.go_snap_core.specs.graph_core.Workspaces.{AreAllRead};
 ghost use Rattle.go_snap_core.specs.part_core.Parts.{IsPart};
 
-use go_snap_core::part_core::{Part, PartInput, compile_part};
+use go_snap_core::part_core::{Part, PartInput, compile_part_in};
 use std::alloc::{AllocError, Global};
 use std::marker::Model;
 
@@ -135,7 +135,8 @@ fn is_made(part: &ReadPart, input: &ReadInput)
     let _made = part.get().content();
 }
 
-/// The part of an input: an earlier one, shared, where that was made of the same input, else one that is compiled.
+/// The part of an input: an earlier one, shared, where that was made of the same input, else one that is compiled, which says that it was made in this
+/// generation.
 ///
 /// # Errors
 ///
@@ -144,6 +145,7 @@ pub fn rebuild(
     alloc: Global,
     input: &ReadInput,
     earlier: Option<&ReadPart>,
+    generation: u64,
 ) -> Result<ReadPart, AllocError>
     ensures input { IfOk result (λ p. p.input ≡ input.now) }
     ensures made { IfOk result (λ p. IsPart input.now p.content) }
@@ -152,6 +154,6 @@ pub fn rebuild(
         is_made(&part, input);
         return Ok(part);
     }
-    let part = compile_part(alloc, input.get())?;
+    let part = compile_part_in(alloc, input.get(), generation)?;
     Ok(ReadPart::new(part))
 }

@@ -45,7 +45,7 @@ impl Gate for OpenGate {
         } else {
             action.earlier.as_ref()
         };
-        match rebuild(alloc, &action.input, earlier) {
+        match rebuild(alloc, &action.input, earlier, action.generation) {
             Ok(part) => Ok(Some(part)),
             Err(_) => Err(Rule::M0),
         }

@@ -60,7 +60,8 @@ pub mod package_core {
 /// What the crates above name of `go_part_core`.
 pub mod part_core {
     pub use go_whole_core::part_core::{
-        Part, PartFile, PartInput, Parts, compile_part, one_part, part_has_occurrences, types_of,
+        Part, PartFile, PartInput, Parts, compile_part, compile_part_in, one_part,
+        part_has_occurrences, types_of,
     };
 }
 

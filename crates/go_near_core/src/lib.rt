@@ -59,7 +59,7 @@ pub mod package_core {
 /// What the crates above name of `go_part_core`.
 pub mod part_core {
     pub use go_emit_core::part_core::{
-        Part, PartFile, PartInput, Parts, compile_over, compile_part, one_part,
+        Part, PartFile, PartInput, Parts, compile_over, compile_part, compile_part_in, one_part,
         part_has_occurrences, same_imports, types_of,
     };
 }

@@ -17,7 +17,7 @@ pub use content::{PackageContent, compile_over};
 pub use files::PartFile;
 pub use input::PartInput;
 pub use laws::{one_part, part_has_its_path, part_has_occurrences};
-pub use part::{Part, compile_part, types_of};
+pub use part::{Part, compile_part, compile_part_in, types_of};
 pub use parts::Parts;
 pub use same::same_imports;
 

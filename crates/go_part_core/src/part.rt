@@ -14,20 +14,24 @@ use std::alloc::{AllocError, Global};
 use std::marker::Model;
 use std::sync::Arc;
 
+// What is shared of a part.
+#[derive(Drop)]
+struct Made {
+    input: PartInput,
+    content: PackageContent,
+    generation: u64,
+}
+
 /// What one package has by its input alone: what each occurrence of its files has, its faults, the locals of its functions, and what it tells those
-/// that import it. A handle over shared pointers. Its content is what its input gives: no part says of a package what is not so. Contracts see
+/// that import it. A handle over one shared pointer. Its content is what its input gives: no part says of a package what is not so. Contracts see
 /// the input and the content.
 pub struct Part {
-    input: PartInput,
-    content: Arc<PackageContent>,
+    made: Arc<Made>,
 }
 
 impl Drop for Part {
     fn drop(self) {
-        let Part {
-            input: _,
-            content: _,
-        } = self;
+        let Part { made: _ } = self;
     }
 }
 
@@ -44,13 +48,13 @@ impl Model for Part {
 
     ghost coded = { Prim.hlevel (codes, coded_input, coded_blocks, coded_face, coded_operand, coded_summary) };
 
-    ghost view = { λ p. part_with p.input (part_content_shown (arc_value p.content)) };
+    ghost view = { λ p. part_with (arc_value p.made).input (part_content_shown (arc_value p.made).content) };
 
-    ghost invariant = { λ p. IsPart p.input (part_content_shown (arc_value p.content)) };
+    ghost invariant = { λ p. IsPart (arc_value p.made).input (part_content_shown (arc_value p.made).content) };
 }
 
 impl Part {
-    /// The part of an input, with what the input gives.
+    /// The part of an input, with what the input gives. It is made in generation 0 (`made_in`).
     ///
     /// # Errors
     ///
@@ -59,8 +63,28 @@ impl Part {
         requires { IsPart input (part_content_shown content) }
         ensures { IfOk result (λ p. p ≡ part_with input (part_content_shown content)) }
     {
-        let content = Arc::new(alloc, content)?;
-        Ok(Part { input, content })
+        let part = Part::of_generation(alloc, input, content, 0)?;
+        Ok(part)
+    }
+
+    // The same, made in a generation.
+    fn of_generation(
+        alloc: Global,
+        input: PartInput,
+        content: PackageContent,
+        generation: u64,
+    ) -> Result<Part, AllocError>
+        requires { IsPart input (part_content_shown content) }
+        ensures { IfOk result (λ p. p ≡ part_with input (part_content_shown content)) }
+    {
+        let made = Made {
+            input,
+            content,
+            generation,
+        };
+        Ok(Part {
+            made: Arc::new(alloc, made)?,
+        })
     }
 
     /// The same part once more. It takes no memory.
@@ -71,23 +95,28 @@ impl Part {
     pub fn share(&self) -> Result<Part, AllocError>
         ensures { IfOk result (λ p. p ≡ self.now) }
     {
-        let input = self.input.share()?;
-        let content = Arc::try_clone(&self.content)?;
-        Ok(Part { input, content })
+        Ok(Part {
+            made: Arc::try_clone(&self.made)?,
+        })
+    }
+
+    /// The generation that the part was compiled in: the one handed to `compile_part_in`, 0 where none was. No contract says so, and nothing rests on it.
+    pub fn made_in(&self) -> u64 {
+        self.made.generation
     }
 
     /// What the part was made from.
     pub fn input(&self) -> &PartInput
         ensures { result.now ≡ self.now.input }
     {
-        &self.input
+        &self.made.input
     }
 
     /// The path of the package.
     pub fn path(&self) -> &ImportPath
         ensures { result.now ≡ path_in self.now.input }
     {
-        self.input.path()
+        self.input().path()
     }
 
     /// What the package has. It is what the input gives.
@@ -95,14 +124,14 @@ impl Part {
         ensures value { part_content_shown result.now ≡ self.now.content }
         ensures made { IsPart self.now.input self.now.content }
     {
-        &self.content
+        &self.made.content
     }
 
     /// What the package tells those that reach it by imports.
     pub fn summary(&self) -> &Summary
         ensures { result.now ≡ self.now.content.summary }
     {
-        &self.content.summary
+        &self.made.content.summary
     }
 
     /// Adds what the package tells to what others tell.
@@ -129,11 +158,28 @@ pub fn compile_part(alloc: Global, input: &PartInput) -> Result<Part, AllocError
     ensures input { IfOk result (λ p. p.input ≡ input.now) }
     ensures made { IfOk result (λ p. IsPart input.now p.content) }
 {
+    let part = compile_part_in(alloc, input, 0)?;
+    Ok(part)
+}
+
+/// The same part, which says that it was made in a generation.
+///
+/// # Errors
+///
+/// `AllocError` where memory is wanting.
+pub fn compile_part_in(
+    alloc: Global,
+    input: &PartInput,
+    generation: u64,
+) -> Result<Part, AllocError>
+    ensures input { IfOk result (λ p. p.input ≡ input.now) }
+    ensures made { IfOk result (λ p. IsPart input.now p.content) }
+{
     let summaries = input.reached().list(alloc)?;
     let mut seen = view_of(alloc, &summaries)?;
     let content = compile_over(alloc, input, &mut seen)?;
     let shared = input.share()?;
-    let part = Part::new(alloc, shared, content)?;
+    let part = Part::of_generation(alloc, shared, content, generation)?;
     Ok(part)
 }
 

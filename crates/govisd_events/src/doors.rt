@@ -79,7 +79,8 @@ impl Gate for Doors {
             return Ok(None);
         }
         self.await_open();
-        match rebuild(alloc, &action.input, action.earlier.as_ref()) {
+        let earlier = action.earlier.as_ref();
+        match rebuild(alloc, &action.input, earlier, action.generation) {
             Ok(part) => Ok(Some(part)),
             Err(AllocError) => Err(Rule::M0),
         }

@@ -9,6 +9,7 @@
 //! | `finish N`, `finish N by K` | the end of the action `N`, by a part of its input, or of the input of the action `K` |
 //! | `keep N` | the end of the action `N` by the part that the core has itself |
 //! | `ticket T`, `board` | where a submission stands; the published batches, with their packages and faults |
+//! | `generations` | the packages of the last batch, each with the generation that its part was compiled in |
 //! | `fill M` | how often another core opens the module and closes it again until its history is full |
 //! | `make M`, `make M packages COUNT`, `make M files COUNT`, `make M bytes COUNT` | whether the archive behind the line can be a tree of the module; or so many packages, files of one package, or bytes of one text |
 //!

@@ -1,6 +1,6 @@
 //! Lists of events.
 use crate::trees::{add_made, tree_of};
-use crate::words::{add_board, add_reply, add_ticket};
+use crate::words::{add_board, add_generations, add_reply, add_ticket};
 use go_hall_core::submit_core::Ticket;
 use go_path_core::Module;
 use go_sched_core::batch_core::{ReadPart, rebuild};
@@ -51,7 +51,8 @@ fn action_of<'a>(actions: &'a [Action], number: &str) -> Option<&'a Action> {
 /// A part of the input of an action.
 fn part_of(alloc: Global, actions: &[Action], number: &str) -> Option<ReadPart> {
     let action = action_of(actions, number)?;
-    rebuild(alloc, &action.input, action.earlier.as_ref()).ok()
+    let earlier = action.earlier.as_ref();
+    rebuild(alloc, &action.input, earlier, action.generation).ok()
 }
 
 /// Ends an action by the part that the core has itself, where it has one.
@@ -192,6 +193,7 @@ impl Bench {
                 add_ticket(out, self.core.ticket(ticket));
             }
             "board" => add_board(out, &self.core),
+            "generations" => add_generations(out, &self.core),
             "fill" => add_filled(out, self.alloc, command.first),
             "make" => add_made(
                 out,

@@ -82,6 +82,21 @@ pub(crate) fn add_board(out: &mut Lines, core: &Core) {
     }
 }
 
+/// Adds the number of the last batch and its packages in a line, each with the generation that its part was compiled in.
+pub(crate) fn add_generations(out: &mut Lines, core: &Core) {
+    let batches = core.batches();
+    out.count("batch ", batches.len(), "");
+    if let Some(batch) = batches.get(batches.len().wrapping_sub(1)) {
+        for slot in batch.snapshot.get().parts() {
+            if let Some(part) = slot {
+                out.pieces(&[" ", part.path().as_str()]);
+                out.count(" made in ", part.made_in() as usize, "");
+            }
+        }
+    }
+    out.add("\n");
+}
+
 /// The kind of an event, as it is counted.
 fn kind_of(event: &Event) -> &'static str {
     match event {

@@ -91,12 +91,31 @@ pub fn add_same(out: &mut Lines, alloc: Global, word: &str, shot: &Shot<'_>, oth
     out.compare(word, first, second);
 }
 
+/// Whether parts are made in no generation, as those are that are compiled alone.
+fn are_alone(parts: &[Option<Part>]) -> bool {
+    for slot in parts {
+        if let Some(part) = slot {
+            if part.made_in() != 0 {
+                return false;
+            }
+        }
+    }
+    true
+}
+
 /// Adds what a workspace has, its faults, and whether a join of its parts has the same.
 pub fn add_snapshot(out: &mut Lines, alloc: Global, shot: &Shot<'_>) {
     add_counts(out, shot.snapshot.sources());
     add_faults(out, shot.named, shot.snapshot.faults(), "fault ", None);
     match joined(alloc, shot.snapshot) {
-        Ok(other) => add_same(out, alloc, "joined", shot, &other),
+        Ok(other) => {
+            let word = if are_alone(other.parts()) {
+                "joined"
+            } else {
+                "joined of parts of generations"
+            };
+            add_same(out, alloc, word, shot, &other)
+        }
         Err(AllocError) => out.cut(),
     }
 }

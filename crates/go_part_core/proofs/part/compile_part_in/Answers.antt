@@ -4,7 +4,7 @@ use Rattle.go_package_core.specs.summary_core.Views.{PathsAreApart, exports_told
 use Rattle.go_part_core.specs.Inputs.{InputModel, path_in}
 use Rattle.go_part_core.specs.Parts.{ContentOf, IsPart, PartModel, part_content_shown}
 use Rattle.go_part_core.proofs.Seen.{others_told, part_is}
-use Rattle.go_part_core.proofs.part.compile_part.Goals as goal
+use Rattle.go_part_core.proofs.part.compile_part_in.Goals as goal
 
 pub view_of-requires : goal.view_of-requires
 view_of-requires c =
@@ -16,8 +16,8 @@ compile_over-requires c =
     let told : c.deref.result.now ≡ c.args.input.now.reached = c.deref.ensures.value ∙ (c.in_ok-summaries.ensures ∙ c.reached.ensures.value) in
     subst (AreOthers (path_in c.args.input.now)) (sym (c.in_ok-seen.ensures.types ∙ ap types_told told)) (others_told c.args.input.now c.reached.ensures.well)
 
-pub new-requires : goal.new-requires
-new-requires c =
+pub of_generation-requires : goal.of_generation-requires
+of_generation-requires c =
     let seen = c.in_ok-seen.seen in
     let told : c.deref.result.now ≡ c.args.input.now.reached = c.deref.ensures.value ∙ (c.in_ok-summaries.ensures ∙ c.reached.ensures.value) in
     subst (λ (i : InputModel). IsPart i (part_content_shown c.in_ok-content.content)) (sym c.in_ok-shared.ensures)
