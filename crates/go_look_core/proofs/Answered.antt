@@ -25,3 +25,7 @@ refuses own path board Answers rule s inside found answer = inr (inr (inside, la
 -- the same of a look
 pub refuses_look : {X : Type 0} (look : Looked) (own path : List ℕ) (board : List PublishedBatch) (Answers : SnapshotModel → Result X Rule → Type 0) (rule : Rule) (s : SnapshotModel) → is_path_inside own path ≡ true → ((b : PublishedBatch) × (last_of board ≡ Some b) × IsOneWorker (sources_of board) b.snapshot × (s ≡ b.snapshot)) → Answers s (Err rule) → looked_with own board ≡ look → IsAnswer {X = X} look.own path look.board Answers (Err rule)
 refuses_look look own path board Answers rule s inside found answer is = subst (λ (l : Looked). IsAnswer l.own path l.board Answers (Err rule)) is (refuses own path board Answers rule s inside found answer)
+
+pub answers_look : {X : Type 0} (look : Looked) (own path : List ℕ) (board : List PublishedBatch) (Answers : SnapshotModel → Result X Rule → Type 0) (n : ℕ) (x : X) (s : SnapshotModel) → is_path_inside own path ≡ true → n ≡ length look.board → ((b : PublishedBatch) × (last_of board ≡ Some b) × IsOneWorker (sources_of board) b.snapshot × (s ≡ b.snapshot)) → Answers s (Ok x) → looked_with own board ≡ look → IsAnswer look.own path look.board Answers (Ok (n, x))
+answers_look look own path board Answers n x s inside many found answer is =
+    subst (λ (l : Looked). n ≡ length l.board → IsAnswer l.own path l.board Answers (Ok (n, x))) is (λ m. answers own path board Answers n x s inside m found answer) many

@@ -2,3 +2,4 @@ pub mod Answered
 pub mod Insides
 pub mod Lasts
 pub mod Listed
+pub mod Running

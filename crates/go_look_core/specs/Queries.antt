@@ -1,4 +1,4 @@
--- What sessions ask beside parts: listings, docs and definitions, by the snapshot of the last batch.
+-- What sessions ask beside parts: listings, docs, definitions and runs, by the snapshot of the last batch.
 use Rattle.std.specs.Prelude.{◌≡◌, ◌⊎◌, ℕ, List, Result, Ok, Err, string_bytes}
 use Rattle.std.specs.declared.alloc.Global.{Global}
 use Rattle.std.specs.declared.string.String.{String}
@@ -6,10 +6,17 @@ use Rattle.std.specs.declared.vec.Vec.{Vec}
 use Rattle.go_type_doc_core.specs.place_core.Completions.{texts_of}
 use Rattle.go_type_doc_core.specs.query_core.Completing.{IsCompletion, IsUnasked}
 use Rattle.go_text_core.specs.declared.rule.Rule.{Rule}
-use Rattle.go_text_core.specs.declared.rule.Rule.TheVariants.{M0, Q1}
+use Rattle.go_text_core.specs.declared.rule.Rule.TheVariants.{M0, Q1, J1, J2, Z1}
 use Rattle.go_site_core.specs.handle_core.Declarations.{Declaration}
 use Rattle.go_site_core.specs.Sites.{site_text}
-use Rattle.go_type_doc_core.specs.snap_core.Snapshots.{SnapshotModel}
+use Rattle.go_run_core.specs.link_core.Linked.{HasNoMain, IsBeyond, ProgramOf, program_of}
+use Rattle.go_run_core.specs.Runs.{GetsStuck, Gives, run_shown}
+use Rattle.go_run_core.specs.declared.outcome.Run.{Run}
+use Rattle.go_launch_core.specs.Located.{place_declared}
+use Rattle.go_snap_core.specs.emit_core.Emitted.{objects_of}
+use Rattle.go_snap_core.specs.part_core.Slots.{somes}
+use Rattle.go_board_core.specs.part_core.Parts.{PartModel}
+use Rattle.go_type_doc_core.specs.snap_core.Snapshots.{IsPartAt, SnapshotModel}
 use Rattle.go_type_doc_core.specs.query_core.Defining.{HasNoPart, IsDefinition, IsRefusal}
 use Rattle.go_type_doc_core.specs.query_core.Documenting.{IsDoc, IsDocRefusal, doc_shown}
 use Rattle.go_type_doc_core.specs.query_core.Listing.{IsListing}
@@ -42,3 +49,23 @@ IsCompleteAnswer path file offset s (Err rule) = (rule ≡ M0) ⊎ IsUnasked s p
 abbrev pub IsTypeDocAnswer : List ℕ → List ℕ → List ℕ → SnapshotModel → Result TypeDoc Rule → Type 0
 IsTypeDocAnswer from path type_name s (Ok d) = IsTypeDoc s from path type_name (type_doc_shown d)
 IsTypeDocAnswer from path type_name s (Err rule) = (rule ≡ M0) ⊎ IsTypeDocRefusal s from path type_name rule
+
+-- ---- runs
+
+-- the program of the package of a path, from the objects of all packages
+abbrev pub program_in : SnapshotModel → List ℕ → ProgramOf
+program_in s path = program_of place_declared (objects_of (somes s.parts)) path
+
+-- the rule of a program that is not run: it has no `main`; or it reaches what cannot be run; or its code lacks what an instruction asks for, as none
+-- does that is made of a source
+abbrev pub IsRunRefusal : ProgramOf → ℕ → Rule → Type 0
+IsRunRefusal p steps rule = ((rule ≡ J1) × HasNoMain p) ⊎ (((rule ≡ J2) × IsBeyond p) ⊎ ((rule ≡ Z1) × GetsStuck p steps))
+
+-- there is an assembled package of the path
+abbrev pub HasPartAt : SnapshotModel → List ℕ → Type 0
+HasPartAt s path = (p : PartModel) × IsPartAt s.sources s.parts path p
+
+-- what the assembled package of a path comes to in so many steps
+abbrev pub IsRunAnswer : List ℕ → ℕ → SnapshotModel → Result Run Rule → Type 0
+IsRunAnswer path steps s (Ok run) = HasPartAt s path × Gives (program_in s path) steps (run_shown run)
+IsRunAnswer path steps s (Err rule) = (rule ≡ M0) ⊎ (((rule ≡ Q1) × HasNoPart s path) ⊎ (HasPartAt s path × IsRunRefusal (program_in s path) steps rule))

@@ -1,16 +1,19 @@
 //! What sessions ask of a board that they have entered.
-ghost use Rattle.std.specs.Prelude.{◌≡◌, [], IfErr, IfOk, Some, length};
+ghost use Rattle.std.specs.Prelude.{◌≡◌, ◌⊎◌, [], IfErr, IfOk, Some, length};
 ghost use Rattle.go_board_core.specs.submit_core.Published.{IsOneWorker, last_of, sources_of};
 ghost use Rattle.go_board_core.specs.submit_core.declared.published.PublishedBatch.{PublishedBatch};
 ghost use Rattle.go_look_core.specs.Asked.{IsAnswer, IsPartAnswer};
-ghost use Rattle.go_look_core.specs.Queries.{IsCompleteAnswer, IsDefineAnswer, IsDocAnswer, IsListAnswer, IsTypeDocAnswer};
+ghost use Rattle.go_run_core.specs.Runs.{Gives, run_shown};
+ghost use Rattle.go_look_core.specs.Queries.{IsCompleteAnswer, IsDefineAnswer, IsDocAnswer, IsListAnswer, IsRunAnswer, IsRunRefusal, IsTypeDocAnswer, program_in};
 ghost use Rattle.go_look_core.specs.Looked.{looked_with};
 
 use crate::shown::last_batch;
 use go_board_core::Board;
 use go_board_core::draft_core::asked_path;
 use go_board_core::part_core::Part;
+use go_launch_core::run;
 use go_path_core::{ImportPath, Module};
+use go_run_core::Run;
 use go_site_core::site_text_of;
 use go_text_core::Rule;
 use go_type_doc_core::query_core::{Listing, PackageDoc, complete, define, doc, list};
@@ -116,6 +119,37 @@ fn type_documented<'s>(
     match doc_of_type(alloc, snapshot, from, path, type_name) {
         Ok(found) => Ok(found),
         Err(rule) => Err(rule),
+    }
+}
+
+// What the program of the package of a path comes to in so many steps.
+#[tactic(auto, using(crate::proofs::Running::gives_same, crate::proofs::Running::refused_same))]
+fn run_program(
+    alloc: Global,
+    snapshot: &Snapshot,
+    path: &ImportPath,
+    steps: u64,
+) -> Result<Run, Rule>
+    ensures ok { IfOk result (λ run. Gives (program_in snapshot.now path.now) steps (run_shown run)) }
+    ensures err { IfErr result (λ rule. (rule ≡ Rule.M0) ⊎ IsRunRefusal (program_in snapshot.now path.now) steps rule) }
+{
+    let Ok(objects) = snapshot.objects(alloc) else {
+        return Err(Rule::M0);
+    };
+    match run(alloc, &objects, path, steps) {
+        Ok(run) => Ok(run),
+        Err(rule) => Err(rule),
+    }
+}
+
+// What the assembled package of a path comes to in so many steps.
+#[tactic(auto, using(crate::proofs::Running::run_answered))]
+fn ran(alloc: Global, snapshot: &Snapshot, path: &ImportPath, steps: u64) -> Result<Run, Rule>
+    ensures { IsRunAnswer path.now steps snapshot.now result }
+{
+    match snapshot.part(path) {
+        Some(_) => run_program(alloc, snapshot, path, steps),
+        None => Err(Rule::Q1),
     }
 }
 
@@ -283,6 +317,26 @@ impl Look {
         let snapshot = last_snapshot(&self.board)?;
         match type_documented(alloc, snapshot, &from, path, type_name) {
             Ok(found) => Ok((self.batches(), found)),
+            Err(rule) => Err(rule),
+        }
+    }
+
+    /// What the package of a path comes to in at most so many steps, one for each instruction, by the last batch, with the number of batches that this
+    /// covers. The time is linear in the workspace and in the steps.
+    ///
+    /// # Errors
+    ///
+    /// `Rule::Q4` where the path lies outside the module; `Rule::Q1` where no assembled package has it; `Rule::J1` where there is a fault in the package,
+    /// or it is not called `main`, or has no function `main`; `Rule::J2` where there is a fault in a package that it reaches by imports, or it reaches a
+    /// function of which no code is made. `Rule::M0` where memory is wanting. `Rule::Z1` where an instruction lacks what it asks for.
+    #[tactic(auto, using(crate::proofs::Answered::answers, crate::proofs::Answered::refuses))]
+    pub fn run(&self, alloc: Global, path: &str, steps: u64) -> Result<(u64, Run), Rule>
+        ensures { IsAnswer self.now.own path.now self.now.board (IsRunAnswer path.now steps) result }
+    {
+        let path = asked_path(alloc, &self.own, path)?;
+        let snapshot = last_snapshot(&self.board)?;
+        match ran(alloc, snapshot, &path, steps) {
+            Ok(run) => Ok((self.batches(), run)),
             Err(rule) => Err(rule),
         }
     }

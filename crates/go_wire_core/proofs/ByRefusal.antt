@@ -7,9 +7,9 @@ use Rattle.serde_json.specs.Find.{as_str, get_member}
 use Rattle.go_text_core.specs.declared.rule.Rule.{Rule}
 use Rattle.go_text_core.specs.declared.rule.Rule.TheVariants.{V2, V3}
 use Rattle.go_wire_core.specs.declared.request.Command.{Command}
-use Rattle.go_wire_core.specs.declared.request.Command.TheVariants.{Open, Edit, Build, List as ListOf, Doc, Complete, Define, Close}
+use Rattle.go_wire_core.specs.declared.request.Command.TheVariants.{Open, Edit, Build, List as ListOf, Doc, Complete, Define, Run, Close}
 use Rattle.go_wire_core.specs.declared.step.Step.TheVariants.{Refuse}
-use Rattle.go_wire_core.specs.Requests.{Reading, asked, asked_by, asked_of, docs, edits, finished, known, lists, named, object_of, opens, places, reading_of, session_of, without}
+use Rattle.go_wire_core.specs.Requests.{Reading, asked, asked_by, asked_of, docs, edits, finished, known, lists, named, object_of, opens, places, reading_of, runs, session_of, without}
 use Rattle.go_wire_core.specs.Table.{AreOfNoCommand, IsBy, IsOfSession, NamesNoCommand, RefusesByTable, name_of}
 use Rattle.go_wire_core.proofs.ByTable.{and_then_is, session_is, session_there, text_back}
 
@@ -26,6 +26,7 @@ is_read (ListOf from) ms h = some_none (lists ms) h
 is_read (Doc from path type_name) ms h = some_none (docs ms) h
 is_read (Complete path file offset) ms h = some_none (places Complete ms) h
 is_read (Define path file offset) ms h = some_none (places Define ms) h
+is_read (Run path steps) ms h = some_none (runs ms) h
 is_read Close ms h = some_none {A = Reading} (Some (Close, ms)) h
 
 not_equal : (a b : List ℕ) → a ≢ b → bytes_eq a b ≡ false
@@ -44,8 +45,9 @@ not_read name ms h =
     let doc = not_equal name (codes "doc") (h (Doc [] [] None)) in
     let complete = not_equal name (codes "complete") (h (Complete [] [] 0)) in
     let define = not_equal name (codes "define") (h (Define [] [] 0)) in
+    let run = not_equal name (codes "run") (h (Run [] 0)) in
     let close = not_equal name (codes "close") (h Close) in
-    rw (open', edit, build, list, doc, complete, define, close) refl
+    rw (open', edit, build, list, doc, complete, define, run, close) refl
 
 -- ---- what a refusal comes from
 

@@ -6,12 +6,12 @@ use Rattle.std.proofs.lemmas.Slice.Eq.{bytes_eq-Decides}
 use Rattle.serde_json.specs.Data.{Data, null, boolean, number, unsigned, negative, float, string, array, object, Members, no_members, member}
 use Rattle.serde_json.specs.Find.{as_str, get_member}
 use Rattle.go_wire_core.specs.declared.request.Command.{Command}
-use Rattle.go_wire_core.specs.declared.request.Command.TheVariants.{Open, Edit, Build, List as ListOf, Doc, Complete, Define, Close}
+use Rattle.go_wire_core.specs.declared.request.Command.TheVariants.{Open, Edit, Build, List as ListOf, Doc, Complete, Define, Run, Close}
 use Rattle.go_wire_core.specs.declared.request.Request.{Request}
 use Rattle.go_wire_core.specs.declared.step.Step.TheVariants.{Ask, Refuse}
 use Rattle.go_wire_core.specs.declared.step.Step.{Step}
-use Rattle.go_wire_core.specs.Requests.{IsFor, IsStepFor, Reading, as_count, as_session, as_text_or_null, asked, asked_by, asked_of, count_at, docs, docs_of, edits, finished, first, first_with, is_over, known, lists, named, object_of, opens, places, reading_of, session_of, step_of, text_at, text_or_null_at, without}
-use Rattle.go_wire_core.specs.Table.{AreOf, AreOfRequest, AsksByTable, if_given, name_of, others, text_or_null}
+use Rattle.go_wire_core.specs.Requests.{IsFor, IsStepFor, Reading, as_count, as_session, as_steps, as_text_or_null, asked, asked_by, asked_of, count_at, docs, docs_of, edits, finished, first, first_with, is_over, known, lists, most_steps, named, object_of, opens, places, reading_of, runs, session_of, step_of, steps_at, text_at, text_or_null_at, without}
+use Rattle.go_wire_core.specs.Table.{AreOf, AreOfRequest, AsksByTable, HasFewSteps, if_given, name_of, others, text_or_null}
 
 -- ---- what an option comes from
 
@@ -61,6 +61,18 @@ count_back (string s) n h = cc
 count_back (array ds) n h = cc
 count_back (object ms) n h = cc
 
+in_range : (most : ℕ) (a b : Bool) (m n : ℕ) → nat_le 1 m ≡ a → nat_le m most ≡ b → cond (a && b) (Some m) None ≡ Some n → (m ≡ n) × (1 ≤ m) × (m ≤ most)
+in_range most true true m n x y h = (cc, leb-true 1 m x, leb-true m most y)
+in_range most true false m n x y h = cc
+in_range most false true m n x y h = cc
+in_range most false false m n x y h = cc
+
+steps_back : (d : Data) (n : ℕ) → as_steps d ≡ Some n → (d ≡ number (unsigned n)) × (1 ≤ n) × (n ≤ most_steps)
+steps_back d n h =
+    let m = and_then_is (λ m. cond (nat_le 1 m && nat_le m most_steps) (Some m) None) (as_count d) n h in
+    let r = in_range most_steps (nat_le 1 m.0) (nat_le m.0 most_steps) m.0 n refl refl m.2 in
+    (count_back d m.0 m.1 ∙ ap (λ k. number (unsigned k)) r.0, subst (λ k. 1 ≤ k) r.0 r.1, subst (λ k. k ≤ most_steps) r.0 r.2)
+
 text_or_null_back : (d : Data) (t : Option (List ℕ)) → as_text_or_null d ≡ Some t → d ≡ text_or_null t
 text_or_null_back null t h = let same : None ≡ t = cc in ap text_or_null same
 text_or_null_back (boolean b) t h = cc
@@ -75,6 +87,16 @@ text_is = with_is as_str string text_back
 count_is : (key : List ℕ) (ms : Members) (x : ℕ × Members) → count_at key ms ≡ Some x → ms ≡ member key (number (unsigned x.0)) x.1
 count_is = with_is as_count (λ n. number (unsigned n)) count_back
 
+steps_is : (key : List ℕ) (ms : Members) (x : ℕ × Members) → steps_at key ms ≡ Some x → ms ≡ member key (number (unsigned x.0)) x.1
+steps_is = with_is as_steps (λ n. number (unsigned n)) (λ d n h. (steps_back d n h).0)
+
+steps_in_range : (key : List ℕ) (ms : Members) (x : ℕ × Members) → steps_at key ms ≡ Some x → (1 ≤ x.0) × (x.0 ≤ most_steps)
+steps_in_range key ms x h =
+    let p = and_then_is (λ m. option_map (λ a. (a, m.1)) (as_steps m.0)) (first key ms) x h in
+    let q = map_is (λ a. (a, p.0.1)) (as_steps p.0.0) x p.2 in
+    let b = steps_back p.0.0 q.0 q.1 in
+    (subst (λ (y : ℕ × Members). 1 ≤ y.0) q.2 b.1, subst (λ (y : ℕ × Members). y.0 ≤ most_steps) q.2 b.2)
+
 text_or_null_is : (key : List ℕ) (ms : Members) (x : Option (List ℕ) × Members) → text_or_null_at key ms ≡ Some x → ms ≡ member key (text_or_null x.0) x.1
 text_or_null_is = with_is as_text_or_null text_or_null text_or_null_back
 
@@ -84,6 +106,7 @@ text_or_null_is = with_is as_text_or_null text_or_null text_or_null_back
 pub record Reads (name : List ℕ) (ms : Members) (command : Command) (rest : Members) : Type 0 where
   pub named' : name_of command ≡ name
   pub members : rest ≡ no_members → ms ≡ others command
+  pub steps : HasFewSteps command
 
 reads_as : (name : List ℕ) (ms : Members) (x : Command × Members) (command : Command) (rest : Members) → Reads name ms x.0 x.1 → x ≡ (command, rest) → Reads name ms command rest
 reads_as name ms x command rest h same = subst (λ (y : Command × Members). Reads name ms y.0 y.1) same h
@@ -92,7 +115,7 @@ opens_is : (ms : Members) (command : Command) (rest : Members) → opens ms ≡ 
 opens_is ms command rest h =
     let m = map_is (λ m. (Open m.0, m.1)) (text_at (codes "module") ms) (command, rest) h in
     reads_as (codes "open") ms (Open m.0.0, m.0.1) command rest
-    (record { named' = refl; members = λ over. text_is (codes "module") ms m.0 m.1 ∙ ap (λ l. member (codes "module") (string m.0.0) l) over }) m.2
+    (record { named' = refl; members = λ over. text_is (codes "module") ms m.0 m.1 ∙ ap (λ l. member (codes "module") (string m.0.0) l) over; steps = tt }) m.2
 
 edits_is : (ms : Members) (command : Command) (rest : Members) → edits ms ≡ Some (command, rest) → Reads (codes "edit") ms command rest
 edits_is ms command rest h =
@@ -106,13 +129,14 @@ edits_is ms command rest h =
           text_is (codes "file") ms f.0 f.1 ∙ (ap (λ l. member (codes "file") (string f.0.0) l) (text_is (codes "path") f.0.1 p.0 p.1)
           ∙ (ap (λ l. member (codes "file") (string f.0.0) (member (codes "path") (string p.0.0) l)) (text_or_null_is (codes "text") p.0.1 t.0 t.1)
           ∙ ap (λ l. member (codes "file") (string f.0.0) (member (codes "path") (string p.0.0) (member (codes "text") (text_or_null t.0.0) l))) over));
+      steps = tt;
     }) t.2
 
 lists_is : (ms : Members) (command : Command) (rest : Members) → lists ms ≡ Some (command, rest) → Reads (codes "list") ms command rest
 lists_is ms command rest h =
     let m = map_is (λ f. (ListOf f.0, f.1)) (text_at (codes "from") ms) (command, rest) h in
     reads_as (codes "list") ms (ListOf m.0.0, m.0.1) command rest
-    (record { named' = refl; members = λ over. text_is (codes "from") ms m.0 m.1 ∙ ap (λ l. member (codes "from") (string m.0.0) l) over }) m.2
+    (record { named' = refl; members = λ over. text_is (codes "from") ms m.0 m.1 ∙ ap (λ l. member (codes "from") (string m.0.0) l) over; steps = tt }) m.2
 
 -- the members behind the path, where a type may stand
 record ReadsDoc (from path : List ℕ) (ms : Members) (command : Command) (rest : Members) : Type 0 where
@@ -144,6 +168,7 @@ docs_is ms command rest h =
       members = λ over.
           text_is (codes "from") ms f.0 f.1 ∙ (ap (λ l. member (codes "from") (string f.0.0) l) (text_is (codes "path") f.0.1 p.0 p.1)
           ∙ ap (λ l. member (codes "from") (string f.0.0) (member (codes "path") (string p.0.0) l)) (t.members over));
+      steps = tt;
     })
 
 completes_is : (ms : Members) (command : Command) (rest : Members) → places Complete ms ≡ Some (command, rest) → Reads (codes "complete") ms command rest
@@ -158,6 +183,7 @@ completes_is ms command rest h =
           text_is (codes "file") ms f.0 f.1 ∙ (ap (λ l. member (codes "file") (string f.0.0) l) (count_is (codes "offset") f.0.1 o.0 o.1)
           ∙ (ap (λ l. member (codes "file") (string f.0.0) (member (codes "offset") (number (unsigned o.0.0)) l)) (text_is (codes "path") o.0.1 p.0 p.1)
           ∙ ap (λ l. member (codes "file") (string f.0.0) (member (codes "offset") (number (unsigned o.0.0)) (member (codes "path") (string p.0.0) l))) over));
+      steps = tt;
     }) p.2
 
 defines_is : (ms : Members) (command : Command) (rest : Members) → places Define ms ≡ Some (command, rest) → Reads (codes "define") ms command rest
@@ -172,12 +198,26 @@ defines_is ms command rest h =
           text_is (codes "file") ms f.0 f.1 ∙ (ap (λ l. member (codes "file") (string f.0.0) l) (count_is (codes "offset") f.0.1 o.0 o.1)
           ∙ (ap (λ l. member (codes "file") (string f.0.0) (member (codes "offset") (number (unsigned o.0.0)) l)) (text_is (codes "path") o.0.1 p.0 p.1)
           ∙ ap (λ l. member (codes "file") (string f.0.0) (member (codes "offset") (number (unsigned o.0.0)) (member (codes "path") (string p.0.0) l))) over));
+      steps = tt;
     }) p.2
 
-alone_is : (name : List ℕ) (alone : Command) (ms : Members) (command : Command) (rest : Members) → name_of alone ≡ name → others alone ≡ no_members → ◌≡◌ {A = Reading} (Some (alone, ms)) (Some (command, rest)) → Reads name ms command rest
-alone_is name alone ms command rest named' none h =
+runs_is : (ms : Members) (command : Command) (rest : Members) → runs ms ≡ Some (command, rest) → Reads (codes "run") ms command rest
+runs_is ms command rest h =
+    let p = and_then_is (λ p. option_map (λ n. (Run p.0 n.0, n.1)) (steps_at (codes "steps") p.1)) (text_at (codes "path") ms) (command, rest) h in
+    let n = map_is (λ n. (Run p.0.0 n.0, n.1)) (steps_at (codes "steps") p.0.1) (command, rest) p.2 in
+    reads_as (codes "run") ms (Run p.0.0 n.0.0, n.0.1) command rest
+    (record {
+      named' = refl;
+      members = λ over.
+          text_is (codes "path") ms p.0 p.1 ∙ (ap (λ l. member (codes "path") (string p.0.0) l) (steps_is (codes "steps") p.0.1 n.0 n.1)
+          ∙ ap (λ l. member (codes "path") (string p.0.0) (member (codes "steps") (number (unsigned n.0.0)) l)) over);
+      steps = steps_in_range (codes "steps") p.0.1 n.0 n.1;
+    }) n.2
+
+alone_is : (name : List ℕ) (alone : Command) (ms : Members) (command : Command) (rest : Members) → name_of alone ≡ name → others alone ≡ no_members → HasFewSteps alone → ◌≡◌ {A = Reading} (Some (alone, ms)) (Some (command, rest)) → Reads name ms command rest
+alone_is name alone ms command rest named' none few h =
     let pair : ◌≡◌ {A = Command × Members} (alone, ms) (command, rest) = cc in
-    reads_as name ms (alone, ms) command rest (record { named' = named'; members = λ over. over ∙ sym none }) pair
+    reads_as name ms (alone, ms) command rest (record { named' = named'; members = λ over. over ∙ sym none; steps = few }) pair
 
 -- ---- the names, one after another
 
@@ -200,12 +240,13 @@ reading_is : (name : List ℕ) (ms : Members) → Named name ms (reading_of name
 reading_is name ms =
     or_named (codes "open") name ms (opens ms) _ (opens_is ms)
     (or_named (codes "edit") name ms (edits ms) _ (edits_is ms)
-    (or_named (codes "build") name ms (Some (Build, ms)) _ (λ command rest. alone_is (codes "build") Build ms command rest refl refl)
+    (or_named (codes "build") name ms (Some (Build, ms)) _ (λ command rest. alone_is (codes "build") Build ms command rest refl refl tt)
     (or_named (codes "list") name ms (lists ms) _ (lists_is ms)
     (or_named (codes "doc") name ms (docs ms) _ (docs_is ms)
     (or_named (codes "complete") name ms (places Complete ms) _ (completes_is ms)
     (or_named (codes "define") name ms (places Define ms) _ (defines_is ms)
-    (or_named (codes "close") name ms (Some (Close, ms)) None (λ command rest. alone_is (codes "close") Close ms command rest refl refl) (no_name name ms))))))))
+    (or_named (codes "run") name ms (runs ms) _ (runs_is ms)
+    (or_named (codes "close") name ms (Some (Close, ms)) None (λ command rest. alone_is (codes "close") Close ms command rest refl refl tt) (no_name name ms)))))))))
 
 -- ---- what a line asks
 
@@ -231,19 +272,13 @@ asked_is session ms q h =
     let k = known_is session (reading_of n.0 (without (codes "cmd") ms)) q n.2 in
     let f = finished_is session k.0 q k.2 in
     let r = reading_is n.0 (without (codes "cmd") ms) q.command no_members (k.1 ∙ ap Some f.1) in
-    (f.0, record { name = d.1 ∙ ap Some (text_back d.0 n.0 d.2 ∙ ap string (sym r.named')); rest = r.members refl })
-
-in_range : (a b : Bool) (m n : ℕ) → nat_le 1 m ≡ a → nat_le m 32 ≡ b → cond (a && b) (Some m) None ≡ Some n → (m ≡ n) × (1 ≤ m) × (m ≤ 32)
-in_range true true m n x y h = (cc, leb-true 1 m x, leb-true m 32 y)
-in_range true false m n x y h = cc
-in_range false true m n x y h = cc
-in_range false false m n x y h = cc
+    (f.0, record { name = d.1 ∙ ap Some (text_back d.0 n.0 d.2 ∙ ap string (sym r.named')); rest = r.members refl; steps = r.steps })
 
 pub session_is : (ms : Members) (n : ℕ) → session_of ms ≡ Some n → (1 ≤ n) × (n ≤ 32) × (get_member (codes "s") ms ≡ Some (number (unsigned n)))
 session_is ms n h =
     let d = and_then_is as_session (get_member (codes "s") ms) n h in
     let m = and_then_is (λ m. cond (nat_le 1 m && nat_le m 32) (Some m) None) (as_count d.0) n d.2 in
-    let r = in_range (nat_le 1 m.0) (nat_le m.0 32) m.0 n refl refl m.2 in
+    let r = in_range 32 (nat_le 1 m.0) (nat_le m.0 32) m.0 n refl refl m.2 in
     (subst (λ k. 1 ≤ k) r.0 r.1, subst (λ k. k ≤ 32) r.0 r.2, d.1 ∙ ap Some (count_back d.0 m.0 m.1 ∙ ap (λ k. number (unsigned k)) r.0))
 
 by_session : (ms : Members) (o : Option ℕ) (q : Request) → session_of ms ≡ o → asked_by (without (codes "s") ms) o ≡ Ask q → AreOfRequest true q ms
@@ -261,22 +296,27 @@ asks false (Some ms) q h = (ms, refl, asked_is None ms q h)
 
 -- ---- and back
 
-of_command : (session : Option ℕ) (command : Command) → known session (reading_of (name_of command) (others command)) ≡ Ask (record { session = session; command = command })
-of_command session (Open path) = refl
-of_command session (Edit path file None) = refl
-of_command session (Edit path file (Some text)) = refl
-of_command session Build = refl
-of_command session (ListOf from) = refl
-of_command session (Doc from path None) = refl
-of_command session (Doc from path (Some type_name)) = refl
-of_command session (Complete path file offset) = refl
-of_command session (Define path file offset) = refl
-of_command session Close = refl
+of_command : (session : Option ℕ) (command : Command) → HasFewSteps command → known session (reading_of (name_of command) (others command)) ≡ Ask (record { session = session; command = command })
+of_command session (Open path) h = refl
+of_command session (Edit path file None) h = refl
+of_command session (Edit path file (Some text)) h = refl
+of_command session Build h = refl
+of_command session (ListOf from) h = refl
+of_command session (Doc from path None) h = refl
+of_command session (Doc from path (Some type_name)) h = refl
+of_command session (Complete path file offset) h = refl
+of_command session (Define path file offset) h = refl
+of_command session (Run path steps) h =
+    let low : nat_le 1 steps ≡ true = le-leb 1 steps h.0 in
+    let high : nat_le steps most_steps ≡ true = le-leb steps most_steps h.1 in
+    ap (λ (b : Bool). finished session (option_map (λ (n : ℕ × Members). (Run path n.0, n.1)) (option_map (λ (n : ℕ). (n, no_members)) (cond b (Some steps) None))))
+    (ap (λ b. b && nat_le steps most_steps) low ∙ high)
+of_command session Close h = refl
 
 of_members : (session : Option ℕ) (command : Command) (ms : Members) → AreOf command ms → asked session ms ≡ Ask (record { session = session; command = command })
 of_members session command ms h =
     ap (λ o. named session (without (codes "cmd") ms) (option_and_then as_str o)) h.name
-    ∙ (ap (λ r. known session (reading_of (name_of command) r)) h.rest ∙ of_command session command)
+    ∙ (ap (λ r. known session (reading_of (name_of command) r)) h.rest ∙ of_command session command h.steps)
 
 pub session_there : (ms : Members) (n : ℕ) → get_member (codes "s") ms ≡ Some (number (unsigned n)) → 1 ≤ n → n ≤ 32 → session_of ms ≡ Some n
 session_there ms n h least most =

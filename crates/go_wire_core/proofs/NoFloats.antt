@@ -7,7 +7,7 @@ use Rattle.serde_json.specs.Written.{has_float, items_have_float, members_have_f
 use Rattle.go_wire_core.specs.declared.reply.PackageEntry.{PackageEntry}
 use Rattle.go_wire_core.specs.declared.reply.Symbol.{Symbol}
 use Rattle.go_wire_core.specs.declared.reply.WireReply.{WireReply}
-use Rattle.go_wire_core.specs.declared.reply.WireReply.TheVariants.{Opened, Done, Built, Listed, Described, Completed, Defined, Refused}
+use Rattle.go_wire_core.specs.declared.reply.WireReply.TheVariants.{Opened, Done, Built, Listed, Described, Completed, Defined, Ran, Refused}
 use Rattle.go_wire_core.specs.Replies.{entry_data, fault_data, line_data, reply_data, session_members, symbol_data, through_members}
 
 listed : {A : Type 0} (shown : A → Data) (xs : List A) → ((x : A) → has_float (shown x) ≡ false) → items_have_float (items_of (map shown xs)) ≡ false
@@ -35,6 +35,7 @@ reply_has_none (Listed batch own importable) = rw (listed entry_data importable.
 reply_has_none (Described batch name path symbols) = rw (listed symbol_data symbols.items symbol) refl
 reply_has_none (Completed batch names) = rw (words names.items) refl
 reply_has_none (Defined batch declaration) = refl
+reply_has_none (Ran batch end output) = refl
 reply_has_none (Refused rule) = refl
 
 session_has_none : (session : Option ℕ) → members_have_float (session_members session) ≡ false

@@ -2,12 +2,13 @@
 use Rattle.std.specs.Prelude.{◌≡◌, ℕ, List, [], ◌∷◌, ◌++◌, Vec, Bool, true, false, Some, None, codes}
 use Rattle.std.specs.Global.{Global}
 use Rattle.go_text_core.specs.declared.rule.Rule.TheVariants.{I7, N2, O1, V2, V3}
-use Rattle.go_wire_core.specs.declared.request.Command.TheVariants.{Open, Edit, Build, List as ListOf, Doc, Complete, Define, Close}
+use Rattle.go_wire_core.specs.declared.request.Command.TheVariants.{Open, Edit, Build, List as ListOf, Doc, Complete, Define, Run, Close}
 use Rattle.go_wire_core.specs.declared.reply.FaultPlace.{FaultPlace}
 use Rattle.go_wire_core.specs.declared.reply.PackageEntry.{PackageEntry}
+use Rattle.go_wire_core.specs.declared.reply.RunEnd.TheVariants.{Ended, Panicked, Spent}
 use Rattle.go_wire_core.specs.declared.reply.Symbol.{Symbol}
 use Rattle.go_wire_core.specs.declared.reply.SymbolKind.TheVariants.{Const}
-use Rattle.go_wire_core.specs.declared.reply.WireReply.TheVariants.{Opened, Done, Built, Listed, Described, Completed, Defined, Refused}
+use Rattle.go_wire_core.specs.declared.reply.WireReply.TheVariants.{Opened, Done, Built, Listed, Described, Completed, Defined, Ran, Refused}
 use Rattle.go_wire_core.specs.declared.step.Step.{Step}
 use Rattle.go_wire_core.specs.declared.step.Step.TheVariants.{Ask, Refuse}
 use Rattle.go_wire_core.specs.Lines.{ended_lines, lines}
@@ -68,6 +69,13 @@ pub record WorkedLines : Type 0 where
   pub replies : WorkedReplies
   pub define : step_of false (codes "{\"cmd\":\"define\",\"file\":\"b.go\",\"offset\":56,\"path\":\"ex.com/b\"}") ≡ Ask (record { session = None; command = Define (codes "ex.com/b") (codes "b.go") 56 })
   pub defined : line_of None (Defined 2 (codes "ex.com/a/x/x.go:32")) ≡ codes "{\"ok\":{\"batch\":2,\"decl\":\"ex.com/a/x/x.go:32\"}}\n"
+  pub run : step_of true (codes "{\"cmd\":\"run\",\"path\":\"ex.com/m\",\"s\":1,\"steps\":4}") ≡ Ask (record { session = Some 1; command = Run (codes "ex.com/m") 4 })
+  pub run_of_most : step_of false (codes "{\"cmd\":\"run\",\"path\":\"m\",\"steps\":10000000}") ≡ Ask (record { session = None; command = Run (codes "m") 10000000 })
+  pub run_of_more : step_of false (codes "{\"cmd\":\"run\",\"path\":\"m\",\"steps\":10000001}") ≡ Refuse None V2
+  pub run_of_none : step_of true (codes "{\"cmd\":\"run\",\"path\":\"m\",\"s\":1,\"steps\":0}") ≡ Refuse (Some 1) V2
+  pub ended : line_of (Some 1) (Ran 1 Ended (codes "3 true\n")) ≡ codes "{\"ok\":{\"batch\":1,\"end\":\"ended\",\"output\":\"3 true\\n\"},\"s\":1}\n"
+  pub panicked : line_of None (Ran 2 Panicked []) ≡ codes "{\"ok\":{\"batch\":2,\"end\":\"panicked\",\"output\":\"\"}}\n"
+  pub spent : line_of None (Ran 2 Spent []) ≡ codes "{\"ok\":{\"batch\":2,\"end\":\"J3\",\"output\":\"\"}}\n"
   pub remove : step_of true (codes "{\"cmd\":\"edit\",\"file\":\"x.go\",\"path\":\"ex.com/a\",\"s\":1,\"text\":null}") ≡ Ask (record { session = Some 1; command = Edit (codes "ex.com/a") (codes "x.go") None })
   pub doc_of : step_of true (codes "{\"cmd\":\"doc\",\"from\":\"a\",\"path\":\"b\",\"s\":1,\"type\":\"T\"}") ≡ Ask (record { session = Some 1; command = Doc (codes "a") (codes "b") (Some (codes "T")) })
   pub null_type : step_of true (codes "{\"cmd\":\"doc\",\"from\":\"a\",\"path\":\"b\",\"s\":1,\"type\":null}") ≡ Refuse (Some 1) V2

@@ -6,10 +6,11 @@ use Rattle.serde_json.specs.Written.{compact_text}
 use Rattle.go_text_core.specs.Rules.{rule_number}
 use Rattle.go_wire_core.specs.declared.reply.FaultPlace.{FaultPlace}
 use Rattle.go_wire_core.specs.declared.reply.PackageEntry.{PackageEntry}
+use Rattle.go_wire_core.specs.declared.reply.RunEnd.{RunEnd}
 use Rattle.go_wire_core.specs.declared.reply.Symbol.{Symbol}
 use Rattle.go_wire_core.specs.declared.reply.WireReply.{WireReply}
-use Rattle.go_wire_core.specs.declared.reply.WireReply.TheVariants.{Opened, Done, Built, Listed, Described, Completed, Defined, Refused}
-use Rattle.go_wire_core.specs.Kinds.{kind_word}
+use Rattle.go_wire_core.specs.declared.reply.WireReply.TheVariants.{Opened, Done, Built, Listed, Described, Completed, Defined, Ran, Refused}
+use Rattle.go_wire_core.specs.Kinds.{end_word, kind_word}
 
 abbrev pub count : ℕ → Data
 count n = number (unsigned n)
@@ -83,6 +84,12 @@ defined_data batch declaration =
     object (member (codes "batch") (count batch)
     (member (codes "decl") (string declaration) no_members))
 
+abbrev pub ran_data : ℕ → RunEnd → List ℕ → Data
+ran_data batch end output =
+    object (member (codes "batch") (count batch)
+    (member (codes "end") (string (end_word end))
+    (member (codes "output") (string output) no_members)))
+
 -- what a reply says, a refusal the number of its rule
 abbrev pub reply_data : WireReply → Data
 reply_data (Opened path) = opened_data path
@@ -92,6 +99,7 @@ reply_data (Listed batch own importable) = listed_data batch own importable.item
 reply_data (Described batch name path symbols) = described_data batch name path symbols.items
 reply_data (Completed batch names) = completed_data batch names.items
 reply_data (Defined batch declaration) = defined_data batch declaration
+reply_data (Ran batch end output) = ran_data batch end output
 reply_data (Refused rule) = string (rule_number rule)
 
 abbrev pub reply_key : WireReply → List ℕ
@@ -102,6 +110,7 @@ reply_key (Listed batch own importable) = codes "ok"
 reply_key (Described batch name path symbols) = codes "ok"
 reply_key (Completed batch names) = codes "ok"
 reply_key (Defined batch declaration) = codes "ok"
+reply_key (Ran batch end output) = codes "ok"
 reply_key (Refused rule) = codes "err"
 
 -- the number of the session, where the request had one

@@ -7,7 +7,7 @@ use Rattle.serde_json.specs.Find.{as_number, as_object, as_str, as_u64, get_memb
 use Rattle.go_text_core.specs.declared.rule.Rule.{Rule}
 use Rattle.go_text_core.specs.declared.rule.Rule.TheVariants.{V2, V3}
 use Rattle.go_wire_core.specs.declared.request.Command.{Command}
-use Rattle.go_wire_core.specs.declared.request.Command.TheVariants.{Open, Edit, Build, List as ListOf, Doc, Complete, Define, Close}
+use Rattle.go_wire_core.specs.declared.request.Command.TheVariants.{Open, Edit, Build, List as ListOf, Doc, Complete, Define, Run, Close}
 use Rattle.go_wire_core.specs.declared.step.Step.{Step}
 use Rattle.go_wire_core.specs.declared.step.Step.TheVariants.{Ask, Refuse}
 
@@ -39,6 +39,17 @@ as_count d = option_and_then as_u64 (as_number d)
 
 abbrev pub count_at : List ℕ → Members → Option (ℕ × Members)
 count_at = first_with as_count
+
+-- the most steps that a run may be asked for
+abbrev pub most_steps : ℕ
+most_steps = 10000000
+
+-- a number from 1 to the most steps
+abbrev pub as_steps : Data → Option ℕ
+as_steps d = option_and_then (λ n. if nat_le 1 n && nat_le n most_steps then Some n else None) (as_count d)
+
+abbrev pub steps_at : List ℕ → Members → Option (ℕ × Members)
+steps_at = first_with as_steps
 
 abbrev pub as_text_or_null : Data → Option (Option (List ℕ))
 as_text_or_null null = Some None
@@ -84,6 +95,9 @@ places command ms =
     option_and_then (λ f. option_and_then (λ o. option_map (λ p. (command p.0 f.0 o.0, p.1))
     (text_at (codes "path") o.1)) (count_at (codes "offset") f.1)) (text_at (codes "file") ms)
 
+abbrev pub runs : Members → Reading
+runs ms = option_and_then (λ p. option_map (λ n. (Run p.0 n.0, n.1)) (steps_at (codes "steps") p.1)) (text_at (codes "path") ms)
+
 -- the command of a name by its members, and those that are over; None for a text of no command
 abbrev pub reading_of : List ℕ → Members → Option Reading
 reading_of name ms =
@@ -94,7 +108,8 @@ reading_of name ms =
     (if bytes_eq name (codes "doc") then Some (docs ms) else
     (if bytes_eq name (codes "complete") then Some (places Complete ms) else
     (if bytes_eq name (codes "define") then Some (places Define ms) else
-    (if bytes_eq name (codes "close") then Some (Some (Close, ms)) else None)))))))
+    (if bytes_eq name (codes "run") then Some (runs ms) else
+    (if bytes_eq name (codes "close") then Some (Some (Close, ms)) else None))))))))
 
 -- what is read of a name and its members, with those that are over; for private clauses
 abbrev pub read_as : Result (Option Command) Rule → Members → Option Reading

@@ -5,10 +5,10 @@ use Rattle.serde_json.specs.Find.{get_member}
 use Rattle.go_text_core.specs.declared.rule.Rule.{Rule}
 use Rattle.go_text_core.specs.declared.rule.Rule.TheVariants.{V2, V3}
 use Rattle.go_wire_core.specs.declared.request.Command.{Command}
-use Rattle.go_wire_core.specs.declared.request.Command.TheVariants.{Open, Edit, Build, List as ListOf, Doc, Complete, Define, Close}
+use Rattle.go_wire_core.specs.declared.request.Command.TheVariants.{Open, Edit, Build, List as ListOf, Doc, Complete, Define, Run, Close}
 use Rattle.go_wire_core.specs.declared.request.Request.{Request}
 use Rattle.go_wire_core.specs.declared.step.Step.TheVariants.{Ask, Refuse}
-use Rattle.go_wire_core.specs.Requests.{object_of, step_of, without}
+use Rattle.go_wire_core.specs.Requests.{most_steps, object_of, step_of, without}
 
 -- the text of the member `cmd`
 abbrev pub name_of : Command → List ℕ
@@ -19,6 +19,7 @@ name_of (ListOf from) = codes "list"
 name_of (Doc from path type_name) = codes "doc"
 name_of (Complete path file offset) = codes "complete"
 name_of (Define path file offset) = codes "define"
+name_of (Run path steps) = codes "run"
 name_of Close = codes "close"
 
 abbrev pub text_or_null : Option (List ℕ) → Data
@@ -39,12 +40,26 @@ others (ListOf from) = member (codes "from") (string from) no_members
 others (Doc from path type_name) = member (codes "from") (string from) (member (codes "path") (string path) (if_given type_name))
 others (Complete path file offset) = member (codes "file") (string file) (member (codes "offset") (number (unsigned offset)) (member (codes "path") (string path) no_members))
 others (Define path file offset) = member (codes "file") (string file) (member (codes "offset") (number (unsigned offset)) (member (codes "path") (string path) no_members))
+others (Run path steps) = member (codes "path") (string path) (member (codes "steps") (number (unsigned steps)) no_members)
 others Close = no_members
+
+-- where it is a run, its steps are 1 to the most
+abbrev pub HasFewSteps : Command → Type 0
+HasFewSteps (Open path) = Unit {0}
+HasFewSteps (Edit path file text) = Unit {0}
+HasFewSteps Build = Unit {0}
+HasFewSteps (ListOf from) = Unit {0}
+HasFewSteps (Doc from path type_name) = Unit {0}
+HasFewSteps (Complete path file offset) = Unit {0}
+HasFewSteps (Define path file offset) = Unit {0}
+HasFewSteps (Run path steps) = (1 ≤ steps) × (steps ≤ most_steps)
+HasFewSteps Close = Unit {0}
 
 -- beside the session, these members are those of the command, and no others
 pub record AreOf (command : Command) (ms : Members) : Type 0 where
   pub name : get_member (codes "cmd") ms ≡ Some (string (name_of command))
   pub rest : without (codes "cmd") ms ≡ others command
+  pub steps : HasFewSteps command
 
 -- the member `s` is the number of this session
 pub record IsBy (session : Option ℕ) (ms : Members) : Type 0 where

@@ -16,7 +16,7 @@ mod write;
 
 pub use desk::Desk;
 pub use laws::{asks_by_table, asks_in_order, first_come_first, refuses_by_table, worked_lines};
-pub use reply::{FaultPlace, PackageEntry, Symbol, SymbolKind, WireReply};
+pub use reply::{FaultPlace, PackageEntry, RunEnd, Symbol, SymbolKind, WireReply};
 pub use request::{Command, Request};
 pub use serving::{ServeEnd, serve};
 pub use step::Step;

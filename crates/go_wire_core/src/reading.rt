@@ -2,9 +2,9 @@
 ghost use Rattle.std.specs.Prelude.{◌≡◌, ◌∷◌, IfOk, Some, codes, option_map};
 ghost use Rattle.serde_json.specs.View.{members_view, view};
 ghost use Rattle.serde_json.specs.Find.{as_object};
-ghost use Rattle.go_wire_core.specs.Requests.{as_session, asked, asked_by, asked_of, docs, docs_of, edits, finished, known, lists, object_of, opens, places, read_as, reading_of, session_of, step_of, without};
+ghost use Rattle.go_wire_core.specs.Requests.{as_session, asked, asked_by, asked_of, docs, docs_of, edits, finished, known, lists, object_of, opens, places, read_as, reading_of, runs, session_of, step_of, without};
 
-use crate::given::{Given, count_at, is_over, taken, text_at, text_or_null_at};
+use crate::given::{Given, count_at, is_over, steps_at, taken, text_at, text_or_null_at};
 use crate::request::{Command, Request};
 use crate::step::Step;
 use crate::text::Text;
@@ -80,6 +80,14 @@ fn define(given: &mut Given) -> Option<Command>
     Some(Command::Define { path, file, offset })
 }
 
+fn run(given: &mut Given) -> Option<Command>
+    ensures { option_map (λ c. (c, members_view given.new.entries)) result ≡ runs (members_view given.old.entries) }
+{
+    let path = text_at(given, "path")?;
+    let steps = steps_at(given, "steps")?;
+    Some(Command::Run { path, steps })
+}
+
 // The command of a name by its members, or None where they are not its own.
 fn command_of(name: &str, given: &mut Given) -> Result<Option<Command>, Rule>
     ensures { read_as result (members_view given.new.entries) ≡ reading_of name.now (members_view given.old.entries) }
@@ -92,6 +100,7 @@ fn command_of(name: &str, given: &mut Given) -> Result<Option<Command>, Rule>
         "doc" => Ok(doc(given)),
         "complete" => Ok(complete(given)),
         "define" => Ok(define(given)),
+        "run" => Ok(run(given)),
         "close" => Ok(Some(Command::Close)),
         _ => Err(Rule::V3),
     }

@@ -55,11 +55,47 @@ pub enum WireReply {
         /// The declaration, as it is printed.
         declaration: Text,
     },
+    /// What a package came to that ran: `{"batch":N,"end":END,"output":OUTPUT}`.
+    Ran {
+        /// How many batches the answer covers.
+        batch: u64,
+        /// How the run ended.
+        end: RunEnd,
+        /// What it printed.
+        output: Text,
+    },
     /// The request is refused: the number of the rule, as `"O1"`.
     Refused {
         /// The rule that it breaks.
         rule: Rule,
     },
+}
+
+/// How a run ended.
+#[derive(Clone, Copy)]
+pub enum RunEnd {
+    /// The function `main` was left.
+    Ended,
+    /// It panicked.
+    Panicked,
+    /// All steps are done, and it goes on.
+    Spent,
+}
+
+impl RunEnd {
+    ghost use Rattle.std.specs.Prelude.{◌≡◌};
+    ghost use Rattle.go_wire_core.specs.Kinds.{end_word};
+
+    /// The word for it: `ended`, `panicked`, or the number of the rule on spent steps, `J3`.
+    pub fn word(self) -> &'static str
+        ensures { result.now ≡ end_word self }
+    {
+        match self {
+            RunEnd::Ended => "ended",
+            RunEnd::Panicked => "panicked",
+            RunEnd::Spent => "J3",
+        }
+    }
 }
 
 /// A fault, with where it stands: `{"at":"PATH/FILE:OFFSET","rule":RULE}`.

@@ -63,6 +63,13 @@ pub enum Command {
         /// The offset in bytes of a byte of the identifier.
         offset: u64,
     },
+    /// Runs a package: `{"cmd":"run","path":PATH,"steps":STEPS}`, STEPS an integer from 1 to 10,000,000.
+    Run {
+        /// The path of the package.
+        path: Text,
+        /// The most instructions that are done.
+        steps: u64,
+    },
     /// Ends the session: `{"cmd":"close"}`.
     Close,
 }

@@ -3,9 +3,9 @@ ghost use Rattle.std.specs.Prelude.{◌≡◌, ◌++◌, ◌∷◌, [], map, IfO
 ghost use Rattle.serde_json.specs.Data.{array, member, no_members, object, string};
 ghost use Rattle.serde_json.specs.View.{view};
 ghost use Rattle.go_text_core.specs.Rules.{rule_number};
-ghost use Rattle.go_wire_core.specs.Replies.{built_data, completed_data, defined_data, done_data, entry_data, fault_data, line_data, line_of, list, listed_data, opened_data, place_text, reply_data, session_members, symbol_data, texts, described_data};
+ghost use Rattle.go_wire_core.specs.Replies.{built_data, completed_data, defined_data, done_data, entry_data, fault_data, line_data, line_of, list, listed_data, opened_data, place_text, ran_data, reply_data, session_members, symbol_data, texts, described_data};
 
-use crate::reply::{FaultPlace, PackageEntry, Symbol, WireReply};
+use crate::reply::{FaultPlace, PackageEntry, RunEnd, Symbol, WireReply};
 use crate::text::Text;
 use go_text_core::{Name, Rule};
 use serde_json::{Map, Value, json};
@@ -171,6 +171,12 @@ fn defined(alloc: Global, batch: u64, declaration: &str) -> Result<Value, AllocE
     json!(in alloc; {"batch": batch, "decl": declaration})
 }
 
+fn ran(alloc: Global, batch: u64, end: RunEnd, output: &str) -> Result<Value, AllocError>
+    ensures { IfOk result (λ v. view v ≡ ran_data batch end output.now) }
+{
+    json!(in alloc; {"batch": batch, "end": end.word(), "output": output})
+}
+
 fn reply_value(alloc: Global, reply: &WireReply) -> Result<Value, AllocError>
     ensures { IfOk result (λ v. view v ≡ reply_data reply.now) }
 {
@@ -193,6 +199,7 @@ fn reply_value(alloc: Global, reply: &WireReply) -> Result<Value, AllocError>
         WireReply::Defined { batch, declaration } => {
             defined(alloc, *batch, declaration.as_str())
         }
+        WireReply::Ran { batch, end, output } => ran(alloc, *batch, *end, output.as_str()),
         WireReply::Refused { rule } => Value::try_from_str(alloc, rule.number()),
     }
 }

@@ -4,7 +4,7 @@ use Rattle.go_text_core.specs.declared.rule.Rule.{Rule}
 use Rattle.go_text_core.specs.declared.rule.Rule.TheVariants.{M0, O1, O2, O5}
 use Rattle.go_path_core.specs.Path.{IsPath}
 use Rattle.go_wire_core.specs.declared.request.Command.{Command}
-use Rattle.go_wire_core.specs.declared.request.Command.TheVariants.{Open, Edit, Build, List as ListOf, Doc, Complete, Define, Close}
+use Rattle.go_wire_core.specs.declared.request.Command.TheVariants.{Open, Edit, Build, List as ListOf, Doc, Complete, Define, Run, Close}
 use Rattle.go_wire_core.specs.declared.reply.WireReply.{WireReply}
 use Rattle.go_wire_core.specs.declared.reply.WireReply.TheVariants.{Opened, Done, Built, Refused}
 use Rattle.go_hall.specs.submit_core.Published.{BeginsWith}
@@ -15,10 +15,10 @@ use Rattle.govisd_replies.specs.look_core.Asked.{IsAnswer}
 use Rattle.govisd_replies.specs.look_core.Built.{IsBuilt}
 use Rattle.govisd_replies.specs.look_core.declared.faults.Fault.{Fault}
 use Rattle.go_hall.specs.draft_core.Edits.{IsEditOf, IsEditRefusal}
-use Rattle.govisd_replies.specs.look_core.Queries.{IsCompleteAnswer, IsDefineAnswer, IsDocAnswer, IsListAnswer, IsTypeDocAnswer}
+use Rattle.govisd_replies.specs.look_core.Queries.{IsCompleteAnswer, IsDefineAnswer, IsDocAnswer, IsListAnswer, IsRunAnswer, IsTypeDocAnswer}
 use Rattle.go_hall.specs.Refusals.{IsBuildRefusal, IsOpenRefusal}
 use Rattle.go_hall.specs.Seat.{Seat}
-use Rattle.govisd_replies.specs.Told.{TellsDeclaration, TellsDoc, TellsListing, TellsNames, TellsTypeDoc, place_of}
+use Rattle.govisd_replies.specs.Told.{TellsDeclaration, TellsDoc, TellsListing, TellsNames, TellsOutcome, TellsTypeDoc, place_of}
 
 -- ---- open
 
@@ -93,6 +93,7 @@ GoesOn old (ListOf from) reply new = IsReply old from (IsListAnswer from) TellsL
 GoesOn old (Doc from path type_name) reply new = IsDocReply old from path type_name reply new
 GoesOn old (Complete path file offset) reply new = IsReply old path (IsCompleteAnswer path file offset) TellsNames reply new
 GoesOn old (Define path file offset) reply new = IsReply old path (IsDefineAnswer path file offset) TellsDeclaration reply new
+GoesOn old (Run path steps) reply new = IsReply old path (IsRunAnswer path steps) TellsOutcome reply new
 GoesOn old Close reply new = (reply ≡ Done) × (new ≡ old)
 
 abbrev pub is_close : Command → Bool
@@ -103,6 +104,7 @@ is_close (ListOf from) = false
 is_close (Doc from path type_name) = false
 is_close (Complete path file offset) = false
 is_close (Define path file offset) = false
+is_close (Run path steps) = false
 is_close Close = true
 
 -- the module of an open
@@ -114,6 +116,7 @@ module_of (ListOf from) = None
 module_of (Doc from path type_name) = None
 module_of (Complete path file offset) = None
 module_of (Define path file offset) = None
+module_of (Run path steps) = None
 module_of Close = None
 
 -- where no session is open one may begin, and all else is O5

@@ -1,14 +1,14 @@
 //! What an open session replies to each command.
 ghost use Rattle.std.specs.Prelude.{◌≡◌, option_map, string_bytes};
-ghost use Rattle.govisd_replies.specs.look_core.Queries.{IsCompleteAnswer, IsDefineAnswer, IsDocAnswer, IsListAnswer, IsTypeDocAnswer};
+ghost use Rattle.govisd_replies.specs.look_core.Queries.{IsCompleteAnswer, IsDefineAnswer, IsDocAnswer, IsListAnswer, IsRunAnswer, IsTypeDocAnswer};
 ghost use Rattle.govisd_desk.specs.Sessions.{IsBuildReply, IsDocReply, IsEditReply, IsReply, IsTold};
-ghost use Rattle.govisd_replies.specs.Told.{TellsBuild, TellsDeclaration, TellsDoc, TellsListing, TellsNames, TellsTypeDoc};
+ghost use Rattle.govisd_replies.specs.Told.{TellsBuild, TellsDeclaration, TellsDoc, TellsListing, TellsNames, TellsOutcome, TellsTypeDoc};
 
 use go_hall::hall_core::Named;
 use go_hall::{Built, Look, Session};
 use go_text_core::Rule;
 use go_wire_core::{Text, WireReply};
-use govisd_replies::{described, described_type, listed, names_told, or_memory, places};
+use govisd_replies::{described, described_type, listed, names_told, or_memory, places, ran};
 use std::alloc::Global;
 use std::sync::Wait;
 
@@ -203,6 +203,31 @@ pub(crate) fn define<L: Named>(
 {
     match session.look() {
         Ok(look) => told_declaration(alloc, &look, path, file, offset),
+        Err(rule) => WireReply::Refused { rule },
+    }
+}
+
+// What a package that ran came to, as it goes out.
+fn told_run(alloc: Global, look: &Look, path: &str, steps: u64) -> WireReply
+    ensures { IsTold look.now.own path.now look.now.board (IsRunAnswer path.now steps) TellsOutcome result }
+{
+    match look.run(alloc, path, steps) {
+        Ok((batch, run)) => ran(batch, run),
+        Err(rule) => WireReply::Refused { rule },
+    }
+}
+
+/// Runs a package.
+pub(crate) fn run<L: Named>(
+    alloc: Global,
+    session: &mut Session<'_, L>,
+    path: &str,
+    steps: u64,
+) -> WireReply
+    ensures { IsReply session.old path.now (IsRunAnswer path.now steps) TellsOutcome result session.new }
+{
+    match session.look() {
+        Ok(look) => told_run(alloc, &look, path, steps),
         Err(rule) => WireReply::Refused { rule },
     }
 }

@@ -4,7 +4,7 @@ ghost use Rattle.go_path_core.specs.Path.{IsPath};
 ghost use Rattle.go_hall.specs.submit_core.Trees.{tree_with};
 ghost use Rattle.govisd_desk.specs.Sessions.{GoesOn, IsOpenReply, RefusesOpen, RepliesOfNone, SeatReplies, is_close, module_of};
 
-use crate::asking::{build, complete, define, doc_of, edit, list};
+use crate::asking::{build, complete, define, doc_of, edit, list, run};
 use go_hall::hall_core::Named;
 use go_hall::{Hall, Session};
 use go_path_core::Module;
@@ -83,6 +83,7 @@ fn asked<L: Named, H: Wait>(
         Command::Define { path, file, offset } => {
             define(alloc, session, path.as_str(), file.as_str(), offset)
         }
+        Command::Run { path, steps } => run(alloc, session, path.as_str(), steps),
         Command::Close => WireReply::Done,
     }
 }

@@ -6,15 +6,19 @@ use Rattle.std.specs.declared.string.String.{String}
 use Rattle.go_text_core.specs.declared.rule.Rule.TheVariants.{M0}
 use Rattle.go_wire_core.specs.declared.reply.FaultPlace.{FaultPlace}
 use Rattle.go_wire_core.specs.declared.reply.PackageEntry.{PackageEntry}
+use Rattle.go_wire_core.specs.declared.reply.RunEnd.{RunEnd}
+use Rattle.go_wire_core.specs.declared.reply.RunEnd.TheVariants.{Ended, Panicked, Spent}
 use Rattle.go_wire_core.specs.declared.reply.Symbol.{Symbol}
 use Rattle.go_wire_core.specs.declared.reply.SymbolKind.{SymbolKind}
 use Rattle.go_wire_core.specs.declared.reply.SymbolKind.TheVariants.{Const, Var, «Type» as TypeKind, Func, Field, Method}
 use Rattle.go_wire_core.specs.declared.reply.WireReply.{WireReply}
-use Rattle.go_wire_core.specs.declared.reply.WireReply.TheVariants.{Built, Listed, Described, Completed, Defined, Refused}
+use Rattle.go_wire_core.specs.declared.reply.WireReply.TheVariants.{Built, Listed, Described, Completed, Defined, Ran, Refused}
 use Rattle.go_graph_core.specs.Packages.{IsPackageName, trees_of}
 use Rattle.go_look_core.specs.query_core.Entries.{AreDeps, AreImports, EntryOf}
 use Rattle.go_decl_core.specs.declared.places.DeclKind.{DeclKind}
 use Rattle.go_decl_core.specs.declared.places.DeclKind.TheVariants as decl
+use Rattle.go_run_core.specs.declared.outcome.Run.{Run}
+use Rattle.go_run_core.specs.declared.outcome.Run.TheVariants as runs
 use Rattle.go_look_core.specs.declared.faults.Fault.{Fault}
 use Rattle.go_look_core.specs.query_core.declared.listing.Listing.{Listing}
 use Rattle.go_look_core.specs.query_core.declared.documenting.PackageDoc.{PackageDoc}
@@ -104,6 +108,23 @@ TellsNames a reply = AreNamesTold a.0 a.1.items reply
 abbrev pub TellsDeclaration : ℕ × String Global → WireReply → Type 0
 TellsDeclaration a (Defined batch declaration) = (batch ≡ a.0) × (declaration ≡ string_bytes a.1)
 TellsDeclaration a reply = ⊥
+
+-- ---- runs
+
+abbrev pub end_told : Run → RunEnd
+end_told (runs.Ended output) = Ended
+end_told (runs.Panicked value output) = Panicked
+end_told (runs.Spent output) = Spent
+
+abbrev pub output_told : Run → List ℕ
+output_told (runs.Ended output) = string_bytes output
+output_told (runs.Panicked value output) = string_bytes output
+output_told (runs.Spent output) = string_bytes output
+
+-- the reply has the number of batches, how the run ended, and what it printed
+abbrev pub TellsOutcome : ℕ × Run → WireReply → Type 0
+TellsOutcome a (Ran batch end output) = (batch ≡ a.0) × (end ≡ end_told a.1) × (output ≡ output_told a.1)
+TellsOutcome a reply = ⊥
 
 -- a reply, or that memory is wanting
 abbrev pub or_memory : {E : Type 0} → Result WireReply E → WireReply

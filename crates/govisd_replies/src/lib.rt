@@ -3,4 +3,4 @@
 
 mod telling;
 
-pub use telling::{described, described_type, listed, names_told, or_memory, places};
+pub use telling::{described, described_type, listed, names_told, or_memory, places, ran};

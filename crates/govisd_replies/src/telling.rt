@@ -2,7 +2,7 @@
 ghost use Rattle.std.specs.Prelude.{◌≡◌, IfOk, map, string_bytes};
 ghost use Rattle.std.specs.List.{AllZip};
 ghost use Rattle.go_look_core.specs.shown_core.Shown.{texts};
-ghost use Rattle.govisd_replies.specs.Told.{AreNamesTold, IsEntryFor, TellsDoc, TellsListing, TellsTypeDoc, kind_told, member_kind_told, member_told, or_memory, place_of, symbol_shown, symbol_told};
+ghost use Rattle.govisd_replies.specs.Told.{AreNamesTold, IsEntryFor, TellsDoc, TellsListing, TellsOutcome, TellsTypeDoc, kind_told, member_kind_told, member_told, or_memory, place_of, symbol_shown, symbol_told};
 
 use go_decl_core::DeclKind;
 use go_graph_core::SourceFile;
@@ -10,8 +10,9 @@ use go_look_core::Fault;
 use go_look_core::query_core::{Listing, PackageDoc, PackageEntry as FoundEntry};
 use go_look_core::symbol_core::Symbol as FoundSymbol;
 use go_look_core::type_doc_core::{Member, MemberKind, TypeDoc};
+use go_run_core::Run;
 use go_text_core::{Name, Rule, add};
-use go_wire_core::{FaultPlace, PackageEntry, Symbol, SymbolKind, Text, WireReply};
+use go_wire_core::{FaultPlace, PackageEntry, RunEnd, Symbol, SymbolKind, Text, WireReply};
 use std::alloc::{AllocError, Global};
 
 // Texts of their own.
@@ -270,6 +271,29 @@ pub fn described_type(
         path,
         symbols,
     })
+}
+
+/// What a package that ran came to, as it goes out: how it ended, and what it printed.
+pub fn ran(batch: u64, run: Run) -> WireReply
+    ensures { TellsOutcome (batch, run) result }
+{
+    match run {
+        Run::Ended(output) => WireReply::Ran {
+            batch,
+            end: RunEnd::Ended,
+            output: Text::new(output),
+        },
+        Run::Panicked(_, output) => WireReply::Ran {
+            batch,
+            end: RunEnd::Panicked,
+            output: Text::new(output),
+        },
+        Run::Spent(output) => WireReply::Ran {
+            batch,
+            end: RunEnd::Spent,
+            output: Text::new(output),
+        },
+    }
 }
 
 /// A reply, or that memory is wanting.
