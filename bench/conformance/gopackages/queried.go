@@ -355,7 +355,12 @@ func (q *questioner) said(found probed) string {
 
 // whatTaken says what go/types does with a name that may stand in a place, or nothing where it says something else.
 func (p probed) whatTaken() string {
+	_, isFunc := p.object.(*types.Func)
 	switch {
+	case p.code == "MixedStructLit":
+		return "taken, in an element that go/types refuses for its form, and looks no further"
+	case p.code == "InvalidCall" && isFunc:
+		return "taken by both, before a call of what is no function"
 	case p.code != "":
 		return ""
 	case p.object != nil:
