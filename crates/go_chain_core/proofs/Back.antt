@@ -9,22 +9,22 @@ use Rattle.go_chain_core.specs.mirrors.Known.{IsEndless}
 use Rattle.go_chain_core.proofs.Chained.{leads_on}
 use Rattle.go_chain_core.proofs.Lists.{fewer_left, marked_before, none_marked, unmarked_len}
 
-bool_cases : (b : Bool) → (b ≡ true) ⊎ (b ≡ false)
+pub bool_cases : (b : Bool) → (b ≡ true) ⊎ (b ≡ false)
 bool_cases true = inl refl
 bool_cases false = inr refl
 
-option_cases : {X : Type 0} (o : Option X) → (o ≡ None) ⊎ ((x : X) × (o ≡ Some x))
+pub option_cases : {X : Type 0} (o : Option X) → (o ≡ None) ⊎ ((x : X) × (o ≡ Some x))
 option_cases None = inl refl
 option_cases (Some x) = inr (x, refl)
 
 -- a number that was passed leads on to another
-abbrev Passed : List (Option ℕ) → ℕ → ℕ → Type 0
+abbrev pub Passed : List (Option ℕ) → ℕ → ℕ → Type 0
 Passed next at j = (follower : ℕ) × (path : List ℕ) × ChainLeads next j (follower ∷ path) at
 
-passed_still : (next : List (Option ℕ)) (at follower j : ℕ) → slice_get next at ≡ Some (Some follower) → Passed next at j → Passed next follower j
+pub passed_still : (next : List (Option ℕ)) (at follower j : ℕ) → slice_get next at ≡ Some (Some follower) → Passed next at j → Passed next follower j
 passed_still next at follower j f p = (p.0, p.1 ++ follower ∷ [], leads_on next j at follower (p.0 ∷ p.1) p.2 f)
 
-passed_now : (next : List (Option ℕ)) (at follower j : ℕ) → slice_get next at ≡ Some (Some follower) → j ≡ at → Passed next follower j
+pub passed_now : (next : List (Option ℕ)) (at follower j : ℕ) → slice_get next at ≡ Some (Some follower) → j ≡ at → Passed next follower j
 passed_now next at follower j f e = (let P : ℕ → Type 0 = λ x. slice_get next x ≡ Some (Some follower) in (follower, [], (subst P (sym e) f, refl)))
 
 back : (n : ℕ) (next : List (Option ℕ)) (marks : List Bool) (i at : ℕ) → AllInside next → IsEndless next i → length marks ≡ length next → count_by (λ m. not m) marks < n → at < length next

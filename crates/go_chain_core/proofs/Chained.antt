@@ -19,7 +19,7 @@ leads_along next i j k (m ∷ path) more h s = (h.0, leads_along next m j k path
 pub ends_along : (next : List (Option ℕ)) (i j k : ℕ) (path : List ℕ) → ChainLeads next i path j → EndsAt next j k → EndsAt next i k
 ends_along next i j k path h e = (path ++ e.0, leads_along next i j k path e.0 h e.1, e.2)
 
-no_end_before : (next : List (Option ℕ)) (i j : ℕ) → slice_get next i ≡ Some None → slice_get next i ≡ Some (Some j) → ⊥
+pub no_end_before : (next : List (Option ℕ)) (i j : ℕ) → slice_get next i ≡ Some None → slice_get next i ≡ Some (Some j) → ⊥
 no_end_before next i j h k = (let e = sym h ∙ k in cc)
 
 -- the end of a chain is the end of what it passes

@@ -1,6 +1,6 @@
 -- Laws of chains.
-use Rattle.std.specs.Prelude.{◌≡◌, ◌<◌, ℕ, List, ◌∷◌, Option, length}
-use Rattle.go_chain_core.specs.Chains.{AllInside, ChainLeads, EndsAt}
+use Rattle.std.specs.Prelude.{◌≡◌, ◌↔◌, ◌<◌, ℕ, zero, suc, List, ◌∷◌, Option, Some, None, length, slice_get, slice_index_or}
+use Rattle.go_chain_core.specs.Chains.{AllInside, AreEnds, ChainLeads, EndsAt}
 
 -- a chain has one end at most
 abbrev pub OneEnd : Type 0
@@ -15,3 +15,18 @@ ChainLeadsBack next i =
 abbrev pub EndlessLeadsBack : Type 0
 EndlessLeadsBack =
     (next : List (Option ℕ)) → AllInside next → (i : ℕ) → i < length next → ((j : ℕ) → EndsAt next i j → ⊥) → ChainLeadsBack next i
+
+-- where the chain from i ends that goes on by what i leads to, after n steps at most; none where it goes on behind them, or leaves the list
+abbrev pub end_within : ℕ → List (Option ℕ) → ℕ → Option (Option ℕ) → Option ℕ
+end_within n next i None = None
+end_within n next i (Some None) = Some i
+end_within zero next i (Some (Some j)) = None
+end_within (suc n) next i (Some (Some j)) = end_within n next j (slice_get next j)
+
+abbrev pub counted_end : ℕ → List (Option ℕ) → ℕ → Option ℕ
+counted_end n next i = end_within n next i (slice_get next i)
+
+-- an end is reached in as many steps as there are numbers, or never
+pub record EndsAreCounted : Type 0 where
+  pub counted : (next : List (Option ℕ)) (i j : ℕ) → EndsAt next i j ↔ (counted_end (length next) next i ≡ Some j)
+  pub listed : (next ends : List (Option ℕ)) → AreEnds next ends → (i : ℕ) → slice_index_or ends i None ≡ counted_end (length next) next i

@@ -1,5 +1,5 @@
 //! Laws of chains.
-ghost use Rattle.go_chain_core.specs.Laws.{OneEnd, EndlessLeadsBack};
+ghost use Rattle.go_chain_core.specs.Laws.{OneEnd, EndlessLeadsBack, EndsAreCounted};
 
 /// A law, with nothing to run: a chain has one end at most.
 pub fn one_end()
@@ -9,4 +9,9 @@ pub fn one_end()
 /// A law, with nothing to run: a number whose chain has no end leads to a number that leads back to itself.
 pub fn endless_leads_back()
     ensures { EndlessLeadsBack }
+{}
+
+/// A law, with nothing to run: a chain ends after as many steps at most as there are numbers, or it has no end.
+pub fn ends_are_counted()
+    ensures { EndsAreCounted }
 {}

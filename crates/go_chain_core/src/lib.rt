@@ -8,7 +8,7 @@ ghost use Rattle.std.specs.Prelude.{IfOk};
 ghost use Rattle.go_chain_core.specs.Chains.{AllInside, AreEnds};
 
 use crate::follow::follow_chain;
-pub use laws::{endless_leads_back, one_end};
+pub use laws::{endless_leads_back, ends_are_counted, one_end};
 use std::alloc::{AllocError, Global};
 
 /// For each number below the list's length, the number at which its chain ends: the last that is reached from it by following

@@ -1,7 +1,8 @@
 -- The types of a package of two files, worked out by hand.
 use Rattle.std.specs.Prelude.{◌≡◌, ℕ, Bool, true, false, List, [], ◌∷◌, Some, None, codes}
+use Rattle.go_tree_nodes.specs.declared.names.Ident.{Ident}
 use Rattle.go_tree_nodes.specs.declared.types.TypeName.TheVariants as type_names
-use Rattle.go_tree_nodes.specs.Trees.{One, Struct, NoFields, NamedFields, EmbeddedField, NoLines, Types, Func, Single, TopTree, FileTree}
+use Rattle.go_tree_nodes.specs.Trees.{One, TypeTree, Struct, NoFields, NamedFields, EmbeddedField, NoLines, Types, Func, Single, TopTree, FileTree}
 use Rattle.go_tree_nodes.specs.Samples.{at, int_at, called}
 use Rattle.go_written_core.specs.decl_core.declared.keys.DeclKey.{DeclKey}
 use Rattle.go_written_core.specs.decl_core.declared.places.DeclKind.{DeclKind}
@@ -22,9 +23,13 @@ use Rattle.go_scope_core.specs.block_core.Declarations.{decl_ref}
 abbrev pub sample_file : List TopTree → FileTree
 sample_file decls = record { clause = at 0; name = called (codes "p") 1; semicolon = at 2; imports = []; decls = decls }
 
+-- a declaration of one type
+abbrev pub type_top : ℕ → Ident → TypeTree → ℕ → TopTree
+type_top keyword name t semicolon = top (Types (record { keyword = at keyword; specs = Single (record { name = name; type_expr = t }) })) semicolon
+
 -- type T struct { U; a int }
 abbrev pub entry_sample_struct : TopTree
-entry_sample_struct = top (Types (record { keyword = at 3; specs = Single (record { name = called (codes "T") 4; type_expr = Struct (at 5) (at 6) (EmbeddedField None (type_names.Plain (called (codes "U") 7)) None (Some (at 8)) (NamedFields (One (called (codes "a") 9)) (int_at 10) None None NoFields)) (at 11) }) })) 12
+entry_sample_struct = type_top 3 (called (codes "T") 4) (Struct (at 5) (at 6) (EmbeddedField None (type_names.Plain (called (codes "U") 7)) None (Some (at 8)) (NamedFields (One (called (codes "a") 9)) (int_at 10) None None NoFields)) (at 11)) 12
 
 -- func (u U) g(x int) {}
 abbrev pub plain_method : TopTree
@@ -36,7 +41,7 @@ pointer_method = top (Func (record { func = at 3; receiver = Some (record { open
 
 -- type U int
 abbrev pub number_type : TopTree
-number_type = top (Types (record { keyword = at 17; specs = Single (record { name = called (codes "U") 18; type_expr = int_at 19 }) })) 20
+number_type = type_top 17 (called (codes "U") 18) (int_at 19) 20
 
 -- func (q.T) k(x int) {}
 abbrev pub far_method : TopTree

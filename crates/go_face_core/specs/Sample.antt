@@ -2,7 +2,7 @@
 use Rattle.std.specs.Prelude.{◌≡◌, ℕ, true, List, [], ◌∷◌, Option, Some, None, codes}
 use Rattle.go_tree_nodes.specs.declared.decls.ValueKind.TheVariants as value_kinds
 use Rattle.go_tree_nodes.specs.declared.types.TypeName.TheVariants as type_names
-use Rattle.go_tree_nodes.specs.Trees.{One, Then, Pointer, Integer, Param, NoParams, Signed, NoResult, NoLines, Types, Func, Value, Single, TopTree}
+use Rattle.go_tree_nodes.specs.Trees.{One, Then, Pointer, Integer, Param, NoParams, Signed, NoResult, NoLines, Func, Value, Single, TopTree}
 use Rattle.go_tree_nodes.specs.Samples.{type_at, at, int_at, called}
 use Rattle.go_entry_core.specs.decl_core.declared.keys.DeclKey.{DeclKey}
 use Rattle.go_entry_core.specs.decl_core.declared.places.DeclKind.{DeclKind}
@@ -14,7 +14,7 @@ use Rattle.go_term_core.specs.Terms.{Term, Predeclared, Defined, PointerTo, Sign
 use Rattle.go_handle_core.specs.table_core.Entries.{Entry}
 use Rattle.go_entry_core.specs.Meanings.{Shows}
 use Rattle.go_entry_core.specs.Outlines.{outline_of}
-use Rattle.go_entry_core.specs.Sample.{sample_file}
+use Rattle.go_entry_core.specs.Sample.{sample_file, type_top}
 use Rattle.go_handle_core.specs.operand_core.declared.types.ValueType.TheVariants as value_types
 use Rattle.go_face_core.specs.declared.face.Face.TheVariants as faces
 use Rattle.go_face_core.specs.Faces.{TheFace}
@@ -23,7 +23,7 @@ use Rattle.go_entry_core.specs.block_core.Declarations.{decl_ref}
 
 -- type T int
 abbrev pub face_number_type : TopTree
-face_number_type = top (Types (record { keyword = at 3; specs = Single (record { name = called (codes "T") 4; type_expr = int_at 5 }) })) 6
+face_number_type = type_top 3 (called (codes "T") 4) (int_at 5) 6
 
 -- func f(x *T) {}
 abbrev pub face_sample_function : TopTree
@@ -51,7 +51,7 @@ face_sample_method = top (Func (record { func = at 12; receiver = Some (record {
 
 -- type N M
 abbrev pub missing_type : TopTree
-missing_type = top (Types (record { keyword = at 25; specs = Single (record { name = called (codes "N") 26; type_expr = type_at (codes "M") 27 }) })) 28
+missing_type = type_top 25 (called (codes "N") 26) (type_at (codes "M") 27) 28
 
 abbrev pub face_sample_blocks : BlocksModel
 face_sample_blocks = blocks_model ((codes "T", decl_ref 0 0 kinds.«Type») ∷ ((codes "N", decl_ref 1 5 kinds.«Type») ∷ [])) ([] ∷ ([] ∷ [])) []

@@ -11,7 +11,7 @@ use Rattle.go_tree_nodes.specs.Starts.{type_name_start}
 use Rattle.go_tree_nodes.specs.Trees.{FuncTree}
 use Rattle.go_term_core.specs.decl_core.TopDecls.{TopDeclTree, FormTree, ValueForm, TypeForm, FuncForm}
 use Rattle.go_term_core.specs.declared.term.MemberPlace.TheVariants as places
-use Rattle.go_term_core.specs.Terms.{Term, NoType, Predeclared, ErrorType, Defined, PointerTo, StructOf, InterfaceOf}
+use Rattle.go_term_core.specs.Terms.{Term, NoType, Predeclared, ErrorType, Defined, PointerTo, StructOf, InterfaceOf, is_no_type}
 use Rattle.go_summary_core.specs.table_core.Entries.{Entry, find_entry, term_in}
 use Rattle.go_summary_core.specs.type_core.declared.build.TypeFault.{TypeFault}
 use Rattle.go_summary_core.specs.embed_core.Faults.{term_faults, declared_faults, hidden_faults, can_be_base}
@@ -54,8 +54,13 @@ loops_faults os es fs = flat_map (λ f. type_loop_fault os f (slice_get es f.ent
 
 -- receivers
 
+-- the fault of a receiver's base that means a type, at an offset
+abbrev pub type_base_fault : List Entry → List ℕ → ℕ → ℕ → Term → List PackageFault
+type_base_fault es path file offset t = if can_be_base (kinds_in es) path t then [] else fault_in file offset B6 ∷ []
+
+-- the fault of a base by its name: a name that is refused means no type, has its own fault where it stands, and breaks no rule here
 abbrev pub base_fault : List Entry → Meaning → List ℕ → ℕ → TypeName → List PackageFault
-base_fault es mean path file base = if can_be_base (kinds_in es) path (mean base) then [] else fault_in file (type_name_start base) B6 ∷ []
+base_fault es mean path file base = if is_no_type (mean base) then [] else type_base_fault es path file (type_name_start base) (mean base)
 
 abbrev pub received_fault : List Entry → Meaning → List ℕ → ℕ → Option Receiver → List PackageFault
 received_fault es mean path file None = []

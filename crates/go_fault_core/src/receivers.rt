@@ -1,10 +1,11 @@
 //! The faults of receivers.
 ghost use Rattle.std.specs.Prelude.{◌≡◌, ◌++◌, OnOk, map};
+ghost use Rattle.go_term_core.specs.Shapes.{shape};
 ghost use Rattle.go_term_core.specs.decl_core.Shown.{decl_shown};
 ghost use Rattle.go_tree_nodes.specs.Shapes.{func_of};
 ghost use Rattle.go_summary_core.specs.entry_core.Entries.{package_meanings};
 ghost use Rattle.go_summary_core.specs.entry_core.Outlines.{outline_shown};
-ghost use Rattle.go_fault_core.specs.TypeFaults.{base_fault, file_receivers, form_fault, received_fault, receivers_faults};
+ghost use Rattle.go_fault_core.specs.TypeFaults.{base_fault, file_receivers, form_fault, received_fault, receivers_faults, type_base_fault};
 
 use crate::places::PackageFault;
 use go_path_core::ImportPath;
@@ -14,10 +15,31 @@ use go_summary_core::entry_core::{FileNames, ImportedNames};
 use go_summary_core::table_core::TypeTable;
 use go_summary_core::written_core::TypeNames;
 use go_term_core::decl_core::{DeclForm, Outline, TopDecl};
+use go_term_core::{TypeTerm, is_no_type};
 use go_tree_nodes::{FuncDecl, TypeName, type_name_start};
 use std::alloc::{AllocError, Global};
 
-// Adds the fault of a receiver's base in a file, if it has one.
+// Adds the fault of a receiver's base that means a type, at an offset of a file, if it has one.
+fn add_type_base(
+    types: &TypeTable,
+    path: &ImportPath,
+    file: usize,
+    offset: usize,
+    term: &TypeTerm,
+    faults: &mut Vec<PackageFault>,
+) -> Result<(), AllocError>
+    ensures { OnOk result (faults.new.items ≡ faults.old.items ++ type_base_fault types.now path.now file offset (shape term.now)) }
+{
+    match check_base(types, path, term) {
+        Ok(()) => Ok(()),
+        Err(rule) => {
+            faults.push(PackageFault { file, offset, rule })?;
+            Ok(())
+        }
+    }
+}
+
+// Adds the fault of a receiver's base in a file, if it has one. A name that is refused has its own where it stands.
 fn add_base<N: TypeNames>(
     alloc: Global,
     types: &TypeTable,
@@ -30,14 +52,10 @@ fn add_base<N: TypeNames>(
     ensures { OnOk result (faults.new.items ≡ faults.old.items ++ base_fault types.now (N.meaning names.now) path.now file base.now) }
 {
     let term = names.named(alloc, base)?;
-    match check_base(types, path, &term) {
-        Ok(()) => Ok(()),
-        Err(rule) => {
-            let offset = type_name_start(base);
-            faults.push(PackageFault { file, offset, rule })?;
-            Ok(())
-        }
+    if is_no_type(&term) {
+        return Ok(());
     }
+    add_type_base(types, path, file, type_name_start(base), &term, faults)
 }
 
 // Adds the fault of a function's receiver, if it has a receiver and that has a fault.

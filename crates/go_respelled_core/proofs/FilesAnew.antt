@@ -321,14 +321,14 @@ module _ (start : ℕ) (name : List ℕ) (named : is_blank name ≡ false) where
   -- declarations of types
 
   pub data OfTypeSpec (o : Occ) : TypeSpecTree → TypeSpecTree → Type 0 where
-    AtType : {y : Ident} {t u : TypeTree} → OfType start name o t u → OfTypeSpec o (type_spec_of y t) (type_spec_of y u)
+    AtType : {t : TypeSpecTree} {u : TypeTree} → OfType start name o t.type_expr u → OfTypeSpec o t (type_spec_of t u)
 
   abbrev IsFine : TypeSpecTree → Type 0
   IsFine t = Wf_type t.type_expr
 
   type_spec_anew : (t : TypeSpecTree) → IsFine t → Anew start name OfTypeSpec (spell_type_spec t) (type_spec_occs t) t (type_spec_with r t)
   type_spec_anew t w =
-      pair start name {P = Never} {Q = OfType start name} {R = OfTypeSpec} {ts = spell_ident t.name ∷ []} {os = []} {a = t.name} {b = t.type_expr} type_spec_of (λ o x y b k. absurd k) (λ o a x y k. AtType k) (declared start name t.name) (type_anew start name t.type_expr)
+      pair start name {P = Never} {Q = OfType start name} {R = OfTypeSpec} {ts = spell_ident t.name ∷ []} {os = []} {a = t.name} {b = t.type_expr} (λ y u. record t { name = y; type_expr = u }) (λ o x y b k. absurd k) (λ o a x y k. AtType {t = record t { name = a; type_expr = x }} k) (declared start name t.name) (type_anew start name t.type_expr)
 
   abbrev OfTypeSpecs : Occ → Specs TypeSpecTree → Specs TypeSpecTree → Type 0
   OfTypeSpecs o vs ws = OfSpecs spell_type_spec type_spec_occs (type_spec_with r) OfTypeSpec IsFine type_spec_anew o vs ws

@@ -193,11 +193,11 @@ module _ (st : FileStand) (x : Ident) (name : List ℕ) where
   types_of ls = flat_map (λ l. type_spots (outer_looks st) l.0.type_expr) ls
 
   in_types : (ts us : List (TypeSpecTree × Option Span)) → RespellsTypeGroup x name ts us → InSpots (types_of ts)
-  in_types ts us (InFirstType {t = t} {u = u} {more = more} r) = first_among st Q x (type_spots (outer_looks st) t) (types_of more) (type_among t u r)
+  in_types ts us (InFirstType {t = t} {u = u} {more = more} r) = first_among st Q x (type_spots (outer_looks st) t.type_expr) (types_of more) (type_among t.type_expr u r)
   in_types ts us (InLaterTypes {a = a} {more = more} {rest = rest} r) = second_among st Q x (type_spots (outer_looks st) a.0.type_expr) (types_of more) (in_types more rest r)
 
   in_type_specs : (ts us : Specs TypeSpecTree) → RespellsTypeSpecs x name ts us → InSpots (of_specs (λ (s : TypeSpecTree). type_spots (outer_looks st) s.type_expr) ts)
-  in_type_specs ts us (InOneType {t = t} {u = u} r) = type_among t u r
+  in_type_specs ts us (InOneType {t = t} {u = u} r) = type_among t.type_expr u r
   in_type_specs ts us (InTypeGroup {ts = olds} {us = news} r) = in_types olds news r
 
   in_header : (f : FuncTree) → InSpots (header_spots (outer_looks st) f.receiver f.signature) → IsOutside st Q (func_places st f) x

@@ -74,12 +74,12 @@ module _ (st other : FileStand) (x : Ident) (name : List ℕ) (path : st.scene.p
   group_uses ls = flat_map (λ l. type_uses after l.0.type_expr) ls
 
   group_stays : (ts us : List (TypeSpecTree × Option Span)) → RespellsTypeGroup x name ts us → Stays (group_spots ts) (group_uses us)
-  group_stays ts us (InFirstType {t = t} {u = u} {more = more} r) = behind after x name (type_spots looks t) (group_spots more) (type_uses after u) (group_uses more) (type_stays t u r)
+  group_stays ts us (InFirstType {t = t} {u = u} {more = more} r) = behind after x name (type_spots looks t.type_expr) (group_spots more) (type_uses after u) (group_uses more) (type_stays t.type_expr u r)
   group_stays ts us (InLaterTypes {a = a} {more = more} {rest = rest} r) =
       before after x name (type_spots looks a.0.type_expr) (group_spots more) (type_uses after a.0.type_expr) (group_uses rest) (type_long st other a.0) (group_stays more rest r)
 
   types_stay : (ts us : Specs TypeSpecTree) → RespellsTypeSpecs x name ts us → Stays (of_specs (λ s. type_spots looks s.type_expr) ts) (of_specs (λ s. type_uses after s.type_expr) us)
-  types_stay ts us (InOneType {t = t} {u = u} r) = type_stays t u r
+  types_stay ts us (InOneType {t = t} {u = u} r) = type_stays t.type_expr u r
   types_stay ts us (InTypeGroup {ts = olds} {us = news} r) = group_stays olds news r
 
   -- headers of functions

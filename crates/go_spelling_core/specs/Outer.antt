@@ -18,18 +18,19 @@ use Rattle.go_spelling_core.specs.Trees.{value_spec_with, with_base, with_receiv
 use Rattle.go_spelling_core.specs.Files.{WritesInSpecs}
 use Rattle.go_spelling_core.specs.Spots.{tops_spots}
 
-abbrev pub type_spec_with : Ident → TypeTree → TypeSpecTree
-type_spec_with y t = record { name = y; type_expr = t }
+-- a declaration of a type, with another type
+abbrev pub type_spec_with : TypeSpecTree → TypeTree → TypeSpecTree
+type_spec_with t u = record t { type_expr = u }
 
 -- declarations of types, alone or in parentheses
 
 pub data RespellsTypeGroup (x : Ident) (name : List ℕ) : List (TypeSpecTree × Option Span) → List (TypeSpecTree × Option Span) → Type 0 where
-  InFirstType : {y : Ident} {t u : TypeTree} {s : Option Span} {more : List (TypeSpecTree × Option Span)} → RespellsType x name t u
-      → RespellsTypeGroup x name ((type_spec_with y t, s) ∷ more) ((type_spec_with y u, s) ∷ more)
+  InFirstType : {t : TypeSpecTree} {u : TypeTree} {s : Option Span} {more : List (TypeSpecTree × Option Span)} → RespellsType x name t.type_expr u
+      → RespellsTypeGroup x name ((t, s) ∷ more) ((type_spec_with t u, s) ∷ more)
   InLaterTypes : {a : TypeSpecTree × Option Span} {more rest : List (TypeSpecTree × Option Span)} → RespellsTypeGroup x name more rest → RespellsTypeGroup x name (a ∷ more) (a ∷ rest)
 
 pub data RespellsTypeSpecs (x : Ident) (name : List ℕ) : Specs TypeSpecTree → Specs TypeSpecTree → Type 0 where
-  InOneType : {y : Ident} {t u : TypeTree} → RespellsType x name t u → RespellsTypeSpecs x name (Single (type_spec_with y t)) (Single (type_spec_with y u))
+  InOneType : {t : TypeSpecTree} {u : TypeTree} → RespellsType x name t.type_expr u → RespellsTypeSpecs x name (Single t) (Single (type_spec_with t u))
   InTypeGroup : {first last : Span} {ts us : List (TypeSpecTree × Option Span)} → RespellsTypeGroup x name ts us → RespellsTypeSpecs x name (Group first ts last) (Group first us last)
 
 -- a declaration: of constants or variables with a type that is written, of types, of a function or a method by its header

@@ -10,9 +10,8 @@ use Rattle.go_table_core.specs.settle_core.Settled.{kind_of_term}
 use Rattle.go_table_core.specs.Entries.{Entry, EntryLook}
 use Rattle.go_table_core.specs.Tables.{AreOf, KeysRise, IsKeyBefore}
 use Rattle.go_type_core.specs.declared.build.TypeFault.{TypeFault}
-use Rattle.go_type_core.specs.Built.{IsLooped, kept_over, IsEntry, AreEntries, looped_faults, IsBuilt}
+use Rattle.go_type_core.specs.Built.{AreLoopedEntries, IsLooped, kept_over, IsEntry, AreEntries, looped_faults, IsBuilt}
 use Rattle.go_type_core.specs.mirrors.Numbers.{keys_of, number_of, IsTable}
-use Rattle.go_type_core.specs.mirrors.Edges.{AreLooped}
 use Rattle.go_type_core.specs.mirrors.Chained.{under_at, kind_at, known_kind}
 use Rattle.go_type_core.specs.mirrors.Making.{marked_faults, entry_at, no_entry}
 use Rattle.go_type_core.proofs.Keyed.{at_number, at_place, not_found, Apart}
@@ -29,7 +28,7 @@ marked marks (Some i) = get_or marks i false
 abbrev pub looped_key : List DeclKey → List Bool → DeclKey → Bool
 looped_key keys marks k = marked marks (number_of keys k)
 
-looped_cases : (written : List Entry) (marks : List Bool) (k : DeclKey) (o : Option ℕ) → AreLooped written marks → number_of (keys_of written) k ≡ o → (marked marks o ≡ true) ↔ IsLooped written k
+looped_cases : (written : List Entry) (marks : List Bool) (k : DeclKey) (o : Option ℕ) → AreLoopedEntries written marks → number_of (keys_of written) k ≡ o → (marked marks o ≡ true) ↔ IsLooped written k
 looped_cases written marks k None are n = (
   (λ yes. absurd (cc)),
   (λ loop. (let f = looped_found written k loop in let gone = not_found written k n in absurd (let both : None ≡ Some f.0 = sym gone ∙ f.1 in (cc)))),
@@ -39,7 +38,7 @@ looped_cases written marks k (Some i) are n =
     let here = are i at.0 at.1.stands in
     ((λ yes. subst (IsLooped written) at.1.key (here.0 yes)), (λ loop. here.1 (subst (IsLooped written) (sym at.1.key) loop)))
 
-pub looped_are : (written : List Entry) (marks : List Bool) → AreLooped written marks → (k : DeclKey) → IsTrue (looped_key (keys_of written) marks k) ↔ IsLooped written k
+pub looped_are : (written : List Entry) (marks : List Bool) → AreLoopedEntries written marks → (k : DeclKey) → IsTrue (looped_key (keys_of written) marks k) ↔ IsLooped written k
 looped_are written marks are k = looped_cases written marks k (number_of (keys_of written) k) are refl
 
 fault : ℕ → TypeFault

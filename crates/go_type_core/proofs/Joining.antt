@@ -11,9 +11,9 @@ use Rattle.go_table_core.specs.Entries.{Entry, EntryLook, find_entry, IsUnnamed}
 use Rattle.go_table_core.specs.Shown.{entry_shown}
 use Rattle.go_table_core.specs.Tables.{AreOf, KeysRise}
 use Rattle.go_type_core.specs.declared.build.TypeFault.{TypeFault}
-use Rattle.go_type_core.specs.Built.{base, IsBuilt}
+use Rattle.go_type_core.specs.Built.{AreLoopedEntries, base, IsBuilt}
 use Rattle.go_type_core.specs.mirrors.Numbers.{keys_of, IsTable}
-use Rattle.go_type_core.specs.mirrors.Edges.{all_uses, AreLooped, Falls, MarksTo, SameEdges}
+use Rattle.go_type_core.specs.mirrors.Edges.{all_uses, Falls, MarksTo, SameEdges}
 use Rattle.go_type_core.specs.mirrors.Chained.{next_bare, next_named, nothing_at, kind_at, known_kind, AreNothing, AreRootEnds}
 use Rattle.go_type_core.specs.mirrors.Making.{marked_faults, entry_at, AreShared, IsMade}
 use Rattle.go_type_core.proofs.Keyed.{rise_apart}
@@ -44,7 +44,7 @@ module _ (keys : List DeclKey) (es : List TypeEntry) (view : keys ≡ keys_of (s
   marks_of edges slice count marks is same counted m =
       marks_same slice (all_uses (keys_of (shown es)) 0 (shown es)) (length (shown es)) marks (all_of edges slice is same) (subst (λ n. MarksTo slice slice n marks) (counted ∙ count_shown es) m)
 
-  pub looped_of : (edges slice : List Edge) (count : ℕ) (marks : List Bool) → SameEdges edges (all_uses keys 0 (shown es)) → slice ≡ edges → count ≡ length es → MarksTo slice slice count marks → AreLooped (shown es) marks
+  pub looped_of : (edges slice : List Edge) (count : ℕ) (marks : List Bool) → SameEdges edges (all_uses keys 0 (shown es)) → slice ≡ edges → count ≡ length es → MarksTo slice slice count marks → AreLoopedEntries (shown es) marks
   looped_of edges slice count marks is same counted m = marked_looped (shown es) (rise_apart (shown es) rise) marks (marks_of edges slice count marks is same counted m)
 
   pub falls_of : (edges slice ranked : List Edge) (count : ℕ) (marks : List Bool) (ranks : List ℕ) → SameEdges edges (all_uses keys 0 (shown es)) → slice ≡ edges → ranked ≡ edges → count ≡ length es → IsRanking ranked ranks → MarksTo slice slice count marks → Falls (shown es) marks
@@ -69,7 +69,7 @@ module _ (keys : List DeclKey) (es : List TypeEntry) (view : keys ≡ keys_of (s
   pub named_inside : (looped : List Bool) (next slice : List (Option ℕ)) → IsTable next (length es) (next_named keys looped (shown es)) → slice ≡ next → AllInside slice
   named_inside looped next slice table same = inside (shown es) (rise_apart (shown es) rise) looped (λ t. t) slice (named_table looped next slice table same)
 
-  pub nothing_of : (far : EntryLook) (looped : List Bool) (next slice ends given : List (Option ℕ)) (marks : List Bool) → IsTable next (length es) (next_bare keys looped (shown es)) → slice ≡ next → AreLooped (shown es) looped → AreEnds slice ends → given ≡ ends → IsTable marks (length es) (nothing_at far looped (shown es) given) → AreNothing (shown es) far marks
+  pub nothing_of : (far : EntryLook) (looped : List Bool) (next slice ends given : List (Option ℕ)) (marks : List Bool) → IsTable next (length es) (next_bare keys looped (shown es)) → slice ≡ next → AreLoopedEntries (shown es) looped → AreEnds slice ends → given ≡ ends → IsTable marks (length es) (nothing_at far looped (shown es) given) → AreNothing (shown es) far marks
   nothing_of far looped next slice ends given marks table same are ends_are handed made =
       are_nothing (shown es) (rise_apart (shown es) rise) far looped are slice (bare_table looped next slice table same) ends marks ends_are
       (subst (λ l. IsTable marks (length (shown es)) (nothing_at far looped (shown es) l)) handed (table_all marks (length es) (length (shown es)) (nothing_at far looped (shown es) given) (count_shown es) made))
@@ -83,7 +83,7 @@ module _ (keys : List DeclKey) (es : List TypeEntry) (view : keys ≡ keys_of (s
 pub record IsPrepared (es : List TypeEntry) (imported : List Entry) (keys : List DeclKey) (looped nothing : List Bool) (ends : List (Option ℕ)) (ks : List Kind) (types : List Entry) : Type 0 where
   pub rise : KeysRise (shown es)
   pub view : keys ≡ keys_of (shown es)
-  pub are : AreLooped (shown es) looped
+  pub are : AreLoopedEntries (shown es) looped
   pub falls : Falls (shown es) looped
   pub nothing_are : AreNothing (shown es) (find_entry imported) nothing
   pub roots : AreRootEnds (shown es) looped ends
@@ -132,7 +132,7 @@ module _ (es : List TypeEntry) (imported : List Entry) (keys : List DeclKey) (lo
   plain_of plain = plain_types (shown es) types (find_entry imported) (known_kind (keys_of (shown es)) ks (find_entry imported)) nothing ends types_are (λ k. plain_found imported k plain)
 
 -- types that were made, by those that reach themselves
-module _ (es : List TypeEntry) (imported : List Entry) (keys : List DeclKey) (looped looped' : List Bool) (types : List Entry) (rise : KeysRise (shown es)) (view : keys ≡ keys_of (shown es)) (are : AreLooped (shown es) looped) (falls : Falls (shown es) looped)
+module _ (es : List TypeEntry) (imported : List Entry) (keys : List DeclKey) (looped looped' : List Bool) (types : List Entry) (rise : KeysRise (shown es)) (view : keys ≡ keys_of (shown es)) (are : AreLoopedEntries (shown es) looped) (falls : Falls (shown es) looped)
     (same : looped' ≡ looped) (made : IsMade (length es) (shown es) (find_entry imported) keys looped' types) where
   m : IsMade (length es) (shown es) (find_entry imported) keys looped types
   m = subst (λ l. IsMade (length es) (shown es) (find_entry imported) keys l types) same made

@@ -10,9 +10,9 @@ use Rattle.go_table_core.specs.decl_core.declared.keys.DeclKey.{DeclKey}
 use Rattle.go_cycle_core.specs.declared.edge.Edge.{Edge}
 use Rattle.go_cycle_core.specs.Cycle.{InRange, Leads, Reaches, IsOnCycle, IsRanked, IsRanking}
 use Rattle.go_table_core.specs.Entries.{Entry}
-use Rattle.go_type_core.specs.Built.{direct_keys, Uses, UsesAlong, IsLooped}
+use Rattle.go_type_core.specs.Built.{AreLoopedEntries, direct_keys, Uses, UsesAlong, IsLooped}
 use Rattle.go_type_core.specs.mirrors.Numbers.{keys_of, number_of}
-use Rattle.go_type_core.specs.mirrors.Edges.{edge_to, uses_from, all_uses, HasLoop, AreLooped, Falls, MarksTo, marks_if}
+use Rattle.go_type_core.specs.mirrors.Edges.{edge_to, uses_from, all_uses, HasLoop, Falls, MarksTo, marks_if}
 use Rattle.go_type_core.proofs.Keyed.{at_found, at_number, at_place, Apart}
 
 abbrev edge : ℕ → ℕ → Edge
@@ -171,7 +171,7 @@ module _ (written : List Entry) (apart : Apart written) where
       ]
 
   -- marks of the starts of edges on cycles are those of types that reach themselves
-  pub are_looped : (marks : List Bool) → ((i : ℕ) → (get_or marks i false ≡ true) ↔ HasLoop edges edges i) → AreLooped written marks
+  pub are_looped : (marks : List Bool) → ((i : ℕ) → (get_or marks i false ≡ true) ↔ HasLoop edges edges i) → AreLoopedEntries written marks
   are_looped marks h i w at =
       let n = (at_place written i w apart at).numbered in
       ((λ yes. loop_back i w.key n ((h i).0 yes)), (λ loop. (h i).1 (loop_there i w.key n loop)))
@@ -276,7 +276,7 @@ marks_all all count marks n le h = subst (λ l. MarksTo all l count marks) (take
 
 -- what the marks say
 
-pub marked_looped : (written : List Entry) (apart : Apart written) (marks : List Bool) → MarksTo (edges written apart) (edges written apart) (length written) marks → AreLooped written marks
+pub marked_looped : (written : List Entry) (apart : Apart written) (marks : List Bool) → MarksTo (edges written apart) (edges written apart) (length written) marks → AreLoopedEntries written marks
 marked_looped written apart marks m = are_looped written apart marks m.each
 
 pub marked_falls : (written : List Entry) (apart : Apart written) (marks : List Bool) (ranks : List ℕ) → IsRanking (edges written apart) ranks → MarksTo (edges written apart) (edges written apart) (length written) marks → Falls written marks

@@ -7,9 +7,8 @@ use Rattle.go_table_core.specs.decl_core.declared.keys.DeclKey.{DeclKey}
 use Rattle.go_chain_core.specs.Chains.{ChainLeads, EndsAt, AreEnds, AllInside}
 use Rattle.go_term_core.specs.Terms.{Term, NoType, Predeclared, ErrorType, Defined, PointerTo, StructOf, InterfaceOf, is_no_type}
 use Rattle.go_table_core.specs.Entries.{Entry, EntryLook, find_entry, term_in}
-use Rattle.go_type_core.specs.Built.{base, NamesNothing, IsNothingBy, IsNoTypeHere, UsesAlong, IsLooped}
+use Rattle.go_type_core.specs.Built.{AreLoopedEntries, base, NamesNothing, IsNothingBy, IsNoTypeHere, UsesAlong, IsLooped}
 use Rattle.go_type_core.specs.mirrors.Numbers.{keys_of, number_of, term_at, IsTable}
-use Rattle.go_type_core.specs.mirrors.Edges.{AreLooped}
 use Rattle.go_type_core.specs.mirrors.Chained.{named_number, next_unless, next_bare, is_lacking, is_bad_end, is_bad_at, nothing_at, AreNothing}
 use Rattle.go_type_core.proofs.Keyed.{At, at_found, at_number, at_place, not_found, not_numbered, Apart, table_at}
 use Rattle.go_type_core.proofs.Looping.{number_below}
@@ -158,7 +157,7 @@ looped_found written k loop = first loop.0 loop.1
     first [] u = (u.0, u.1)
     first (m ∷ ms) u = (u.0.0, u.0.1)
 
-module _ (written : List Entry) (apart : Apart written) (far : EntryLook) (looped : List Bool) (are : AreLooped written looped) (next : List (Option ℕ))
+module _ (written : List Entry) (apart : Apart written) (far : EntryLook) (looped : List Bool) (are : AreLoopedEntries written looped) (next : List (Option ℕ))
     (table : IsTable next (length written) (next_bare (keys_of written) looped written)) where
   -- from the end of a chain to what is nothing
 

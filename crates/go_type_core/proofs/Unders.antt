@@ -10,9 +10,9 @@ use Rattle.go_table_core.specs.settle_core.declared.kind.Kind.TheVariants as kin
 use Rattle.go_table_core.specs.settle_core.Settled.{kind_of_term, settled, pointer_to, defined_unless}
 use Rattle.go_term_core.specs.Terms.{Term, NoType, Predeclared, ErrorType, Defined, PointerTo, StructOf, InterfaceOf}
 use Rattle.go_table_core.specs.Entries.{Entry, EntryLook, find_entry, term_in, IsUnnamed}
-use Rattle.go_type_core.specs.Built.{base, direct_keys, NamesNothing, IsNothingBy, IsNoTypeHere, IsUnderBy, IsUnder, IsUnderlying, AreKinds}
+use Rattle.go_type_core.specs.Built.{AreLoopedEntries, base, direct_keys, NamesNothing, IsNothingBy, IsNoTypeHere, IsUnderBy, IsUnder, IsUnderlying, AreKinds}
 use Rattle.go_type_core.specs.mirrors.Numbers.{keys_of, number_of, term_at, IsTable}
-use Rattle.go_type_core.specs.mirrors.Edges.{AreLooped, Falls}
+use Rattle.go_type_core.specs.mirrors.Edges.{Falls}
 use Rattle.go_type_core.specs.mirrors.Chained.{named_number, next_named, root_kind, root_term, number_or, root_at, kind_unless, term_unless, kind_at, under_at, kind_by, known_kind, AreNothing}
 use Rattle.go_type_core.proofs.Keyed.{at_found, at_place, not_found, not_numbered, Apart, table_at}
 use Rattle.go_type_core.proofs.Looping.{contains_first}
@@ -199,7 +199,7 @@ gone_nothing written far k gone n = by_through n.0 n.1
 -- what is known of a package's types before they are settled
 pub record IsRooted (written : List Entry) (far : EntryLook) (looped nothing : List Bool) (next ends : List (Option ℕ)) : Type 0 where
   pub apart : Apart written
-  pub are : AreLooped written looped
+  pub are : AreLoopedEntries written looped
   pub falls : Falls written looped
   pub nothing_is : AreNothing written far nothing
   pub table : IsTable next (length written) (next_named (keys_of written) looped written)

@@ -1,5 +1,5 @@
 -- What the types of a package are, from what is written of them and from what is known of other packages' types.
-use Rattle.std.specs.Prelude.{◌≡◌, ◌⊎◌, ◌↔◌, ℕ, suc, Bool, ◌||◌, IsTrue, List, [], ◌∷◌, ◌++◌, Some, None, Contains, if◌then◌else◌, ⊤}
+use Rattle.std.specs.Prelude.{◌≡◌, ◌⊎◌, ◌↔◌, ℕ, suc, Bool, true, false, ◌||◌, IsTrue, List, [], ◌∷◌, ◌++◌, Some, None, slice_get, slice_index_or, Contains, if◌then◌else◌, ⊤}
 use Rattle.go_term_core.specs.text_core.Text.{is_blank}
 use Rattle.go_term_core.specs.text_core.declared.rule.Rule.TheVariants as rules
 use Rattle.go_table_core.specs.decl_core.declared.keys.DeclKey.{DeclKey}
@@ -40,6 +40,10 @@ UsesAlong written k (m ∷ ms) j = Uses written k m × UsesAlong written m ms j
 -- a type that reaches itself
 abbrev pub IsLooped : List Entry → DeclKey → Type 0
 IsLooped written k = (between : List DeclKey) × UsesAlong written k between k
+
+-- marks of the types of a list that reach themselves, by their places there
+abbrev pub AreLoopedEntries : List Entry → List Bool → Type 0
+AreLoopedEntries written marks = (i : ℕ) (w : Entry) → slice_get written i ≡ Some w → (slice_index_or marks i false ≡ true) ↔ IsLooped written w.key
 
 -- 2. What is no type.
 

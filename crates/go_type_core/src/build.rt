@@ -3,8 +3,7 @@ ghost use Rattle.std.specs.Prelude.{◌≡◌, IfOk, length, map};
 ghost use Rattle.go_table_core.specs.Entries.{find_entry};
 ghost use Rattle.go_table_core.specs.Shown.{entry_shown};
 ghost use Rattle.go_table_core.specs.Tables.{AreOf, KeysRise};
-ghost use Rattle.go_type_core.specs.Built.{IsBuilt};
-ghost use Rattle.go_type_core.specs.mirrors.Edges.{AreLooped};
+ghost use Rattle.go_type_core.specs.Built.{AreLoopedEntries, IsBuilt};
 ghost use Rattle.go_type_core.specs.mirrors.Making.{IsMade, marked_faults};
 ghost use Rattle.go_type_core.specs.mirrors.Numbers.{keys_of};
 
@@ -51,7 +50,7 @@ fn made_types(
 ) -> Result<Vec<DefinedType>, AllocError>
     requires keys { keys.now ≡ keys_of (map entry_shown entries.now) }
     requires rising { KeysRise (map entry_shown entries.now) }
-    requires looped { AreLooped (map entry_shown entries.now) looped.now }
+    requires looped { AreLoopedEntries (map entry_shown entries.now) looped.now }
     ensures { IfOk result (λ types. IsMade (length entries.now) (map entry_shown entries.now) (find_entry imported.now) keys.now looped.now types.items) }
 {
     let nothing = nothing_types(alloc, imported, keys, looped, entries)?;

@@ -24,6 +24,7 @@ pub use go_term_core::{
 pub use laws::{
     building_is_local, built_mentions_written, one_settled, underlying_as_defined, worked_types,
 };
+pub use looped::type_loops;
 
 /// What the crates above name of `go_decl_core`.
 pub mod decl_core {

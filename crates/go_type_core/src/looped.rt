@@ -2,16 +2,17 @@
 ghost use Rattle.std.specs.Prelude.{◌≡◌, ◌↔◌, ◌<◌, ◌++◌, ◌∷◌, [], IfOk, IsTrue, length, map, OnOk, Some};
 ghost use Rattle.go_cycle_core.specs.Cycle.{InRange, IsRanking};
 ghost use Rattle.go_table_core.specs.Shown.{entry_shown};
-ghost use Rattle.go_table_core.specs.Tables.{KeysRise};
+ghost use Rattle.go_table_core.specs.Tables.{AreOf, KeysRise};
 ghost use Rattle.go_term_core.specs.Shapes.{fields_in, line_at, line_shapes, shape};
-ghost use Rattle.go_type_core.specs.Built.{direct_fields, direct_keys};
-ghost use Rattle.go_type_core.specs.mirrors.Edges.{all_uses, AreLooped, Falls, HasAlso, LineAdded, MarksTo, SameEdges, marks_if, uses_from};
+ghost use Rattle.go_type_core.specs.Built.{AreLoopedEntries, direct_fields, direct_keys};
+ghost use Rattle.go_type_core.specs.mirrors.Edges.{all_uses, Falls, HasAlso, LineAdded, MarksTo, SameEdges, marks_if, uses_from};
 ghost use Rattle.go_type_core.specs.mirrors.Numbers.{keys_of};
 
 use crate::own_keys::OwnKeys;
 use go_cycle_core::{Edge, Ranked, rank_and_order};
 use go_table_core::TypeEntry;
 use go_table_core::decl_core::DeclKey;
+use go_table_core::path_core::ImportPath;
 use go_term_core::{Field, FieldLine, TypeTerm};
 use std::alloc::{AllocError, Global};
 
@@ -149,10 +150,30 @@ pub(crate) fn looped_types(
     requires keys { keys.now ≡ keys_of (map entry_shown entries.now) }
     requires rising { KeysRise (map entry_shown entries.now) }
     ensures len { IfOk result (λ marks. length marks.items ≡ length entries.now) }
-    ensures looped { IfOk result (λ marks. AreLooped (map entry_shown entries.now) marks.items) }
+    ensures looped { IfOk result (λ marks. AreLoopedEntries (map entry_shown entries.now) marks.items) }
     ensures falls { IfOk result (λ marks. Falls (map entry_shown entries.now) marks.items) }
 {
     let edges = all_uses(alloc, keys, entries)?;
     let ranked = rank_and_order(alloc, &edges, entries.len())?;
     mark_loops(alloc, &edges, &ranked, entries.len())
+}
+
+/// Which types of the package of a path reach themselves outside pointers and interfaces, by their places in the list: each by what is
+/// written of it, in order of file and place. It takes time that is linear in what is written, but for look-ups.
+///
+/// # Errors
+///
+/// `AllocError` where memory is wanting.
+pub fn type_loops(
+    alloc: Global,
+    path: &ImportPath,
+    entries: &[TypeEntry],
+) -> Result<Vec<bool>, AllocError>
+    requires own { AreOf path.now (map entry_shown entries.now) }
+    requires rising { KeysRise (map entry_shown entries.now) }
+    ensures len { IfOk result (λ marks. length marks.items ≡ length entries.now) }
+    ensures looped { IfOk result (λ marks. AreLoopedEntries (map entry_shown entries.now) marks.items) }
+{
+    let keys = OwnKeys::of(alloc, path, entries)?;
+    looped_types(alloc, &keys, entries)
 }

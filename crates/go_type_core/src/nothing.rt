@@ -4,9 +4,8 @@ ghost use Rattle.go_table_core.specs.Entries.{find_entry};
 ghost use Rattle.go_table_core.specs.Shown.{entry_shown};
 ghost use Rattle.go_table_core.specs.Tables.{KeysRise};
 ghost use Rattle.go_term_core.specs.Shapes.{shape};
-ghost use Rattle.go_type_core.specs.Built.{base};
+ghost use Rattle.go_type_core.specs.Built.{AreLoopedEntries, base};
 ghost use Rattle.go_type_core.specs.mirrors.Chained.{AreNothing, is_bad_end, is_lacking, named_number, next_bare, nothing_at};
-ghost use Rattle.go_type_core.specs.mirrors.Edges.{AreLooped};
 ghost use Rattle.go_type_core.specs.mirrors.Numbers.{IsTable, keys_of, term_at};
 
 use crate::marks::{end_at, is_marked, next_unless};
@@ -141,7 +140,7 @@ pub(crate) fn nothing_types(
 ) -> Result<Vec<bool>, AllocError>
     requires keys { keys.now ≡ keys_of (map entry_shown entries.now) }
     requires rising { KeysRise (map entry_shown entries.now) }
-    requires looped { AreLooped (map entry_shown entries.now) looped.now }
+    requires looped { AreLoopedEntries (map entry_shown entries.now) looped.now }
     ensures { IfOk result (λ marks. AreNothing (map entry_shown entries.now) (find_entry imported.now) marks.items) }
 {
     let next = next_bare(alloc, keys, looped, entries)?;

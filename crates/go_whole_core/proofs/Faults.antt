@@ -13,7 +13,7 @@ use Rattle.go_tree_nodes.specs.Starts.{type_name_start}
 use Rattle.go_term_core.specs.decl_core.declared.keys.DeclKey.{DeclKey}
 use Rattle.go_term_core.specs.decl_core.TopDecls.{TopDeclTree, FormTree, ValueForm, TypeForm, FuncForm}
 use Rattle.go_term_core.specs.declared.term.MemberPlace.{MemberPlace}
-use Rattle.go_term_core.specs.Terms.{Term, NoType, Predeclared, ErrorType, Defined, PointerTo, StructOf, InterfaceOf, AMethod, NoMethod, Sign, term_keys, sign_keys}
+use Rattle.go_term_core.specs.Terms.{Term, NoType, Predeclared, ErrorType, Defined, PointerTo, StructOf, InterfaceOf, AMethod, NoMethod, Sign, is_no_type, term_keys, sign_keys}
 use Rattle.go_near_core.specs.settle_core.declared.kind.Kind.{Kind}
 use Rattle.go_near_core.specs.settle_core.Settled.{kind_of_term, is_among_names}
 use Rattle.go_near_core.specs.table_core.Entries.{Entry, Member, find_entry, members_keys, term_in}
@@ -90,7 +90,7 @@ module _ (Inside : List ℕ → Type 0) (es fs : List Entry) (same : (k : DeclKe
   module _ (means : Meanings) (near : (file : ℕ) (n : TypeName) → AllInside Inside (term_keys (means file n))) (path : List ℕ) where
     received_same : (file : ℕ) (o : Option Receiver) → received_fault es (means file) path file o ≡ received_fault fs (means file) path file o
     received_same file None = refl
-    received_same file (Some r) = λ j. if base_same path (means file r.base) (near file r.base) j then [] else fault_in file (type_name_start r.base) B6 ∷ []
+    received_same file (Some r) = λ j. if is_no_type (means file r.base) then [] else (if base_same path (means file r.base) (near file r.base) j then [] else fault_in file (type_name_start r.base) B6 ∷ [])
 
     receiver_same : (file : ℕ) (form : FormTree) → form_fault es (means file) path file form ≡ form_fault fs (means file) path file form
     receiver_same file (ValueForm k v i) = refl

@@ -4,7 +4,7 @@ use Rattle.go_table_core.specs.decl_core.declared.keys.DeclKey.{DeclKey}
 use Rattle.go_cycle_core.specs.declared.edge.Edge.{Edge}
 use Rattle.go_cycle_core.specs.Cycle.{IsOnCycle}
 use Rattle.go_table_core.specs.Entries.{Entry}
-use Rattle.go_type_core.specs.Built.{direct_keys, IsLooped}
+use Rattle.go_type_core.specs.Built.{direct_keys}
 use Rattle.go_type_core.specs.mirrors.Numbers.{keys_of, number_of}
 
 -- an edge to a number, before others
@@ -25,10 +25,6 @@ all_uses keys i (w ∷ ws) = uses_from keys i (direct_keys w.term) ++ all_uses k
 -- an edge that starts at a number lies on a cycle
 abbrev pub HasLoop : List Edge → List Edge → ℕ → Type 0
 HasLoop all some i = (e : Edge) × Contains some e × (e.from ≡ i) × IsOnCycle all e
-
--- marks of the types that reach themselves
-abbrev pub AreLooped : List Entry → List Bool → Type 0
-AreLooped written marks = (i : ℕ) (w : Entry) → slice_get written i ≡ Some w → (slice_index_or marks i false ≡ true) ↔ IsLooped written w.key
 
 -- numbers that fall from each type without a mark to those that it uses directly
 abbrev pub Falls : List Entry → List Bool → Type 0
