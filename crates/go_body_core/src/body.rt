@@ -12,7 +12,7 @@ ghost use Rattle.go_body_core.specs.Body.{IsBody, IsWalkedBody, IsGivenBody};
 use crate::ends::add_end;
 use crate::locals::Local;
 use crate::notes::{BodyUse, Note, joined};
-use crate::pieces::Pieces;
+use crate::pieces::{Pieces, RecalledPieces};
 use go_env_core::face_core::Face;
 use go_env_core::handle_core::{SignatureRef, TypeRef};
 use go_env_core::inline_core::InlineTypes;
@@ -21,7 +21,7 @@ use go_env_core::names_core::check_function;
 use go_env_core::piece_core::has_named_results;
 use go_env_core::scope_core::Scopes;
 use go_env_core::walk_core::lines_loop_faults;
-use go_env_core::{Scene, outer_names};
+use go_env_core::{Recall, Scene, TypesOf, outer_names};
 use go_tree_nodes::FuncDecl;
 use std::alloc::{AllocError, Global};
 
@@ -90,7 +90,8 @@ fn gathered<'p>(
 }
 
 /// Checks a function of a package: in a file, by the file's number in order of name, from 0, with the types that are written inside the
-/// function, and with what the package's own declarations are, by their places in `scene.written`.
+/// function, with what the package's own declarations are, by their places in `scene.written`, and with what was decided of the types of its
+/// table, to which it adds what it decides. No answer rests on what was decided before.
 ///
 /// What its occurrences have, its faults and its locals are what the rules of pieces give on the way through the function, and what they give by
 /// the regions of its declarations, where each means what its piece gives under the names as these very regions bind them.
@@ -100,14 +101,16 @@ fn gathered<'p>(
 /// # Errors
 ///
 /// `AllocError` where memory is wanting.
-pub fn check_body<'n, 'p>(
+pub fn check_body<'n, 'p, K: TypesOf>(
     alloc: Global,
     scene: &'n Scene<'p>,
     file: usize,
     inline: &'p InlineTypes,
     known: &'n [Option<Face<TypeRef<'p>, SignatureRef<'p>>>],
     func: &FuncDecl,
+    recall: &'n Recall<'p, K>,
 ) -> Result<CheckedBody<'p>, AllocError>
+    requires table { scene.now.types.now ≡ K.types }
     requires placed { IsFuncPlaced (func_of func.now) }
     ensures walked { IfOk result (λ body. IsWalkedBody (scene_shown scene.now) file known.now (inline_rules (scene_shown scene.now) inline.now) (func_of func.now) body.uses.items body.faults.items body.locals.items) }
     ensures given { IfOk result (λ body. IsGivenBody (scene_shown scene.now) file known.now (inline_rules (scene_shown scene.now) inline.now) (func_of func.now) body.uses.items body.faults.items body.locals.items) }
@@ -122,6 +125,7 @@ pub fn check_body<'n, 'p>(
         results: results.as_slice(),
         has_names: has_named_results(&func.signature),
     };
-    let checked = check_function(alloc, &pieces, scene.blocks, file, func)?;
+    let recalled = RecalledPieces { pieces, recall };
+    let checked = check_function(alloc, &recalled, scene.blocks, file, func)?;
     gathered(alloc, checked.notes, checked.faults.as_slice(), func)
 }

@@ -1,6 +1,8 @@
 //! The checker of the pieces of a function.
 ghost use Rattle.std.specs.Prelude.{◌≡◌, [], ◌∷◌, ◌++◌, IfOk, OnOk, map};
+ghost use Rattle.std.specs.Coded.{Coded-set, coded_list};
 ghost use Rattle.go_tree_nodes.specs.TypeShapes.{shape_signature};
+ghost use Rattle.go_env_core.specs.table_core.codes.EntryCodes.{coded_entry};
 ghost use Rattle.go_env_core.specs.scope_core.Models.{scopes_model};
 ghost use Rattle.go_env_core.specs.Scenes.{scene_shown};
 ghost use Rattle.go_env_core.specs.Looks.{inline_rules};
@@ -15,7 +17,7 @@ use go_env_core::handle_core::{SignatureRef, TypeRef};
 use go_env_core::inline_core::InlineTypes;
 use go_env_core::names_core::{Checker, OpenNames, header_idents, listed_idents};
 use go_env_core::piece_core::function_results;
-use go_env_core::{Here, Meaning, Scene, stand};
+use go_env_core::{Meaning, Recall, Recalling, Scene, TypesOf, stand};
 use go_text_core::Span;
 use go_tree_nodes::{Definition, Expr, Exprs, FuncDecl, Ident, Simple, ValueKind, ValueSpec};
 use std::alloc::{AllocError, Global};
@@ -53,21 +55,24 @@ impl<'c, 'p> Pieces<'c, 'p> {
 
     // Notes a piece, with the locals that it declares, and answers what its names mean. By these names, and which of them are the first
     // of their block.
-    fn declare_piece(
+    fn declare_piece<K: TypesOf>(
         &self,
+        recall: &Recall<'p, K>,
         names: &OpenNames<Meaning<'p>>,
         piece: &PieceTree<'_>,
         idents: &[&Ident],
         firsts: &[bool],
         notes: &mut Vec<Note<'p>>,
     ) -> Result<Vec<Meaning<'p>>, AllocError>
+        requires { self.now.scene.now.types.now ≡ K.types }
         ensures noted { OnOk result (notes.new.items ≡ notes.old.items ++ noted_at self.now names.now firsts.now piece.now (map (λ i. i.now) idents.now) ∷ []) }
         ensures means { IfOk result (λ means. means.items ≡ locals_of (map (λ i. i.now) idents.now) (values_at self.now names.now firsts.now piece.now)) }
     {
         let here = stand(self.scene, self.file, self.inline, self.known, names);
+        let place = Recalling { here, recall };
         let mut own = nothing(self.alloc);
         let values = check_piece(
-            &here,
+            &place,
             self.alloc,
             piece,
             firsts,
@@ -79,20 +84,30 @@ impl<'c, 'p> Pieces<'c, 'p> {
     }
 
     // Notes a piece that declares nothing.
-    fn note_piece(
+    fn note_piece<K: TypesOf>(
         &self,
+        recall: &Recall<'p, K>,
         names: &OpenNames<Meaning<'p>>,
         piece: &PieceTree<'_>,
         notes: &mut Vec<Note<'p>>,
     ) -> Result<(), AllocError>
+        requires { self.now.scene.now.types.now ≡ K.types }
         ensures { OnOk result (notes.new.items ≡ notes.old.items ++ noted_at self.now names.now [] piece.now [] ∷ []) }
     {
-        self.declare_piece(names, piece, &[], &[], notes)?;
+        self.declare_piece(recall, names, piece, &[], &[], notes)?;
         Ok(())
     }
 }
 
-impl<'c, 'p> Checker for Pieces<'c, 'p> {
+/// The checker of the pieces of a function, with what was decided of the types of its table.
+#[derive(Drop)]
+pub(crate) struct RecalledPieces<'c, 'p, K: TypesOf> {
+    pub(crate) pieces: Pieces<'c, 'p>,
+    pub(crate) recall: &'c Recall<'p, K>,
+    pub(crate) ghost same: { pieces.scene.now.types.now ≡ K.types } by { Coded-set (coded_list coded_entry) _ _ },
+}
+
+impl<'c, 'p, K: TypesOf> Checker for RecalledPieces<'c, 'p, K> {
     type Meaning = Meaning<'p>;
 
     type Note = Note<'p>;
@@ -100,7 +115,7 @@ impl<'c, 'p> Checker for Pieces<'c, 'p> {
     ghost use Rattle.go_body_core.specs.Rules.{rules_of};
     ghost use Rattle.go_body_core.specs.mirrors.Names.{rules_look_at_names};
 
-    ghost rules = { rules_of };
+    ghost rules = { λ c. rules_of c.pieces };
 
     fn check_header(
         &self,
@@ -109,9 +124,9 @@ impl<'c, 'p> Checker for Pieces<'c, 'p> {
         firsts: &[bool],
         notes: &mut Vec<Note<'p>>,
     ) -> Result<Vec<Meaning<'p>>, AllocError> {
-        let idents = header_idents(self.alloc, func)?;
+        let idents = header_idents(self.pieces.alloc, func)?;
         let piece = PieceTree::Header(&func.receiver, &func.signature);
-        self.declare_piece(names, &piece, idents.as_slice(), firsts, notes)
+        self.pieces.declare_piece(self.recall, names, &piece, idents.as_slice(), firsts, notes)
     }
 
     fn check_spec(
@@ -122,9 +137,9 @@ impl<'c, 'p> Checker for Pieces<'c, 'p> {
         firsts: &[bool],
         notes: &mut Vec<Note<'p>>,
     ) -> Result<Vec<Meaning<'p>>, AllocError> {
-        let idents = listed_idents(self.alloc, &spec.names)?;
+        let idents = listed_idents(self.pieces.alloc, &spec.names)?;
         let piece = PieceTree::Spec(kind, spec);
-        self.declare_piece(names, &piece, idents.as_slice(), firsts, notes)
+        self.pieces.declare_piece(self.recall, names, &piece, idents.as_slice(), firsts, notes)
     }
 
     fn check_short(
@@ -134,9 +149,9 @@ impl<'c, 'p> Checker for Pieces<'c, 'p> {
         firsts: &[bool],
         notes: &mut Vec<Note<'p>>,
     ) -> Result<Vec<Meaning<'p>>, AllocError> {
-        let idents = listed_idents(self.alloc, &definition.names)?;
+        let idents = listed_idents(self.pieces.alloc, &definition.names)?;
         let piece = PieceTree::Short(definition);
-        self.declare_piece(names, &piece, idents.as_slice(), firsts, notes)
+        self.pieces.declare_piece(self.recall, names, &piece, idents.as_slice(), firsts, notes)
     }
 
     fn check_simple(
@@ -146,7 +161,7 @@ impl<'c, 'p> Checker for Pieces<'c, 'p> {
         notes: &mut Vec<Note<'p>>,
     ) -> Result<(), AllocError> {
         let piece = PieceTree::Simple(simple);
-        self.note_piece(names, &piece, notes)
+        self.pieces.note_piece(self.recall, names, &piece, notes)
     }
 
     fn check_condition(
@@ -156,7 +171,7 @@ impl<'c, 'p> Checker for Pieces<'c, 'p> {
         notes: &mut Vec<Note<'p>>,
     ) -> Result<(), AllocError> {
         let piece = PieceTree::Condition(condition);
-        self.note_piece(names, &piece, notes)
+        self.pieces.note_piece(self.recall, names, &piece, notes)
     }
 
     fn check_given(
@@ -167,8 +182,8 @@ impl<'c, 'p> Checker for Pieces<'c, 'p> {
         notes: &mut Vec<Note<'p>>,
     ) -> Result<(), AllocError> {
         let piece = PieceTree::Given(place, values);
-        self.note_piece(names, &piece, notes)
+        self.pieces.note_piece(self.recall, names, &piece, notes)
     }
 
-    ghost at_names = { rules_look_at_names };
+    ghost at_names = { λ c. rules_look_at_names c.pieces };
 }

@@ -2,6 +2,7 @@ pub mod Fields
 pub mod Found
 pub mod Laws
 pub mod Looks
+pub mod Recalled
 pub mod Scenes
 pub mod mirrors
 pub mod block_core

@@ -8,3 +8,4 @@ pub use Rattle.go_face_core.specs.table_core.Meanings as Meanings
 pub use Rattle.go_face_core.specs.table_core.Methods as Methods
 pub use Rattle.go_face_core.specs.table_core.Shown as Shown
 pub use Rattle.go_face_core.specs.table_core.Tables as Tables
+pub use Rattle.go_face_core.specs.table_core.codes as codes

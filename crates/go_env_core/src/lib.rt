@@ -12,7 +12,10 @@ mod found;
 mod here;
 mod laws;
 mod meaning;
+mod recall;
+mod recalling;
 mod scene;
+mod surveys;
 
 pub use here::{Here, stand};
 pub use laws::{
@@ -20,6 +23,8 @@ pub use laws::{
     universe_is_this,
 };
 pub use meaning::{Meaning, outer_names};
+pub use recall::{Recall, TypesOf};
+pub use recalling::Recalling;
 pub use scene::Scene;
 
 /// What the crates above name of `go_block_core`.

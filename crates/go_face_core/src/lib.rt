@@ -65,8 +65,8 @@ pub mod graph_core {
 /// What the crates above name of `go_handle_core`.
 pub mod handle_core {
     pub use go_handle_core::{
-        Decl, DeclSite, Home, SignatureRef, TypeRef, is_assignable, is_convertible, is_identical,
-        selection, typed,
+        Decl, DeclSite, Home, SignatureRef, TypeRef, chosen, is_assignable, is_convertible,
+        is_identical, selection, typed,
     };
 }
 

@@ -3,6 +3,7 @@ use Rattle.std.proofs.Common.{◌≡◌, List, [], ◌∷◌, ◌++◌, map, Bor
 use Rattle.std.specs.List.{AllZip}
 use Rattle.std.proofs.lemmas.List.{map-append}
 use Rattle.go_tree_nodes.specs.declared.files.File.{File}
+use Rattle.go_func_core.specs.table_core.Entries.{Entry}
 use Rattle.go_func_core.specs.entry_core.Meanings.{Shows}
 use Rattle.go_func_core.specs.local_core.declared.Fault.{Fault}
 use Rattle.go_func_core.specs.body_core.Notes.{TheUse, TheLocal}
@@ -17,11 +18,11 @@ noted us fs ls = record { uses = us; faults = fs; locals = ls }
 
 module _ {P : Type 0} (shows : P → Shows) where
   -- the files that are left, each with its tree
-  abbrev pub AreLeft : List (FileAt P) → List (Bor File) → Type 0
-  AreLeft files trees = AllZip (IsReady shows) files (map lent_tree trees)
+  abbrev pub AreLeft : List Entry → List (FileAt P) → List (Bor File) → Type 0
+  AreLeft types files trees = AllZip (IsReady shows types) files (map lent_tree trees)
 
-  pub first_ready : (files more : List (FileAt P)) (trees rest : List (Bor File)) (a : FileAt P) (t : Bor File) → files ≡ a ∷ more → trees ≡ t ∷ rest → AreLeft files trees → IsReady shows a (lent_tree t) × AreLeft more rest
-  first_ready files more trees rest a t e f h = subst (λ l. AreLeft l (t ∷ rest)) e (subst (λ l. AreLeft files l) f h)
+  pub first_ready : (types : List Entry) (files more : List (FileAt P)) (trees rest : List (Bor File)) (a : FileAt P) (t : Bor File) → files ≡ a ∷ more → trees ≡ t ∷ rest → AreLeft types files trees → IsReady shows types a (lent_tree t) × AreLeft types more rest
+  first_ready types files more trees rest a t e f h = subst (λ l. AreLeft types l (t ∷ rest)) e (subst (λ l. AreLeft types files l) f h)
 
   pub file_step : (files more : List (FileAt P)) (trees rest : List (Bor File)) (a : FileAt P) (t : Bor File) (c : CheckedFile) (old new : List CheckedFile) (all : List CheckedFileOf)
       → files ≡ a ∷ more → trees ≡ t ∷ rest → c.uses.items ≡ file_uses (stand_of shows a) a.imports.now (lent_tree t) → c.faults.items ≡ file_faults (stand_of shows a) (lent_tree t)

@@ -1,10 +1,11 @@
 -- The files of a package, each with its tree.
-use Rattle.std.specs.Prelude.{List, [], ◌∷◌}
+use Rattle.std.specs.Prelude.{◌≡◌, List, [], ◌∷◌}
 use denote.Ref.{Bor}
 use Rattle.go_tree_nodes.specs.declared.files.File.{File}
 use Rattle.go_tree_nodes.specs.Trees.{FileTree}
 use Rattle.go_tree_nodes.specs.Shapes.{file_of}
 use Rattle.go_func_core.specs.block_core.declared.imports.Imported.{Imported}
+use Rattle.go_func_core.specs.table_core.Entries.{Entry}
 use Rattle.go_func_core.specs.entry_core.Meanings.{Shows}
 use Rattle.go_func_core.specs.local_core.declared.Fault.{Fault}
 use Rattle.go_func_core.specs.body_core.Notes.{TheUse, TheLocal}
@@ -19,8 +20,9 @@ use Rattle.go_tree_nodes.specs.Spelling.{IsPlaced}
 abbrev pub lent_tree : Bor File → FileTree
 lent_tree t = file_of t.now
 
--- a file may be checked: its tokens follow one another, and the types that it writes are made
-pub record IsReady {P : Type 0} (shows : P → Shows) (at : FileAt P) (f : FileTree) : Type 0 where
+-- a file may be checked over a table of types: it is that of its package, its tokens follow one another, and the types that it writes are made
+pub record IsReady {P : Type 0} (shows : P → Shows) (types : List Entry) (at : FileAt P) (f : FileTree) : Type 0 where
+  pub table : at.scene.now.types.now ≡ types
   pub placed : IsPlaced f
   pub initial : AreInitialTypes (stand_of shows at) f at.initial.now
   pub functions : AreFunctionTypes (stand_of shows at) f at.functions.now

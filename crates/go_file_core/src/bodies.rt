@@ -6,26 +6,28 @@ ghost use Rattle.go_file_core.specs.Package.{IsReady, checked_file_shown, files_
 use crate::file_at::FileAt;
 use crate::whole::{CheckedFile, check_file};
 use go_func_core::entry_core::ImportedNames;
+use go_func_core::env_core::{Recall, TypesOf};
 use go_text_core::add;
 use go_tree_nodes::File;
 use std::alloc::{AllocError, Global};
 
-/// Checks the files of a package, each with its tree, as [`check_file`] does.
+/// Checks the files of a package, each with its tree, as [`check_file`] does. They have one table of types, and share what is decided of them.
 ///
 /// # Errors
 ///
 /// `AllocError` where memory is wanting.
-pub fn check_bodies<'n, 'p, P: ImportedNames>(
+pub fn check_bodies<'n, 'p, P: ImportedNames, K: TypesOf>(
     alloc: Global,
     files: &[FileAt<'n, 'p, P>],
     trees: &[&File],
+    recall: &Recall<'p, K>,
 ) -> Result<Vec<CheckedFile<'p>>, AllocError>
-    requires { AllZip (IsReady P.shows) files.now (map lent_tree trees.now) }
+    requires { AllZip (IsReady P.shows K.types) files.now (map lent_tree trees.now) }
     ensures { IfOk result (λ cs. map checked_file_shown cs.items ≡ files_checked P.shows files.now (map lent_tree trees.now)) }
 {
     let mut checked = Vec::new(alloc);
     for (at, tree) in files.iter().zip(trees) {
-        let file = check_file(alloc, at, tree)?;
+        let file = check_file(alloc, at, tree, recall)?;
         add(&mut checked, file)?;
     }
     Ok(checked)

@@ -23,6 +23,11 @@ pub mod body_core {
     pub use go_func_core::body_core::Local;
 }
 
+/// What the crates above name of `go_env_core`.
+pub mod env_core {
+    pub use go_func_core::env_core::{Recall, TypesOf};
+}
+
 /// What the crates above name of `go_func_core`.
 pub mod func_core {
     pub use go_func_core::{functions_have_one_table, locals_are_declarations};

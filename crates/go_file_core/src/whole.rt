@@ -11,6 +11,7 @@ use crate::imports::add_imports;
 use crate::notes::nothing;
 use go_func_core::body_core::{BodyUse, Local};
 use go_func_core::entry_core::ImportedNames;
+use go_func_core::env_core::{Recall, TypesOf};
 use go_func_core::expr_core::Notes;
 use go_func_core::local_core::Fault;
 use go_tree_nodes::File;
@@ -34,7 +35,8 @@ pub struct CheckedFile<'p> {
 /// What its imports have comes first, then what each declaration has and breaks, in order of place. A constant or a variable outside functions
 /// is checked with the names as they are at the top of the file, a function as its own blocks say; each type that is written is what its names
 /// mean at its place. `at.initial` and `at.functions` have these types, as `initialiser_types` and `function_types` of `go_inline_core` give
-/// them for the file's declarations.
+/// them for the file's declarations. `recall` has what was decided of the types of the package's table, and is told what is decided; no answer
+/// rests on what was decided before.
 ///
 /// The Go specification, "Import declarations", "Declarations and scope", "Constant declarations", "Variable declarations", "Package
 /// initialization", "Type declarations", "Function declarations".
@@ -42,11 +44,13 @@ pub struct CheckedFile<'p> {
 /// # Errors
 ///
 /// `AllocError` where memory is wanting.
-pub fn check_file<'n, 'p, P: ImportedNames>(
+pub fn check_file<'n, 'p, P: ImportedNames, K: TypesOf>(
     alloc: Global,
     at: &FileAt<'n, 'p, P>,
     tree: &File,
+    recall: &Recall<'p, K>,
 ) -> Result<CheckedFile<'p>, AllocError>
+    requires table { at.now.scene.now.types.now ≡ K.types }
     requires placed { IsPlaced (file_of tree.now) }
     requires initial { AreInitialTypes (stand_of P.shows at.now) (file_of tree.now) at.now.initial.now }
     requires functions { AreFunctionTypes (stand_of P.shows at.now) (file_of tree.now) at.now.functions.now }
@@ -57,7 +61,8 @@ pub fn check_file<'n, 'p, P: ImportedNames>(
     let mut notes = nothing(alloc);
     add_imports(alloc, &tree.imports, at.imports, &mut notes.uses)?;
     let mut locals = Vec::new(alloc);
-    check_decls(alloc, at, tree.decls.as_slice(), &mut notes, &mut locals)?;
+    let decls = tree.decls.as_slice();
+    check_decls(alloc, at, decls, recall, &mut notes, &mut locals)?;
     let Notes { uses, faults } = notes;
     Ok(CheckedFile {
         uses,

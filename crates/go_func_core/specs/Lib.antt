@@ -20,6 +20,7 @@ pub mod scope_core
 pub mod scope_core_lemmas
 pub mod select_core
 pub mod settle_core
+pub mod table_core
 pub mod top_core
 pub mod tree_core
 pub mod written_core

@@ -38,7 +38,9 @@ pub mod entry_core {
 
 /// What the crates above name of `go_env_core`.
 pub mod env_core {
-    pub use go_body_core::env_core::{Here, Meaning, Scene, outer_names, stand};
+    pub use go_body_core::env_core::{
+        Here, Meaning, Recall, Recalling, Scene, TypesOf, outer_names, stand,
+    };
 }
 
 /// What the crates above name of `go_expr_core`.

@@ -22,7 +22,7 @@ pub use here::TypesHere;
 pub use home::Home;
 pub use identity::is_identical;
 pub use implementing::is_implementing;
-pub use selecting::selection;
+pub use selecting::{chosen, selection};
 pub use signatures::{SignatureRef, typed};
 pub use types::{TypeParts, TypeRef};
 

@@ -1,5 +1,6 @@
 //! What selectors choose.
-ghost use Rattle.std.specs.Prelude.{◌≡◌, ◌↔◌, IsTrue, IfOk, Ok};
+ghost use Rattle.std.specs.Prelude.{◌≡◌, ◌↔◌, ℕ, List, IsTrue, IfOk, Ok};
+ghost use Rattle.go_term_core.specs.Terms.{Term};
 ghost use Rattle.go_decide_core.specs.table_core.Entries.{find_entry};
 ghost use Rattle.go_decide_core.specs.level_core.Selectors.{IsSelectorAnswer};
 ghost use Rattle.go_decide_core.specs.Selecting.{chosen_of};
@@ -75,6 +76,30 @@ fn shown<'a>(
     }
 }
 
+/// What a selector denotes, with its declaration, by how it is answered: as [`select`](go_decide_core::select_core::select) answers it
+/// in the package of a place.
+///
+/// # Errors
+///
+/// `AllocError` where memory was wanting.
+pub fn chosen<'a>(
+    table: &'a TypeTable,
+    home: &'a Home,
+    answered: Result<Selected<'a>, Rule>,
+) -> Result<Selection<TypeRef<'a>, SignatureRef<'a>, Decl<'a>, EmbedPath>, AllocError>
+    ensures { (t : Term) (name : List ℕ) → IsSelectorAnswer (find_entry table.now) t name home.now answered.entry → IfOk result (λ found. found ≡ selection_in table.now home.now t name) }
+{
+    match answered {
+        Ok(selected) => Ok(shown(table, home, selected)),
+        Err(rule) => {
+            if is_memory(rule) {
+                return Err(AllocError);
+            }
+            Ok(Selection::Missing(rule))
+        }
+    }
+}
+
 /// The member that a name selects behind an operand of a type, asked for from a package.
 ///
 /// The Go specification, "Selectors".
@@ -91,13 +116,6 @@ pub fn selection<'a>(
 ) -> Result<Selection<TypeRef<'a>, SignatureRef<'a>, Decl<'a>, EmbedPath>, AllocError>
     ensures { IfOk result (λ found. found ≡ selection_in table.now home.now t.now name.now) }
 {
-    match answer(alloc, table, t, name, home.path()) {
-        Ok(selected) => Ok(shown(table, home, selected)),
-        Err(rule) => {
-            if is_memory(rule) {
-                return Err(AllocError);
-            }
-            Ok(Selection::Missing(rule))
-        }
-    }
+    let answered = answer(alloc, table, t, name, home.path());
+    chosen(table, home, answered)
 }

@@ -21,7 +21,7 @@ use crate::locals::held_locals;
 use go_ready_core::answer_core::{OuterAt, answers_of, outer_faults};
 use go_ready_core::block_core::Imported;
 use go_ready_core::entry_core::ImportedNames;
-use go_ready_core::env_core::Scene;
+use go_ready_core::env_core::{Recall, Scene, TypesOf};
 use go_ready_core::face_core::Face;
 use go_ready_core::fault_core::PackageFault;
 use go_ready_core::file_core::{FileAt, check_file};
@@ -53,12 +53,14 @@ fn imports_at(imports: &[Vec<Imported>], file: usize) -> &[Imported]
 }
 
 // What stands in a file: its occurrences, its faults with those that are asked of the package as a whole, and the locals of its functions.
-fn file_answers<'n, 'p, P: ImportedNames>(
+fn file_answers<'n, 'p, P: ImportedNames, K: TypesOf>(
     alloc: Global,
     at: &FileAt<'n, 'p, P>,
     tree: &File,
     outer: &OuterAt<'_, '_>,
+    recall: &Recall<'p, K>,
 ) -> Result<FileAnswers, AllocError>
+    requires table { at.now.scene.now.types.now ≡ K.types }
     requires placed { IsPlaced (file_of tree.now) }
     requires initial { AreInitialTypes (stand_of P.shows at.now) (file_of tree.now) at.now.initial.now }
     requires functions { AreFunctionTypes (stand_of P.shows at.now) (file_of tree.now) at.now.functions.now }
@@ -66,7 +68,7 @@ fn file_answers<'n, 'p, P: ImportedNames>(
     ensures faults { IfOk result (λ a. IsSettled Declaration (List ℕ) a.answers.items (file_faults (stand_of P.shows at.now) (file_of tree.now) ++ outer_faults outer.now.file outer.now.blocks.now outer.now.type_faults.now (map decl_shown outer.now.decls.now) (drop outer.now.first outer.now.looped.now)) a.faults.items) }
     ensures locals { IfOk result (λ a. map local_shown a.locals.items ≡ file_locals (stand_of P.shows at.now) (file_of tree.now)) }
 {
-    let mut checked = check_file(alloc, at, tree)?;
+    let mut checked = check_file(alloc, at, tree, recall)?;
     let mut whole = outer_faults(alloc, outer)?;
     checked.faults.append(&mut whole)?;
     let faults = settle_faults(alloc, &checked.uses, &checked.faults)?;
@@ -80,8 +82,8 @@ fn file_answers<'n, 'p, P: ImportedNames>(
 }
 
 /// What stands in the files of a package, in order of name, where this is ready of it, these are its declarations, and its types have these
-/// faults.
-pub(crate) fn check_files<'n, 'p, P: ImportedNames>(
+/// faults. What is decided of two types in one of them is known in those behind it.
+pub(crate) fn check_files<'n, 'p, P: ImportedNames, K: TypesOf>(
     alloc: Global,
     at: &'p PackageAt<'_, P>,
     scene: &'n Scene<'p>,
@@ -90,12 +92,14 @@ pub(crate) fn check_files<'n, 'p, P: ImportedNames>(
     declared: &'n Declared<'p>,
     type_faults: &'n [PackageFault],
 ) -> Result<Vec<FileAnswers>, AllocError>
+    requires table { scene.now.types.now ≡ K.types }
     requires outlines { map outline_shown outlines.now ≡ outlines_in (package_in_shown P.shows at.now) }
     requires scene { scene_shown scene.now ≡ scene_in (package_in_shown P.shows at.now) (scene_shown scene.now).types }
     requires ready { IsReady (package_in_shown P.shows at.now) (scene_shown scene.now).types ready.now }
     requires looped { length declared.now.looped.items ≡ length (decls_in (package_in_shown P.shows at.now)) }
     ensures { IfOk result (λ files. AllZip (IsFileChecked (package_in_shown P.shows at.now) (scene_shown scene.now).types declared.now.known.items type_faults.now declared.now.looped.items) (enumerate_from 0 (package_in_shown P.shows at.now).trees) (map answers_shown files.items)) }
 {
+    let recall: Recall<'p, K> = Recall::new(alloc);
     let mut files = Vec::new(alloc);
     let mut first = 0;
     for (file, outline) in outlines.iter().enumerate() {
@@ -117,7 +121,7 @@ pub(crate) fn check_files<'n, 'p, P: ImportedNames>(
             first,
             looped: &declared.looped,
         };
-        let answers = file_answers(alloc, &place, at.package.tree(file), &outer)?;
+        let answers = file_answers(alloc, &place, at.package.tree(file), &outer, &recall)?;
         add(&mut files, answers)?;
         first += outline.decls.len();
     }

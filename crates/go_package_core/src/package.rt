@@ -29,6 +29,7 @@ use go_ready_core::value_core::through_itself;
 use go_ready_core::{OwnTypes, PackageAt, Ready, make_ready, package_outlines, package_types};
 use go_term_core::decl_core::Outline;
 use std::alloc::{AllocError, Global};
+use std::marker::Brand;
 
 // What is known of a package where its expressions are judged.
 fn scene_of<'p>(
@@ -84,7 +85,15 @@ fn check_ready<'p, P: ImportedNames>(
     let written = &ready.written;
     let scene = scene_of(&ready.home, at.blocks, types, at.faces, written);
     let declared = declare(alloc, &scene, &ready.initial, outlines)?;
-    let files = check_files(alloc, at, &scene, outlines, ready, &declared, &own.faults)?;
+    let files = check_files::<P, Brand>(
+        alloc,
+        at,
+        &scene,
+        outlines,
+        ready,
+        &declared,
+        &own.faults,
+    )?;
     let faces = shown_faces(
         alloc,
         at.package.path(),

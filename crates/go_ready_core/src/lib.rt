@@ -54,6 +54,7 @@ pub mod entry_core {
 
 /// What the crates above name of `go_env_core`.
 pub mod env_core {
+    pub use go_file_core::env_core::{Recall, TypesOf};
     pub use go_known_core::env_core::Scene;
 }
 

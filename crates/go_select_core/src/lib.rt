@@ -15,7 +15,8 @@ pub use go_level_core::{EmbedPath, Selected, select, select_behind_pointer};
 pub use laws::{
     listing_is_local, one_listing, only_one_answer, selection_is_local, short_paths_suffice,
 };
-pub use listing::{selectable, selections};
+pub use listing::{note_level, selectable, selections};
+pub use names::{Id, Known, Names};
 
 /// What the crates above name of `go_embed_core`.
 pub mod embed_core {

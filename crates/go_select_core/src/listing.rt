@@ -25,8 +25,8 @@ struct Survey<'a> {
     names: Names<'a>,
 }
 
-// Notes the members of the types of a level, which is what stands from the place `first` on.
-fn note_level<'a>(
+/// Notes the members of the types of a level, which is what stands from the place `first` on.
+pub fn note_level<'a>(
     alloc: Global,
     table: &'a TypeTable,
     types: &[Reached<'a>],

@@ -9,11 +9,11 @@ use std::collections::BTreeMap;
 
 /// An identifier: a name, with the path of the package where it is written, or with nothing where it is exported. So two are equal exactly
 /// where the Go specification has them as the same ("Uniqueness of identifiers").
-pub(crate) type Id<'a> = (&'a str, &'a str);
+pub type Id<'a> = (&'a str, &'a str);
 
 /// What is known of an identifier, by the shallowest depth at which a member has it.
 #[derive(Clone, Copy)]
-pub(crate) enum Known<'a> {
+pub enum Known<'a> {
     /// One member alone has it there, of the type at a place, to which one path leads.
     One(usize, Member<'a>),
     /// More have it.
@@ -22,8 +22,8 @@ pub(crate) enum Known<'a> {
 
 /// Identifiers with what is known of each, in order of their bytes.
 #[derive(Drop)]
-pub(crate) struct Names<'a> {
-    pub(crate) known: BTreeMap<Id<'a>, Known<'a>>,
+pub struct Names<'a> {
+    pub known: BTreeMap<Id<'a>, Known<'a>>,
 }
 
 // The identifier of a member.
@@ -67,7 +67,7 @@ fn noted<'a>(
 
 impl<'a> Names<'a> {
     /// No identifier.
-    pub(crate) fn new(alloc: Global) -> Names<'a>
+    pub fn new(alloc: Global) -> Names<'a>
         ensures { names_of result ≡ [] }
     {
         Names {
@@ -75,8 +75,8 @@ impl<'a> Names<'a> {
         }
     }
 
-    // What is known of an identifier.
-    fn find(&self, id: Id<'a>) -> Option<Known<'a>>
+    /// What is known of an identifier.
+    pub fn find(&self, id: Id<'a>) -> Option<Known<'a>>
         ensures { result ≡ known_of (names_of self.now) (key_shown id.entry) }
     {
         self.known.get(&id).copied()
@@ -91,7 +91,7 @@ impl<'a> Names<'a> {
     }
 
     /// Notes that a member of the type at a place has its identifier: that of a level whose types stand from the place `first` on.
-    pub(crate) fn note(
+    pub fn note(
         &mut self,
         first: usize,
         place: usize,

@@ -7,7 +7,7 @@ use Rattle.go_body_core.proofs.Bodies.{same_rules, walked_ok, given_ok}
 use Rattle.go_body_core.proofs.body.check_body.Goals as goal
 
 pub returns-clause-walked : goal.returns-clause-walked
-returns-clause-walked c =
+returns-clause-walked g c =
     let s = scene_shown c.args.scene.now in
     let written = inline_rules s c.args.inline.now in
     let f = func_of c.args.func.now in
@@ -18,7 +18,7 @@ returns-clause-walked c =
     c.in_ok-checked.checked.notes.items c.as_slice-2.result.now c.in_ok-checked.checked.faults.items c.as_slice-2.ensures.value c.gathered.result c.in_ok-checked.ensures.walked c.gathered.ensures
 
 pub returns-clause-given : goal.returns-clause-given
-returns-clause-given c =
+returns-clause-given g c =
     let s = scene_shown c.args.scene.now in
     let written = inline_rules s c.args.inline.now in
     let f = func_of c.args.func.now in

@@ -14,7 +14,7 @@ loop-at-preserved g c =
     record {
       checked = file_step shows left.a.rest.now rest.a.rest.now left.b.rest.now rest.b.rest.now c.in-Some.at.now c.in-Some.tree.now c.in_ok-file.file c.loop-at.checked.items c.add.new.all.items all more.0 more.1
           c.in_ok-file.ensures.uses c.in_ok-file.ensures.faults c.in_ok-file.ensures.locals c.in_ok-add.ensures c.loop-at.invariant.checked;
-      left = (first_ready shows left.a.rest.now rest.a.rest.now left.b.rest.now rest.b.rest.now c.in-Some.at.now c.in-Some.tree.now more.0 more.1 c.loop-at.invariant.left).1;
+      left = (first_ready shows g.K.TypesOf.types left.a.rest.now rest.a.rest.now left.b.rest.now rest.b.rest.now c.in-Some.at.now c.in-Some.tree.now more.0 more.1 c.loop-at.invariant.left).1;
     }
 
 pub returns : goal.returns

@@ -8,5 +8,5 @@ invariant-loop-at g l =
     let shows = g.P.ImportedNames.shows in
     record {
       checked : map checked_file_shown l.checked.items ++ files_checked shows l.at-iterator.a.rest.now (map lent_tree l.at-iterator.b.rest.now) ≡ files_checked shows l.files (map lent_tree l.trees);
-      left : AreLeft shows l.at-iterator.a.rest.now l.at-iterator.b.rest.now;
+      left : AreLeft shows g.K.TypesOf.types l.at-iterator.a.rest.now l.at-iterator.b.rest.now;
     }

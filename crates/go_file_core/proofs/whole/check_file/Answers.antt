@@ -6,12 +6,10 @@ use Rattle.go_file_core.specs.mirrors.Steps.{AreMade}
 use Rattle.go_file_core.proofs.Placed.{funcs_placed}
 use Rattle.go_file_core.proofs.whole.check_file.Goals as goal
 
-pub check_decls-requires : goal.check_decls-requires
-check_decls-requires g c =
+pub check_decls-requires-clause-made : goal.check_decls-requires-clause-made
+check_decls-requires-clause-made g c =
     let at = c.args.at.now in
     let st = stand_of g.P.ImportedNames.shows at in
     let f = file_of c.args.tree.now in
-    record {
-      made = subst (λ ds. AreMade st at.initial.now at.functions.now (map top_of ds)) (sym c.as_slice.ensures.value)
-          (record { seen = types_are_seen_alike.in_file st at.initial.now f c.requires.placed c.requires.initial; placed = funcs_placed f c.requires.placed; typed = c.requires.functions });
-    }
+    subst (λ ds. AreMade st at.initial.now at.functions.now (map top_of ds)) (sym c.as_slice-decls.ensures.value)
+    (record { seen = types_are_seen_alike.in_file st at.initial.now f c.requires.placed c.requires.initial; placed = funcs_placed f c.requires.placed; typed = c.requires.functions })

@@ -1,4 +1,0 @@
-use Rattle.go_body_core.proofs.pieces.PiecesChecker.check_condition.Goals as goal
-
-pub returns : goal.returns
-returns c = c.note_piece.ensures

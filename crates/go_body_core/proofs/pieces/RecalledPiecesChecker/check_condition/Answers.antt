@@ -1,0 +1,4 @@
+use Rattle.go_body_core.proofs.pieces.RecalledPiecesChecker.check_condition.Goals as goal
+
+pub returns : goal.returns
+returns g c = c.note_piece.ensures

@@ -1,0 +1,256 @@
+//! What was decided of declared types, remembered behind a shared reference. Its locks are tried and never waited for: what is not had is decided anew.
+ghost use Rattle.std.specs.Bool.{OnTrue};
+ghost use Rattle.std.specs.Prelude.{◌≡◌, IfSome};
+ghost use Rattle.go_level_core.specs.Selectors.{IsSelectorAnswer};
+ghost use Rattle.go_face_core.specs.table_core.Entries.{find_entry};
+ghost use Rattle.go_env_core.specs.Recalled.{assignable_in, convertible_in};
+
+use crate::surveys::{Asked, cost_of};
+use go_face_core::handle_core::{Decl, SignatureRef, TypeRef};
+use go_face_core::select_core::{EmbedPath, Selected};
+use go_face_core::table_core::TypeTable;
+use go_path_core::ImportPath;
+use go_term_core::TypeTerm;
+use go_text_core::Rule;
+use go_top_core::denote_core::Selection;
+use std::alloc::Global;
+use std::collections::HashMap;
+use std::marker::{Brand, PhantomData};
+use std::sync::Mutex;
+
+/// Which table of types it is. A caller with a table picks it.
+pub trait TypesOf {
+    ghost use Rattle.std.specs.Prelude.{List};
+    ghost use Rattle.go_face_core.specs.table_core.Entries.{Entry};
+
+    ghost types: { List Entry };
+}
+
+impl TypesOf for Brand {
+    ghost use Rattle.std.specs.Prelude.{[]};
+
+    ghost types = { [] };
+}
+
+// Where two types are looked up: by the places of their declarations, and the stars before them. Types of several packages may share one.
+#[derive(Clone, Copy, PartialEq, Eq, Hash)]
+struct Spot {
+    file: usize,
+    number: usize,
+    stars: usize,
+    to_file: usize,
+    to_number: usize,
+    to_stars: usize,
+}
+
+// Where a declared type is looked up: by the path of its package, and the place of its declaration there.
+type Place<'p> = (&'p str, usize, usize);
+
+// Whether a value of a type is assignable to a variable of another.
+#[derive(Drop)]
+struct Assigned<'p, K: TypesOf> {
+    value: TypeRef<'p>,
+    variable: TypeRef<'p>,
+    answer: bool,
+    of: PhantomData<K>,
+    ghost right: { answer ≡ assignable_in K.types value variable },
+}
+
+// Whether a value of a type is convertible to another by their underlying types.
+#[derive(Drop)]
+struct Converted<'p, K: TypesOf> {
+    value: TypeRef<'p>,
+    to: TypeRef<'p>,
+    answer: bool,
+    of: PhantomData<K>,
+    ghost right: { answer ≡ convertible_in K.types value to },
+}
+
+/// What was decided of the declared types of a table.
+pub struct Recall<'p, K: TypesOf> {
+    assigned: Mutex<HashMap<Spot, Assigned<'p, K>>>,
+    converted: Mutex<HashMap<Spot, Converted<'p, K>>>,
+    asked: Mutex<HashMap<Place<'p>, Asked<'p, K>>>,
+}
+
+impl<'p, K: TypesOf> Drop for Recall<'p, K> {
+    fn drop(self) {
+        let Recall {
+            assigned: _,
+            converted: _,
+            asked: _,
+        } = self;
+    }
+}
+
+// Where two declared types are looked up, which may stand under stars; none where one is another type.
+fn spot_of(value: &TypeRef<'_>, to: &TypeRef<'_>) -> Option<Spot> {
+    let value = value.parts();
+    let to = to.parts();
+    match (value.term, to.term) {
+        (TypeTerm::Defined(a), TypeTerm::Defined(b)) => Some(Spot {
+            file: a.decl.file,
+            number: a.decl.number,
+            stars: value.stars,
+            to_file: b.decl.file,
+            to_number: b.decl.number,
+            to_stars: to.stars,
+        }),
+        _ => None,
+    }
+}
+
+// Where a declared type is looked up, which may stand under one star; none where it is another type.
+fn place_of<'p>(t: &TypeRef<'p>) -> Option<Place<'p>> {
+    let parts = t.parts();
+    if parts.stars > 1 {
+        return None;
+    }
+    match parts.term {
+        TypeTerm::Defined(key) => Some((key.path.as_str(), key.decl.file, key.decl.number)),
+        _ => None,
+    }
+}
+
+// Whether two types are one declared type under as many stars. It takes no memory.
+fn is_same_name(a: &TypeRef<'_>, b: &TypeRef<'_>) -> bool
+    ensures { OnTrue result (a.now ≡ b.now) }
+{
+    let a = a.parts();
+    let b = b.parts();
+    if a.stars != b.stars {
+        return false;
+    }
+    match (a.term, b.term) {
+        (TypeTerm::Defined(one), TypeTerm::Defined(other)) => one.is_same(other),
+        _ => false,
+    }
+}
+
+impl<'p, K: TypesOf> Recall<'p, K> {
+    /// Nothing was decided.
+    pub fn new(alloc: Global) -> Recall<'p, K> {
+        Recall {
+            assigned: Mutex::new(HashMap::new(alloc)),
+            converted: Mutex::new(HashMap::new(alloc)),
+            asked: Mutex::new(HashMap::new(alloc)),
+        }
+    }
+
+    /// Whether a value of a type is assignable to a variable of another, where it was decided. It takes constant expected time and no memory.
+    pub fn assignable(&self, value: &TypeRef<'p>, variable: &TypeRef<'p>) -> Option<bool>
+        ensures { IfSome result (λ answer. answer ≡ assignable_in K.types value.now variable.now) }
+    {
+        let spot = spot_of(value, variable)?;
+        let Some(assigned) = self.assigned.try_lock() else {
+            return None;
+        };
+        let found = assigned.get(&spot)?;
+        if is_same_name(&found.value, value) && is_same_name(&found.variable, variable) {
+            return Some(found.answer);
+        }
+        None
+    }
+
+    /// Notes whether a value of a type is assignable to a variable of another. Where memory is wanting, it is forgotten.
+    pub fn note_assignable(&self, value: &TypeRef<'p>, variable: &TypeRef<'p>, answer: bool)
+        requires { answer ≡ assignable_in K.types value.now variable.now }
+    {
+        let Some(spot) = spot_of(value, variable) else {
+            return;
+        };
+        if let Some(mut assigned) = self.assigned.try_lock() {
+            let found = Assigned {
+                value: value.again(),
+                variable: variable.again(),
+                answer,
+                of: PhantomData,
+            };
+            let _ = assigned.insert(spot, found);
+        }
+    }
+
+    /// Whether a value of a type is convertible to another by their underlying types, where it was decided. It takes constant expected time
+    /// and no memory.
+    pub fn convertible(&self, value: &TypeRef<'p>, to: &TypeRef<'p>) -> Option<bool>
+        ensures { IfSome result (λ answer. answer ≡ convertible_in K.types value.now to.now) }
+    {
+        let spot = spot_of(value, to)?;
+        let Some(converted) = self.converted.try_lock() else {
+            return None;
+        };
+        let found = converted.get(&spot)?;
+        if is_same_name(&found.value, value) && is_same_name(&found.to, to) {
+            return Some(found.answer);
+        }
+        None
+    }
+
+    /// Notes whether a value of a type is convertible to another by their underlying types. Where memory is wanting, it is forgotten.
+    pub fn note_convertible(&self, value: &TypeRef<'p>, to: &TypeRef<'p>, answer: bool)
+        requires { answer ≡ convertible_in K.types value.now to.now }
+    {
+        let Some(spot) = spot_of(value, to) else {
+            return;
+        };
+        if let Some(mut converted) = self.converted.try_lock() {
+            let found = Converted {
+                value: value.again(),
+                to: to.again(),
+                answer,
+                of: PhantomData,
+            };
+            let _ = converted.insert(spot, found);
+        }
+    }
+
+    /// What a name selects behind an operand of a type, as [`select`](go_face_core::select_core::select) answers it in the package `from`, where
+    /// that is known of the type. It takes constant expected time beside that of the path.
+    pub fn select(
+        &self,
+        alloc: Global,
+        t: &TypeRef<'p>,
+        name: &str,
+        from: &ImportPath,
+    ) -> Option<Result<Selected<'p>, Rule>>
+        ensures { IfSome result (λ answered. IsSelectorAnswer (find_entry K.types) t.now name.now from.now answered) }
+    {
+        let Some(asked) = self.asked.try_lock() else {
+            return None;
+        };
+        if asked.is_empty() {
+            return None;
+        }
+        let found = asked.get(&place_of(t)?)?;
+        found.select(alloc, t, name, from)
+    }
+
+    /// Notes what a name was found to select behind an operand of a type, and what that cost: once the selections from a type have cost
+    /// about as much as it takes to know all of them, these are found. Where memory is wanting, it is forgotten.
+    pub fn note_selection(
+        &self,
+        alloc: Global,
+        table: &'p TypeTable,
+        from: &'p ImportPath,
+        t: &TypeRef<'p>,
+        selection: &Selection<TypeRef<'p>, SignatureRef<'p>, Decl<'p>, EmbedPath>,
+    )
+        requires { table.now ≡ K.types }
+    {
+        let term = t.parts().term;
+        let cost = cost_of(table, term, selection);
+        if cost == 0 {
+            return;
+        }
+        let Some(place) = place_of(t) else {
+            return;
+        };
+        if let Some(mut asked) = self.asked.try_lock() {
+            let now = match asked.remove(&place) {
+                Some(before) => before.again(alloc, table, term, from, cost),
+                None => Asked::once(cost),
+            };
+            let _ = asked.insert(place, now);
+        }
+    }
+}

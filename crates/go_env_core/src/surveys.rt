@@ -1,0 +1,177 @@
+//! Selections from one type, told by a survey of it once they have cost about as much as it does.
+ghost use Rattle.std.specs.Bool.{OnTrue};
+ghost use Rattle.std.specs.Coded.{Coded-set, coded_list};
+ghost use Rattle.std.specs.Prelude.{◌≡◌, IfSome};
+ghost use Rattle.go_term_core.specs.Shapes.{shape};
+ghost use Rattle.go_level_core.specs.Selectors.{IsSelectorAnswer};
+ghost use Rattle.go_face_core.specs.table_core.Entries.{find_entry};
+ghost use Rattle.go_face_core.specs.table_core.codes.EntryCodes.{coded_entry};
+
+use crate::recall::TypesOf;
+use go_face_core::handle_core::{Decl, SignatureRef, TypeRef};
+use go_face_core::select_core::{EmbedPath, Owner, Selected};
+use go_face_core::table_core::TypeTable;
+use go_path_core::ImportPath;
+use go_survey_core::Survey;
+use go_term_core::TypeTerm;
+use go_text_core::Rule;
+use go_top_core::denote_core::Selection;
+use std::alloc::Global;
+use std::marker::PhantomData;
+
+/// A survey may go over so many times what the selections before it went over.
+const SHARE: usize = 2;
+
+/// A survey of a type of a table.
+#[derive(Drop)]
+struct Surveyed<'p, K: TypesOf> {
+    survey: Survey<'p>,
+    of: PhantomData<K>,
+    ghost right: { survey.entries ≡ K.types } by { Coded-set (coded_list coded_entry) _ _ },
+}
+
+/// What is known of the selections from one type of a table, and from pointers to it.
+#[derive(Drop)]
+pub(crate) struct Asked<'p, K: TypesOf> {
+    // How many fields those went over at least that no survey told.
+    spent: usize,
+    // How many a survey may go over the next time that one is tried.
+    next: usize,
+    survey: Option<Surveyed<'p, K>>,
+}
+
+// Whether two types are one declared type. It takes no memory.
+fn is_same_name(a: &TypeTerm, b: &TypeTerm) -> bool
+    ensures { OnTrue result (shape a.now ≡ shape b.now) }
+{
+    match (a, b) {
+        (TypeTerm::Defined(one), TypeTerm::Defined(other)) => one.is_same(other),
+        _ => false,
+    }
+}
+
+// What a survey tells of a selection behind an operand of a type, where it is of the type or of what it points to, and for the package.
+fn told<'p>(
+    alloc: Global,
+    survey: &Survey<'p>,
+    t: &TypeRef<'p>,
+    name: &str,
+    from: &ImportPath,
+) -> Option<Result<Selected<'p>, Rule>>
+    ensures { IfSome result (λ answered. IsSelectorAnswer (find_entry survey.now.entries) t.now name.now from.now answered) }
+{
+    let parts = t.parts();
+    if !is_same_name(survey.term(), parts.term) || !survey.from().is_same(from) {
+        return None;
+    }
+    if parts.stars == 0 {
+        return Some(survey.select(alloc, name));
+    }
+    if parts.stars == 1 {
+        return Some(survey.select_behind_pointer(alloc, name));
+    }
+    None
+}
+
+// A survey of a type, where it goes over no more than it may and memory is there.
+fn survey_of<'p, K: TypesOf>(
+    alloc: Global,
+    table: &'p TypeTable,
+    term: &'p TypeTerm,
+    from: &'p ImportPath,
+    room: usize,
+) -> Option<Surveyed<'p, K>>
+    requires { table.now ≡ K.types }
+{
+    let Ok(made) = Survey::of(alloc, table, term, from, room) else {
+        return None;
+    };
+    let survey = made?;
+    Some(Surveyed {
+        survey,
+        of: PhantomData,
+    })
+}
+
+// How many fields have the struct types that embedded fields lead to, but for the last.
+fn field_count_along(table: &TypeTable, term: &TypeTerm, steps: &[usize]) -> usize {
+    let mut at = term;
+    let mut count: usize = 0;
+    for step in steps {
+        let owner = Owner::of(table, at);
+        count = count.saturating_add(owner.field_count());
+        let Some(edge) = owner.embedded(*step) else {
+            return count;
+        };
+        at = edge.target;
+    }
+    count
+}
+
+/// How many fields a selection from a type went over at least. Of a field or method of the type itself it is none.
+pub(crate) fn cost_of(
+    table: &TypeTable,
+    term: &TypeTerm,
+    selection: &Selection<TypeRef<'_>, SignatureRef<'_>, Decl<'_>, EmbedPath>,
+) -> usize {
+    match selection {
+        Selection::Field(_, path, _, _) => field_count_along(table, term, path.steps()),
+        Selection::Method(_, path, _, _, _) => field_count_along(table, term, path.steps()),
+        Selection::Missing(_) => Owner::of(table, term).field_count(),
+    }
+}
+
+impl<'p, K: TypesOf> Asked<'p, K> {
+    /// One selection, of which the cost is known.
+    pub(crate) fn once(cost: usize) -> Asked<'p, K> {
+        Asked {
+            spent: cost,
+            next: 0,
+            survey: None,
+        }
+    }
+
+    /// One selection more. A survey is made where it goes over no more than twice what the selections did; where it would, and behind
+    /// one that is made, one is tried again only when they went over twice as much.
+    pub(crate) fn again(
+        self,
+        alloc: Global,
+        table: &'p TypeTable,
+        term: &'p TypeTerm,
+        from: &'p ImportPath,
+        cost: usize,
+    ) -> Asked<'p, K>
+        requires { table.now ≡ K.types }
+    {
+        let spent = self.spent.saturating_add(cost);
+        let room = spent.saturating_mul(SHARE);
+        if room < self.next {
+            return Asked {
+                spent,
+                next: self.next,
+                survey: self.survey,
+            };
+        }
+        Asked {
+            spent,
+            next: room.saturating_mul(2),
+            survey: survey_of(alloc, table, term, from, room),
+        }
+    }
+
+    /// What a selection behind an operand of a type denotes that is written in a package, where a survey tells it.
+    pub(crate) fn select(
+        &self,
+        alloc: Global,
+        t: &TypeRef<'p>,
+        name: &str,
+        from: &ImportPath,
+    ) -> Option<Result<Selected<'p>, Rule>>
+        ensures { IfSome result (λ answered. IsSelectorAnswer (find_entry K.types) t.now name.now from.now answered) }
+    {
+        match &self.survey {
+            Some(surveyed) => told(alloc, &surveyed.survey, t, name, from),
+            None => None,
+        }
+    }
+}

@@ -1,0 +1,4 @@
+pub mod Noting
+pub mod Walking
+pub mod Spelling
+pub mod Telling

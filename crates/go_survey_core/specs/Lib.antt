@@ -1,0 +1,3 @@
+pub mod Surveys
+pub mod codes
+pub mod mirrors

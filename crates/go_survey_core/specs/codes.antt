@@ -1,0 +1,2 @@
+-- How what a model holds is stored.
+pub mod SurveyCodes

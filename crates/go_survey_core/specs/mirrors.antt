@@ -1,0 +1,4 @@
+-- Definitions that follow the code step by step, for its proof. No statement that a caller rests on needs them.
+pub mod Walks
+pub mod Seen
+pub mod Told

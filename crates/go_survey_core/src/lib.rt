@@ -1,0 +1,10 @@
+//! All that selectors denote behind operands of one type, found by one walk over the types that it embeds, and told name by name.
+//!
+//! The Go specification, "Selectors", "Struct types".
+#![tactic(auto)]
+
+mod names;
+mod survey;
+mod walk;
+
+pub use survey::Survey;
