@@ -1,6 +1,6 @@
 -- Packages in order of path: those inside a module stand from the module's text up to the text behind all that begins with it and a slash.
-use Rattle.std.proofs.Common.{◌≡◌, ◌⊎◌, ⊎_elim, inl, inr, ℕ, zero, suc, ◌-◌, ◌<◌, ◌≤◌, Bool, true, false, cond, List, [], ◌∷◌, ◌++◌, length, get_or, take, drop, refl, sym, ap, ◌∙◌, subst, arith, append-nil}
-use Rattle.std.specs.List.{AllWithin, join_with_byte}
+use Rattle.std.proofs.Common.{◌≡◌, ◌⊎◌, ⊎_elim, inl, inr, ℕ, zero, suc, ◌-◌, ◌<◌, ◌≤◌, Bool, true, false, not, ◌&&◌, cond, List, [], ◌∷◌, ◌++◌, length, get_or, take, drop, refl, sym, ap, ◌∙◌, subst, arith, append-nil}
+use Rattle.std.specs.List.{AllWithin, filter, join_with_byte}
 use Rattle.std.specs.List.Sorted.{IsPartitionedBy, IsStrictlySortedBy}
 use Rattle.std.specs.Map.{keys_of}
 use lib.Dec.{eqb}
@@ -8,14 +8,16 @@ use Rattle.std.specs.Ordering.{is_lt, nat_cmp, ordering_reverse, ordering_then}
 use Rattle.std.specs.declared.cmp.Ordering.{Ordering}
 use Rattle.std.specs.declared.cmp.Ordering.TheVariants.{Less, Equal, Greater}
 use Rattle.std.specs.Cmp.{nat_cmp_total}
+use Rattle.std.proofs.Math.Bool.{and-false}
 use Rattle.std.proofs.lemmas.Bool.{cases_lt}
 use Rattle.std.proofs.lemmas.Cmp.{nat_list_cmp_total}
-use Rattle.std.proofs.lemmas.List.{append_assoc}
+use Rattle.std.proofs.lemmas.List.{append_assoc, take-append-drop}
 use Rattle.std.proofs.lemmas.List.Splits.{join_with_byte-slice_split, length-slice_split}
 use Rattle.go_path_core.specs.Path.{elements}
 use Rattle.go_path_core.proofs.Paths.{begins_is}
 use Rattle.go_graph_core.specs.Workspaces.{PackageModel, by_bytes, is_path_inside, packages_inside}
 use Rattle.go_graph_core.proofs.Places.{path_below}
+use Rattle.go_head_core.specs.Spans.{ArePieceOf, is_path_near, packages_near}
 
 -- the text of a path inside a module
 
@@ -77,33 +79,82 @@ outside_behind own path past = no (is_path_inside own path) (λ inside.
 
 -- a list without those at its ends
 
-abbrev AreOut : List ℕ → List PackageModel → ℕ → ℕ → Type 0
-AreOut own ps low high = AllWithin (λ p. is_path_inside own p.0 ≡ false) ps low high
+module _ (t : PackageModel → Bool) where
+  abbrev AllSay : Bool → List PackageModel → ℕ → ℕ → Type 0
+  AllSay b ps low high = AllWithin (λ p. t p ≡ b) ps low high
 
-none_inside : (own : List ℕ) (ps : List PackageModel) → AreOut own ps 0 (length ps) → packages_inside own ps ≡ []
-none_inside own [] out = refl
-none_inside own (p ∷ ps) out = ap (λ b. cond b (p ∷ packages_inside own ps) (packages_inside own ps)) (out 0 p (omega arith) (omega arith)) ∙ none_inside own ps (λ k d low high. out (suc k) d (omega arith) (omega (arith, high)))
+  none_pass : (ps : List PackageModel) → AllSay false ps 0 (length ps) → filter t ps ≡ []
+  none_pass [] out = refl
+  none_pass (p ∷ ps) out = ap (λ b. cond b (p ∷ filter t ps) (filter t ps)) (out 0 p (omega arith) (omega arith)) ∙ none_pass ps (λ k d low high. out (suc k) d (omega arith) (omega (arith, high)))
 
-up_to : (own : List ℕ) (ps : List PackageModel) (j : ℕ) → AreOut own ps j (length ps) → packages_inside own (take j ps) ≡ packages_inside own ps
-up_to own ps zero out = sym (none_inside own ps out)
-up_to own [] (suc j) out = refl
-up_to own (p ∷ ps) (suc j) out = ap (λ l. cond (is_path_inside own p.0) (p ∷ l) l) (up_to own ps j (λ k d low high. out (suc k) d (omega (arith, low)) (omega (arith, high))))
+  up_to : (ps : List PackageModel) (j : ℕ) → AllSay false ps j (length ps) → filter t (take j ps) ≡ filter t ps
+  up_to ps zero out = sym (none_pass ps out)
+  up_to [] (suc j) out = refl
+  up_to (p ∷ ps) (suc j) out = ap (λ l. cond (t p) (p ∷ l) l) (up_to ps j (λ k d low high. out (suc k) d (omega (arith, low)) (omega (arith, high))))
 
-between : (own : List ℕ) (ps : List PackageModel) (i j : ℕ) → i ≤ j → AreOut own ps 0 i → AreOut own ps j (length ps) → packages_inside own (take (j - i) (drop i ps)) ≡ packages_inside own ps
-between own ps zero j le out past = (let all : j - 0 ≡ j = omega arith in ap (λ n. packages_inside own (take n ps)) all ∙ up_to own ps j past)
-between own ps (suc i) zero le out past = absurd (omega (arith, le))
-between own [] (suc i) (suc j) le out past = by (suc j - suc i)
-  where
-    by : (n : ℕ) → packages_inside own (take n (drop (suc i) [])) ≡ []
-    by zero = refl
-    by (suc n) = refl
-between own (p ∷ ps) (suc i) (suc j) le out past =
-    (let less : suc j - suc i ≡ j - i = omega arith in ap (λ n. packages_inside own (take n (drop (suc i) (p ∷ ps)))) less)
-    ∙ between own ps i j (omega (arith, le)) (λ k d low high. out (suc k) d (omega arith) (omega (arith, high))) (λ k d low high. past (suc k) d (omega (arith, low)) (omega (arith, high)))
-    ∙ ap (λ b. cond b (p ∷ packages_inside own ps) (packages_inside own ps)) (sym (out 0 p (omega arith) (omega arith)))
+  between : (ps : List PackageModel) (i j : ℕ) → i ≤ j → AllSay false ps 0 i → AllSay false ps j (length ps) → filter t (take (j - i) (drop i ps)) ≡ filter t ps
+  between ps zero j le out past = (let all : j - 0 ≡ j = omega arith in ap (λ n. filter t (take n ps)) all ∙ up_to ps j past)
+  between ps (suc i) zero le out past = absurd (omega (arith, le))
+  between [] (suc i) (suc j) le out past = by (suc j - suc i)
+    where
+      by : (n : ℕ) → filter t (take n (drop (suc i) [])) ≡ []
+      by zero = refl
+      by (suc n) = refl
+  between (p ∷ ps) (suc i) (suc j) le out past =
+      (let less : suc j - suc i ≡ j - i = omega arith in ap (λ n. filter t (take n (drop (suc i) (p ∷ ps)))) less)
+      ∙ between ps i j (omega (arith, le)) (λ k d low high. out (suc k) d (omega arith) (omega (arith, high))) (λ k d low high. past (suc k) d (omega (arith, low)) (omega (arith, high)))
+      ∙ ap (λ b. cond b (p ∷ filter t ps) (filter t ps)) (sym (out 0 p (omega arith) (omega arith)))
+
+  -- those that all pass
+
+  front_passes : (ps : List PackageModel) (n : ℕ) → AllSay true ps 0 n → filter t (take n ps) ≡ take n ps
+  front_passes ps zero pass = refl
+  front_passes [] (suc n) pass = refl
+  front_passes (p ∷ ps) (suc n) pass =
+      ap (λ b. cond b (p ∷ filter t (take n ps)) (filter t (take n ps))) (pass 0 p (omega arith) (omega arith))
+      ∙ ap (λ l. p ∷ l) (front_passes ps n (λ k d low high. pass (suc k) d (omega arith) (omega (arith, high))))
+
+  piece_passes : (ps : List PackageModel) (i j : ℕ) → i ≤ j → AllSay true ps i j → filter t (take (j - i) (drop i ps)) ≡ take (j - i) (drop i ps)
+  piece_passes ps zero j le pass = front_passes ps (j - 0) (λ k d low high. pass k d low (omega (arith, high)))
+  piece_passes ps (suc i) zero le pass = absurd (omega (arith, le))
+  piece_passes [] (suc i) (suc j) le pass = by (suc j - suc i)
+    where
+      by : (n : ℕ) → filter t (take n (drop (suc i) [])) ≡ take n (drop (suc i) [])
+      by zero = refl
+      by (suc n) = refl
+  piece_passes (p ∷ ps) (suc i) (suc j) le pass =
+      let less : suc j - suc i ≡ j - i = omega arith in
+      subst (λ (n : ℕ). filter t (take n (drop i ps)) ≡ take n (drop i ps)) (sym less) (piece_passes ps i j (omega (arith, le)) (λ k d low high. pass (suc k) d (omega (arith, low)) (omega (arith, high))))
 
 pub span_has : (own : List ℕ) (ps : List PackageModel) (i j : ℕ) → i ≤ j → AllWithin (λ p. is_lt (by_bytes p.0 own) ≡ true) ps 0 i → AllWithin (λ p. is_lt (by_bytes p.0 (own ++ 48 ∷ [])) ≡ false) ps j (length ps) → packages_inside own (take (j - i) (drop i ps)) ≡ packages_inside own ps
-span_has own ps i j le before past = between own ps i j le (λ k d low high. outside_before own (get_or ps k d).0 (before k d low high)) (λ k d low high. outside_behind own (get_or ps k d).0 (past k d low high))
+span_has own ps i j le before past = between (λ p. is_path_inside own p.0) ps i j le (λ k d low high. outside_before own (get_or ps k d).0 (before k d low high)) (λ k d low high. outside_behind own (get_or ps k d).0 (past k d low high))
+
+-- those that stand between two texts
+
+abbrev AreBefore : List ℕ → Bool → List PackageModel → ℕ → ℕ → Type 0
+AreBefore text b ps low high = AllWithin (λ p. is_lt (by_bytes p.0 text) ≡ b) ps low high
+
+module _ (own : List ℕ) (ps : List PackageModel) (i j : ℕ) (le : i ≤ j) (many : j ≤ length ps) where
+  pub span_is : AreBefore own true ps 0 i → AreBefore own false ps i (length ps) → AreBefore (own ++ 48 ∷ []) true ps 0 j → AreBefore (own ++ 48 ∷ []) false ps j (length ps) → take (j - i) (drop i ps) ≡ packages_near own ps
+  span_is before from upto past =
+      sym (piece_passes (λ p. is_path_near own p.0) ps i j le (λ k d low high. both (get_or ps k d).0 (from k d low (omega (arith, high, many))) (upto k d (omega arith) high)))
+      ∙ between (λ p. is_path_near own p.0) ps i j le (λ k d low high. first (get_or ps k d).0 (before k d low high)) (λ k d low high. second (get_or ps k d).0 (past k d low high))
+    where
+      first : (path : List ℕ) → is_lt (by_bytes path own) ≡ true → is_path_near own path ≡ false
+      first path said = ap (λ b. not b && is_lt (by_bytes path (own ++ 48 ∷ []))) said
+
+      second : (path : List ℕ) → is_lt (by_bytes path (own ++ 48 ∷ [])) ≡ false → is_path_near own path ≡ false
+      second path said = ap (λ b. not (is_lt (by_bytes path own)) && b) said ∙ and-false (not (is_lt (by_bytes path own)))
+
+      both : (path : List ℕ) → is_lt (by_bytes path own) ≡ false → is_lt (by_bytes path (own ++ 48 ∷ [])) ≡ true → is_path_near own path ≡ true
+      both path said below = ap (λ b. not b && is_lt (by_bytes path (own ++ 48 ∷ []))) said ∙ below
+
+  pub span_piece : ArePieceOf (take (j - i) (drop i ps)) ps
+  span_piece = (
+    take i ps,
+    drop (j - i) (drop i ps),
+    sym (take-append-drop i ps) ∙ ap (λ l. take i ps ++ l) (sym (take-append-drop (j - i) (drop i ps))),
+  )
 
 -- those before a text stand before the others
 
@@ -117,3 +168,19 @@ parted ps t ordered i j d le lt said = ⊎_elim
     (λ (less : i < j). ap is_lt (nat_list_cmp_total.trans (get_or ps i d).0 (get_or ps j d).0 t (path_below ps i j d ordered less lt) (lt_is (by_bytes (get_or ps j d).0 t) said)))
     (λ (more : j ≤ i). (let same : j ≡ i = omega (arith, le, more) in subst (λ k. is_lt (by_bytes (get_or ps k d).0 t) ≡ true) same said))
     (cases_lt i j)
+
+-- a package before the path of a module comes before the text behind those below it
+later_text : (own path : List ℕ) → is_lt (by_bytes path own) ≡ true → is_lt (by_bytes path (own ++ 48 ∷ [])) ≡ true
+later_text own path before =
+    let next : is_lt (by_bytes own (own ++ 48 ∷ [])) ≡ true = ap (λ l. is_lt (by_bytes l (own ++ 48 ∷ []))) (sym (append-nil own)) ∙ before_end own [] (inl refl) in
+    ap is_lt (nat_list_cmp_total.trans path own (own ++ 48 ∷ []) (lt_is (by_bytes path own) before) (lt_is (by_bytes own (own ++ 48 ∷ [])) next))
+
+-- so that the first end stands before the second
+pub ends_ordered : (own : List ℕ) (ps : List PackageModel) (i j : ℕ) → i ≤ length ps → AllWithin (λ p. is_lt (by_bytes p.0 own) ≡ true) ps 0 i → AllWithin (λ p. is_lt (by_bytes p.0 (own ++ 48 ∷ [])) ≡ false) ps j (length ps) → i ≤ j
+ends_ordered own ps i j many before past = ⊎_elim
+    (λ (less : j < i).
+    let path : List ℕ = (get_or ps j ([], [])).0 in
+    let no : true ≡ false = sym (later_text own path (before j ([], []) (omega arith) less)) ∙ past j ([], []) (omega arith) (omega (arith, less, many)) in
+    absurd cc)
+    (λ (le : i ≤ j). le)
+    (cases_lt j i)

@@ -1,7 +1,7 @@
 //! Which packages of a workspace are those of an earlier one.
 ghost use Rattle.std.specs.Prelude.{◌≡◌, ◌↔◌, IfOk, IsTrue, None, Some, slice_get};
 ghost use Rattle.go_graph_core.specs.Workspaces.{AreAllRead, IsWorkspace};
-ghost use Rattle.go_head_core.specs.Heads.{AreSameMarks, HaveSameHeads, head_of};
+ghost use Rattle.go_head_core.specs.Heads.{AreSameMarks, AreSpelledAlike, HaveSameHeads, spelled_head_of};
 ghost use Rattle.go_head_core.specs.Outside.{AreSameOutside};
 ghost use Rattle.go_head_core.specs.mirrors.Marking.{AreSameTwo, AreSameTwoAt, IsHeadOf, IsMarkOf};
 
@@ -17,17 +17,17 @@ use std::alloc::{AllocError, Global};
 pub struct Compared {
     /// Of each package, by its number, whether it is the package of that number in the earlier one.
     pub same: Vec<bool>,
-    /// Where it is set, all paths and all heads of files are those of the earlier one, number by number.
+    /// Whether all paths and all heads of files are those of the earlier one, number by number, and spelled alike.
     pub heads: bool,
 }
 
-// Whether two packages are the same, and whether their paths and heads are known to be.
+// Whether two packages are the same, and whether their paths and heads are, spelled alike.
 fn compare_one(modules: &[Module], one: &PackageSource, other: &PackageSource) -> (bool, bool)
     requires outside { AreSameTwo modules.now one.now other.now }
     requires own { AreAllRead one.now }
     requires other { AreAllRead other.now }
     ensures same { IsTrue result.0 ↔ (one.now ≡ other.now) }
-    ensures head { IsTrue result.1 → head_of one.now ≡ head_of other.now }
+    ensures head { IsTrue result.1 ↔ (spelled_head_of one.now ≡ spelled_head_of other.now) }
 {
     if is_same_outside(modules, one, other) {
         return (true, true);
@@ -69,6 +69,7 @@ fn compare_all(
     requires other { IsWorkspace others.now }
     ensures same { IfOk result (λ c. AreSameMarks packages.now others.now c.same.items) }
     ensures heads { IfOk result (λ c. IsTrue c.heads → HaveSameHeads packages.now others.now) }
+    ensures spelled { IfOk result (λ c. IsTrue c.heads ↔ AreSpelledAlike packages.now others.now) }
 {
     let span = changed(alloc, modules, packages, others)?;
     let mut same = vec![in alloc; true; others.len()]?;
@@ -82,9 +83,9 @@ fn compare_all(
 }
 
 /// What a workspace has of an earlier one: which packages are the same, by their numbers; and whether all paths are, the names in the clauses of all files,
-/// and the texts of their imports, in order. Imports that are spelled in another way count as others. A package of a path outside the modules that were
-/// replaced is known to be the same. Where one module was replaced, and stands at the same numbers in both, no package before or behind it is looked at; else
-/// the time is linear in the paths, and in the packages inside the modules.
+/// and the texts of their imports, in order. Imports that are spelled in another way, or declared in another form, count as others. A package of a path
+/// outside the modules that were replaced is known to be the same. Where one module was replaced, and stands at the same numbers in both, no package before or
+/// behind it is looked at; else the time is linear in the paths, and in the packages inside the modules.
 ///
 /// # Errors
 ///
@@ -98,6 +99,7 @@ pub fn compare(
     requires { AreSameOutside modules.now earlier.now current.now }
     ensures same { IfOk result (λ c. AreSameMarks earlier.now current.now c.same.items) }
     ensures heads { IfOk result (λ c. IsTrue c.heads → HaveSameHeads earlier.now current.now) }
+    ensures spelled { IfOk result (λ c. IsTrue c.heads ↔ AreSpelledAlike earlier.now current.now) }
 {
     compare_all(alloc, modules, earlier.packages(), current.packages())
 }

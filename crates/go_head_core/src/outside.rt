@@ -1,5 +1,5 @@
 //! Packages outside modules.
-ghost use Rattle.std.specs.Prelude.{◌≡◌, IsTrue};
+ghost use Rattle.std.specs.Prelude.{◌≡◌, ◌↔◌, IsTrue, false};
 ghost use Rattle.go_graph_core.specs.Workspaces.{is_path_inside};
 ghost use Rattle.go_head_core.specs.Outside.{is_inside_any};
 ghost use Rattle.go_head_core.specs.mirrors.Marking.{AreSameTwo};
@@ -26,7 +26,8 @@ pub(crate) fn is_same_outside(
     other: &PackageSource,
 ) -> bool
     requires { AreSameTwo modules.now one.now other.now }
-    ensures { IsTrue result → one.now ≡ other.now }
+    ensures same { IsTrue result → one.now ≡ other.now }
+    ensures outside { IsTrue result ↔ ((one.now.0 ≡ other.now.0) × (is_inside_any modules.now other.now.0 ≡ false)) }
 {
     one.path().is_same(other.path()) && !is_inside_any(modules, other.path())
 }

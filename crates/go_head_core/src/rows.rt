@@ -1,6 +1,6 @@
 //! Whether imports come to the same by two plans.
 ghost use Rattle.std.specs.Prelude.{◌≡◌, ◌↔◌, IsTrue};
-ghost use Rattle.go_head_core.specs.Rows.{HaveSameRow, HaveSameRows};
+ghost use Rattle.go_head_core.specs.Rows.{EndsRow, EndsRows, HaveSameRow, HaveSameRows};
 
 use go_graph_core::{ImportAt, ImportOutcome, Plan};
 use go_tree_nodes::text_core::Rule;
@@ -12,7 +12,7 @@ fn is_same_rule(one: Rule, other: Rule) -> bool
 }
 
 fn is_same_outcome(one: ImportOutcome, other: ImportOutcome) -> bool
-    ensures { IsTrue result → one ≡ other }
+    ensures { IsTrue result ↔ (one ≡ other) }
 {
     match (one, other) {
         (ImportOutcome::Package(one), ImportOutcome::Package(other)) => one == other,
@@ -24,7 +24,8 @@ fn is_same_outcome(one: ImportOutcome, other: ImportOutcome) -> bool
 
 // Whether the imports of a file come to the same by two plans.
 fn same_row(one: &Plan, other: &Plan, package: usize, file: usize) -> bool
-    ensures { IsTrue result → HaveSameRow one.now other.now «package» file }
+    ensures same { IsTrue result → HaveSameRow one.now other.now «package» file }
+    ensures told { EndsRow one.now «package» file → HaveSameRow one.now other.now «package» file → IsTrue result }
 {
     for import in 0..usize::MAX {
         let at = ImportAt {
@@ -48,7 +49,9 @@ fn same_row(one: &Plan, other: &Plan, package: usize, file: usize) -> bool
 
 /// Whether the imports of a package that has so many files come to the same by two plans. The time is linear in its imports.
 pub fn same_rows(one: &Plan, other: &Plan, package: usize, files: usize) -> bool
-    ensures { IsTrue result → HaveSameRows one.now other.now «package» files }
+    ensures same { IsTrue result → HaveSameRows one.now other.now «package» files }
+    // Where they do, it says so, if each file has fewer imports than a `usize` counts.
+    ensures told { EndsRows one.now «package» files → HaveSameRows one.now other.now «package» files → IsTrue result }
 {
     for file in 0..files {
         if !same_row(one, other, package, file) {

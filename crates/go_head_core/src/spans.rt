@@ -6,6 +6,7 @@ ghost use Rattle.std.specs.Map.{keys_of};
 ghost use Rattle.std.specs.Ordering.{is_lt};
 ghost use Rattle.go_graph_core.specs.Workspaces.{AreAllRead, IsWorkspace, by_bytes, packages_inside};
 ghost use Rattle.go_head_core.specs.Outside.{AreSameOutside};
+ghost use Rattle.go_head_core.specs.Spans.{ArePieceOf, packages_near};
 ghost use Rattle.go_head_core.specs.mirrors.Marking.{AreSameBut};
 
 use go_graph_core::PackageSource;
@@ -38,7 +39,8 @@ fn text_behind(alloc: Global, own: &Module) -> Result<String, AllocError>
     Ok(text)
 }
 
-/// Of packages in order of path those from the first to the last that may lie inside a module: all that do are among them. Few paths are looked at.
+/// Of packages in order of path those from the first to the last that may lie inside a module, by how their paths compare: all that do are among them.
+/// Few paths are looked at.
 ///
 /// # Errors
 ///
@@ -51,6 +53,8 @@ pub fn span_of<'a>(
     requires { IsWorkspace packages.now }
     ensures inside { IfOk result (λ span. packages_inside own.now span.now ≡ packages_inside own.now packages.now) }
     ensures read { IfOk result (λ span. All AreAllRead span.now) }
+    ensures near { IfOk result (λ span. span.now ≡ packages_near own.now packages.now) }
+    ensures piece { IfOk result (λ span. ArePieceOf span.now packages.now) }
 {
     let behind = text_behind(alloc, own)?;
     let start = count_before(packages, own.as_str());

@@ -2,16 +2,16 @@
 use Rattle.std.specs.Prelude.{◌≡◌, ◌<◌, ◌≤◌, ◌↔◌, ℕ, Bool, false, List, Some, IsTrue, length, slice_get}
 use Rattle.std.specs.Option.{option_map}
 use Rattle.go_graph_core.specs.Workspaces.{PackageModel}
-use Rattle.go_head_core.specs.Heads.{head_of}
+use Rattle.go_head_core.specs.Heads.{spelled_head_of}
 use Rattle.go_head_core.specs.Outside.{is_inside_any}
 
 -- whether it is the package of that number
 abbrev pub IsMarkOf : List PackageModel → ℕ → PackageModel → Bool → Type 0
 IsMarkOf ps n q is = IsTrue is ↔ (slice_get ps n ≡ Some q)
 
--- where it is set, there is a package of that number with the same head
+-- whether there is a package of that number whose head is spelled alike
 abbrev pub IsHeadOf : List PackageModel → ℕ → PackageModel → Bool → Type 0
-IsHeadOf ps n q is = IsTrue is → option_map head_of (slice_get ps n) ≡ Some (head_of q)
+IsHeadOf ps n q is = IsTrue is ↔ (option_map spelled_head_of (slice_get ps n) ≡ Some (spelled_head_of q))
 
 -- where two packages have one path, which is inside none of these modules, they have the same files
 abbrev pub AreSameTwo : List (List ℕ) → PackageModel → PackageModel → Type 0

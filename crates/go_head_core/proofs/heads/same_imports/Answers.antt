@@ -1,18 +1,9 @@
-use Rattle.std.proofs.Common.{◌≤◌, length, map, sym, ap, ◌∙◌, arith}
-use Rattle.std.proofs.lemmas.List.{take_all}
-use Rattle.go_tree_nodes.specs.declared.files.ImportDecl.{ImportDecl}
+use Rattle.std.proofs.Common.{◌<◌, subst}
 use Rattle.go_tree_nodes.specs.Shapes.{import_of}
-use Rattle.go_graph_core.specs.Imports.{texts_in}
-use Rattle.go_head_core.proofs.Texts.{texts_by}
+use Rattle.go_head_core.specs.Heads.{spelled_in}
+use Rattle.go_tree_nodes.specs.declared.files.ImportDecl.{ImportDecl}
+use Rattle.go_graph_core.proofs.ToldApart.{told_apart}
 use Rattle.go_head_core.proofs.heads.same_imports.Goals as goal
 
-pub returns : goal.returns
-returns c said =
-    let is = c.args.imports.now in
-    let os = c.args.others.now in
-    let k = c.loop-place.place in
-    let far : length os ≤ k = omega (arith, c.if-imports-others.false, c.loop-place-test.false) in
-    texts_by is os
-    (ap (map (λ (i : ImportDecl). texts_in (import_of i).specs)) (sym (take_all k is c.loop-place-test.false))
-    ∙ c.loop-place.invariant
-    ∙ ap (map (λ (i : ImportDecl). texts_in (import_of i).specs)) (take_all k os far))
+pub returns-then-not-is_same_import : goal.returns-then-not-is_same_import
+returns-then-not-is_same_import c = told_apart (λ (i : ImportDecl). spelled_in (import_of i).specs) c.args.imports.now c.args.others.now c.loop-place.place c.index-imports-place.result c.index-others-place.result c.is_same_import.result c.loop-place-test.true (subst (λ n. c.loop-place.place < n) c.if-imports-others.false c.loop-place-test.true) c.index-imports-place.is c.index-others-place.is c.is_same_import.ensures c.if-not-is_same_import.true

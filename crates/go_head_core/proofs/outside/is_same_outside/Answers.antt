@@ -3,8 +3,8 @@ use Rattle.go_head_core.specs.Outside.{is_inside_any}
 use Rattle.go_head_core.proofs.Replacing.{one_package, untrue}
 use Rattle.go_head_core.proofs.outside.is_same_outside.Goals as goal
 
-pub returns-then-is_same : goal.returns-then-is_same
-returns-then-is_same c = λ said.
+pub returns-then-is_same-clause-same : goal.returns-then-is_same-clause-same
+returns-then-is_same-clause-same c = λ said.
     let p = c.args.one.now in
     let q = c.args.other.now in
     let ms = c.args.modules.now in
