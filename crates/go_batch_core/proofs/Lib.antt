@@ -1,4 +1,5 @@
 pub mod Beginning
+pub mod Leaving
 pub mod Ordered
 pub mod Passing
 pub mod Reaching

@@ -1,5 +1,5 @@
 -- Marks beside the last snapshot, as actions are handed out and finished.
-use Rattle.std.proofs.Common.{◌≡◌, ◌<◌, ◌≢◌, ⊎_elim, ℕ, zero, suc, ◌+◌, Bool, true, false, List, [], ◌∷◌, length, set, refl, sym, ap, ◌∙◌, subst, arith, Option, Some, None}
+use Rattle.std.proofs.Common.{◌≡◌, ◌<◌, ◌≢◌, ⊎_elim, ℕ, zero, suc, ◌+◌, Bool, true, false, List, [], ◌∷◌, length, replicate, set, refl, sym, ap, ◌∙◌, subst, arith, Option, Some, None}
 use Rattle.std.specs.Prelude.{slice_get}
 use Rattle.std.proofs.lemmas.Bool.{cases_eq}
 use Rattle.std.proofs.lemmas.List.{length-replicate}
@@ -11,9 +11,8 @@ use Rattle.go_snap_core.specs.Snapshots.{SnapshotModel}
 use Rattle.go_snap_core.specs.summary_core.Summaries.{SummaryModel}
 use Rattle.go_snap_core.specs.whole_core.Inputs.{AreParts, HasReached, IsInputAt, IsInputOf, IsPartOf, ReachesPackage, Tells}
 use Rattle.go_batch_core.specs.Batches.{Awaits, BatchModel, IsBegun, batch_with, with_part}
-use Rattle.go_batch_core.specs.Steadiness.{AreSameAt, BeginsSteady, IsSteady, StaysAt, SteadyModel, WasAt, steady_with}
-use Rattle.go_batch_core.specs.declared.slot.Slot.{Slot}
-use Rattle.go_batch_core.specs.declared.slot.Slot.TheVariants.{Taken, Finished}
+use Rattle.go_batch_core.specs.Steadiness.{AreAgain, AreSameAt, BeginsSteady, IsSteady, StaysAt, SteadyModel, WasAt, steady_with}
+use Rattle.go_batch_core.specs.declared.slot.Slot.TheVariants.{Untaken, Taken, Finished}
 use Rattle.go_snap_core.specs.graph_core.Lists.{AllNumbered}
 use Rattle.go_batch_core.proofs.Slots.{at_replicate, at_set_other, at_set_same, length_set}
 use Rattle.go_batch_core.proofs.Staying.{input_stays}
@@ -29,7 +28,7 @@ one_part : (parts : List (Option PartModel)) (n : ℕ) (p q : PartModel) → Was
 one_part parts n p q a b = (let both : Some (Some p) ≡ Some (Some q) = sym a ∙ b in let inner : Some p ≡ Some q = cc in cc)
 
 -- the item at a place of which the partner is known
-numbered_back : {A B : Type 0} (R : ℕ → A → B → Type 0) (k : ℕ) (xs : List A) (ys : List B) (i : ℕ) (y : B) → AllNumbered R k xs ys → slice_get ys i ≡ Some y → (x : A) × (slice_get xs i ≡ Some x) × R (k + i) x y
+pub numbered_back : {A B : Type 0} (R : ℕ → A → B → Type 0) (k : ℕ) (xs : List A) (ys : List B) (i : ℕ) (y : B) → AllNumbered R k xs ys → slice_get ys i ≡ Some y → (x : A) × (slice_get xs i ≡ Some x) × R (k + i) x y
 numbered_back R k xs [] i y h e = cc
 numbered_back R k [] (b ∷ ys) i y h e = absurd h
 numbered_back R k (a ∷ xs) (b ∷ ys) zero y h e = (let same : b ≡ y = cc in let n : k ≡ k + 0 = omega arith in (a, refl, subst (λ m. R m a y) n (subst (λ z. R k a z) same h.0)))
@@ -38,19 +37,29 @@ numbered_back R k (a ∷ xs) (b ∷ ys) (suc i) y h e =
     let n : suc k + i ≡ k + suc i = omega arith in
     (rest.0, rest.1, subst (λ m. R m rest.0 y) n rest.2)
 
+none_marked : (marks : List Bool) (count n : ℕ) → marks ≡ replicate count false → slice_get marks n ≡ Some true → ⊥
+none_marked marks count n is marked = (let no : true ≡ false = at_replicate count n false true (ap (λ (l : List Bool). slice_get l n) (sym is) ∙ marked) in cc)
+
 -- nothing is handed out yet
 pub steady_begun : (s : SnapshotModel) (ps : List PackageModel) (b : BatchModel) (m : SteadyModel) → BeginsSteady s.sources ps m → IsBegun ps b → IsSteady s b m
 steady_begun s ps b m begins begun = record {
   same = subst (λ (qs : List PackageModel). AreSameAt s.sources qs m.same) (sym begun.sources) begins.same;
   many = ap length begins.moved ∙ length-replicate {A = Bool} (length m.same) false ∙ begins.many ∙ sym begun.many;
   moved = λ n p at unmarked. absurd (let none : Some p ≡ None = begun.parts n (Some p) at in cc);
-  kept = λ n k i at marked. absurd (let no : true ≡ false = at_replicate (length m.same) n false true (ap (λ (l : List Bool). slice_get l n) (sym begins.kept) ∙ marked) in cc);
+  kept = λ n k i at marked. absurd (none_marked m.kept (length m.same) n begins.kept marked);
+  again = λ n marked. absurd (none_marked m.kept (length m.same) n begins.kept marked);
+  finished = λ n p at. absurd (let none : Some p ≡ None = begun.parts n (Some p) at in cc);
 }
 
+-- what is not taken yet has no part
+none_untaken : (s : SnapshotModel) (b : BatchModel) (m : SteadyModel) (place : ℕ) (p : PartModel) → IsSteady s b m → slice_get b.slots place ≡ Some Untaken → WasAt b.parts place p → ⊥
+none_untaken s b m place p is untaken at = (let both : Some Finished ≡ Some Untaken = sym (is.finished place p at) ∙ untaken in cc)
+
 -- an action is handed out
-pub steady_handed : (s : SnapshotModel) (b : BatchModel) (m : SteadyModel) (place number : ℕ) (i : InputModel) (kept : Bool) → IsSteady s b m → (kept ≡ true → (p : PartModel) × WasAt s.parts place p × (p.input ≡ i))
+pub steady_handed : (s : SnapshotModel) (b : BatchModel) (m : SteadyModel) (place number : ℕ) (i : InputModel) (kept : Bool) → IsSteady s b m → slice_get b.slots place ≡ Some Untaken → slice_get b.sources place ≡ Some i.source
+    → (kept ≡ true → (p : PartModel) × WasAt s.parts place p × (p.input ≡ i))
     → IsSteady s (batch_with b.sources (set b.slots place (Taken number i)) b.parts) (steady_with m.same m.moved (set m.kept place kept))
-steady_handed s b m place number i kept is known = record {
+steady_handed s b m place number i kept is untaken numbered known = record {
   same = is.same;
   many = is.many ∙ sym (length_set b.slots place (Taken number i));
   moved = is.moved;
@@ -64,13 +73,50 @@ steady_handed s b m place number i kept is known = record {
       (p.0, subst (λ (x : ℕ). WasAt s.parts x p.0) (sym same) p.1, p.2 ∙ input))
       (λ (ne : n ≢ place). is.kept n k j (sym (at_set_other b.slots place n (Taken number i) ne) ∙ at) (sym (at_set_other m.kept place n kept ne) ∙ marked))
       (cases_eq n place);
+  again = λ n marked. ⊎_elim
+      (λ (same : n ≡ place).
+      let mark : kept ≡ true = set_there m.kept place kept true (subst (λ (x : ℕ). slice_get (set m.kept place kept) x ≡ Some true) same marked) in
+      let p = known mark in
+      record {
+        earlier = p.0;
+        was = subst (λ (x : ℕ). WasAt s.parts x p.0) (sym same) p.1;
+        source = ap (slice_get b.sources) same ∙ numbered ∙ ap (λ (j : InputModel). Some j.source) (sym p.2);
+        made = λ q at. absurd (none_untaken s b m place q is untaken (subst (λ (x : ℕ). WasAt b.parts x q) same at));
+      })
+      (λ (ne : n ≢ place). is.again n (sym (at_set_other m.kept place n kept ne) ∙ marked))
+      (cases_eq n place);
+  finished = λ n p at. ⊎_elim
+      (λ (same : n ≡ place). absurd (none_untaken s b m place p is untaken (subst (λ (x : ℕ). WasAt b.parts x p) same at)))
+      (λ (ne : n ≢ place). at_set_other b.slots place n (Taken number i) ne ∙ is.finished n p at)
+      (cases_eq n place);
 }
 
+-- a part is put to an action that was taken with its input
+pub again_finished : (s : SnapshotModel) (b : BatchModel) (m : SteadyModel) (place number : ℕ) (part : PartModel) → IsSteady s b m → Awaits b place number part → AreAgain s b.sources (set b.parts place (Some part)) m.kept
+again_finished s b m place number part is awaits n marked =
+    let old = is.again n marked in
+    record {
+      earlier = old.earlier;
+      was = old.was;
+      source = old.source;
+      made = λ q at. ⊎_elim
+          (λ (same : n ≡ place).
+          let here : slice_get (set b.parts place (Some part)) place ≡ Some (Some q) = subst (λ (x : ℕ). WasAt (set b.parts place (Some part)) x q) same at in
+          let both : Some part ≡ Some q = set_there b.parts place (Some part) (Some q) here in
+          let is_part : part ≡ q = cc in
+          let known = is.kept place number part.input awaits (subst (λ (x : ℕ). slice_get m.kept x ≡ Some true) same marked) in
+          let one : old.earlier ≡ known.0 = one_part s.parts place old.earlier known.0 (subst (λ (x : ℕ). WasAt s.parts x old.earlier) same old.was) known.1 in
+          ap (λ (p : PartModel). p.input) one ∙ known.2 ∙ ap (λ (p : PartModel). p.input) is_part)
+          (λ (ne : n ≢ place). old.made q (sym (at_set_other b.parts place n (Some part) ne) ∙ at))
+          (cases_eq n place);
+    }
+
 -- an action is finished
-pub steady_finished : (s : SnapshotModel) (b : BatchModel) (m : SteadyModel) (place : ℕ) (part : PartModel) (moved : Bool) (slot : Slot) → IsSteady s b m → slice_get b.slots place ≡ Some slot → (moved ≡ false → Tells s.parts place part.content.summary)
+pub steady_finished : (s : SnapshotModel) (b : BatchModel) (m : SteadyModel) (place number : ℕ) (part : PartModel) (moved : Bool) → IsSteady s b m → Awaits b place number part → (moved ≡ false → Tells s.parts place part.content.summary)
     → IsSteady s (with_part b place part) (steady_with m.same (set m.moved place moved) m.kept)
-steady_finished s b m place part moved slot is there tells =
-    let within : place < length m.moved = omega (arith, is.many, slice_get_within b.slots place slot there) in
+steady_finished s b m place number part moved is awaits tells =
+    let taken : place < length b.slots = slice_get_within b.slots place (Taken number part.input) awaits in
+    let within : place < length m.moved = omega (arith, is.many, taken) in
     record {
       same = is.same;
       many = length_set m.moved place moved ∙ is.many ∙ sym (length_set b.slots place Finished);
@@ -89,6 +135,11 @@ steady_finished s b m place part moved slot is there tells =
           let here : slice_get (set b.slots place Finished) place ≡ Some (Taken k i) = subst (λ (x : ℕ). slice_get (set b.slots place Finished) x ≡ Some (Taken k i)) same at in
           absurd (let no : Finished ≡ Taken k i = set_there b.slots place Finished (Taken k i) here in cc))
           (λ (ne : n ≢ place). is.kept n k i (sym (at_set_other b.slots place n Finished ne) ∙ at) marked)
+          (cases_eq n place);
+      again = again_finished s b m place number part is awaits;
+      finished = λ n p at. ⊎_elim
+          (λ (same : n ≡ place). ap (slice_get (set b.slots place Finished)) same ∙ at_set_same b.slots place Finished taken)
+          (λ (ne : n ≢ place). at_set_other b.slots place n Finished ne ∙ is.finished n p (sym (at_set_other b.parts place n (Some part) ne) ∙ at))
           (cases_eq n place);
     }
 

@@ -9,7 +9,7 @@ use Rattle.go_snap_core.specs.part_core.Parts.{PartModel}
 use Rattle.go_snap_core.specs.Snapshots.{IsPartAt, SnapshotModel}
 use Rattle.go_snap_core.specs.whole_core.Inputs.{IsInputAt, ReachesPackage, Tells}
 use Rattle.go_batch_core.specs.Batches.{BatchModel}
-use Rattle.go_batch_core.specs.declared.slot.Slot.TheVariants.{Taken}
+use Rattle.go_batch_core.specs.declared.slot.Slot.TheVariants.{Taken, Finished}
 
 -- marks by the numbers of packages: those that are the ones of the snapshot, those that are finished and tell something else, and those that were handed
 -- out with the input of their earlier part
@@ -35,13 +35,26 @@ pub record IsSameAt (qs ps : List PackageModel) (n : ℕ) : Type 0 where
 abbrev pub AreSameAt : List PackageModel → List PackageModel → List Bool → Type 0
 AreSameAt qs ps marks = (n : ℕ) → slice_get marks n ≡ Some true → IsSameAt qs ps n
 
--- the marks say which packages are the same as in the snapshot; a finished package without a mark tells what it told; and a marked one that is taken was
--- handed out with the input of its earlier part
+-- the package of a number of these is the one of the snapshot, and if it has a part, that is made of the input of its earlier one
+pub record IsAgainAt (s : SnapshotModel) (ps : List PackageModel) (parts : List (Option PartModel)) (n : ℕ) : Type 0 where
+  pub earlier : PartModel
+  pub was : WasAt s.parts n earlier
+  pub source : slice_get ps n ≡ Some earlier.input.source
+  pub made : (p : PartModel) → WasAt parts n p → earlier.input ≡ p.input
+
+-- each marked one is
+abbrev pub AreAgain : SnapshotModel → List PackageModel → List (Option PartModel) → List Bool → Type 0
+AreAgain s ps parts marks = (n : ℕ) → slice_get marks n ≡ Some true → IsAgainAt s ps parts n
+
+-- the marks say which packages are the same as in the snapshot; a finished package without a mark tells what it told; a marked one that is taken was handed
+-- out with the input of its earlier part; one that is finished then has a part of this input; and none has a part that is not finished
 pub record IsSteady (s : SnapshotModel) (b : BatchModel) (m : SteadyModel) : Type 0 where
   pub same : AreSameAt s.sources b.sources m.same
   pub many : length m.moved ≡ length b.slots
   pub moved : (n : ℕ) (p : PartModel) → slice_get b.parts n ≡ Some (Some p) → (slice_get m.moved n ≡ Some true → ⊥) → Tells s.parts n p.content.summary
   pub kept : (n number : ℕ) (i : InputModel) → slice_get b.slots n ≡ Some (Taken number i) → slice_get m.kept n ≡ Some true → (p : PartModel) × WasAt s.parts n p × (p.input ≡ i)
+  pub again : AreAgain s b.sources b.parts m.kept
+  pub finished : (n : ℕ) (p : PartModel) → WasAt b.parts n p → slice_get b.slots n ≡ Some Finished
 
 -- no package is finished or handed out yet
 pub record BeginsSteady (qs ps : List PackageModel) (m : SteadyModel) : Type 0 where

@@ -2,14 +2,15 @@
 ghost use Rattle.std.specs.Prelude.{◌≡◌, ◌↔◌, Contains, IfOk, IfSome, IsTrue, MatchOption, Some, false, length, replicate, slice_get, slice_set, true};
 ghost use Rattle.go_snap_core.specs.graph_core.Workspaces.{AreAllRead};
 ghost use Rattle.go_snap_core.specs.part_core.Parts.{PartModel};
+ghost use Rattle.go_snap_core.specs.Staying.{StaysWhere};
 ghost use Rattle.go_batch_core.specs.Batches.{Awaits, IsReady};
-ghost use Rattle.go_batch_core.specs.Steadiness.{IsSteady, ReachesNoneIf, StaysAt, TellsAgain, WasAt};
+ghost use Rattle.go_batch_core.specs.Steadiness.{AreAgain, IsSteady, ReachesNoneIf, StaysAt, TellsAgain, WasAt};
 
 use crate::batch::Batch;
 use crate::marks::{is_marked, set_mark};
 use crate::read::ReadPart;
 use go_snap_core::Snapshot;
-use go_snap_core::part_core::Part;
+use go_snap_core::part_core::{Part, one_part};
 use std::alloc::{AllocError, Global};
 use std::marker::Model;
 
@@ -175,6 +176,19 @@ impl Steady {
             Some(earlier) => part.get().summary().is_same(earlier.summary()),
             None => false,
         }
+    }
+
+    /// The marks of the packages that a batch leaves as they were in the last snapshot, with the same part, by the snapshot that it ended with: those whose
+    /// actions were handed out with the input of the earlier part. Nothing is compared.
+    pub fn left(&self, snapshot: &Snapshot, current: &Snapshot) -> &[bool]
+        requires { AreAgain snapshot.now current.now.sources current.now.parts self.now.kept }
+        ensures { StaysWhere snapshot.now current.now result.now }
+    {
+        // There is one part of an input, and the parts of both are those of their packages.
+        one_part();
+        let _earlier = snapshot.sources();
+        let _packages = current.sources().packages();
+        &self.kept
     }
 
     /// Marks a package whose action is handed out: whether with the input of its earlier part.

@@ -3,7 +3,7 @@ ghost use Rattle.std.specs.Prelude.{◌≡◌, ◌-◌, IfOk, length, slice_get}
 ghost use Rattle.std.specs.Option.{option_copied};
 ghost use Rattle.go_draft_core.specs.submit_core.Published.{AreSound};
 
-use go_draft_core::submit_core::{Batches, PublishedBatch};
+use go_draft_core::submit_core::{Batches, KeptBatch, PublishedBatch};
 use left_right::Absorb;
 use std::alloc::AllocError;
 use std::marker::Model;
@@ -55,14 +55,14 @@ impl Board {
     }
 
     /// The batch of a number, counted from 0.
-    pub fn get(&self, number: usize) -> Option<&PublishedBatch>
+    pub fn get(&self, number: usize) -> Option<&KeptBatch>
         ensures value { option_copied result ≡ slice_get self.now number }
         ensures sound { AreSound self.now }
     {
         self.batches.get(number)
     }
 
-    /// The last batch.
+    /// The last batch, with its whole snapshot.
     pub fn last(&self) -> Option<&PublishedBatch>
         ensures value { option_copied result ≡ slice_get self.now (length self.now - 1) }
         ensures sound { AreSound self.now }

@@ -16,5 +16,5 @@ pub mod part_core {
 
 /// What the crates above name of `go_submit_core`.
 pub mod submit_core {
-    pub use go_submit_core::{Batches, ModuleTree, PublishedBatch, Ticket};
+    pub use go_submit_core::{Batches, KeptBatch, ModuleTree, PublishedBatch, Ticket};
 }

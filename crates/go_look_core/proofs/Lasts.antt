@@ -22,9 +22,6 @@ numbered_is bs n None sound some within value = tt
 numbered_is bs n (Some b) sound some within value =
     (within, subst (λ (k : ℕ). IsOneWorker (sources_of (take k bs)) b.now.snapshot) (omega (arith, some)) (sound.each (n - 1) b.now (sym value)))
 
-pub faults_same : (own : List ℕ) (ps qs : List PackageModel) (fs gs : List PlacedFault) (found : List Fault) → found ≡ faults_inside own ps fs → ps ≡ qs → fs ≡ gs → found ≡ faults_inside own qs gs
-faults_same own ps qs fs gs found is a b = is ∙ (λ i. faults_inside own (a i) (b i))
-
 pub built_is : (bs : List PublishedBatch) (tree : TreeModel) (n : ℕ) (b : PublishedBatch) (own : List ℕ) (s : SnapshotModel) (faults : List Fault) → n ≤ length bs → IsOneWorker (sources_of (take n bs)) b.snapshot → packages_inside tree.own b.snapshot.sources ≡ tree.packages → own ≡ tree.own → s ≡ b.snapshot → faults ≡ faults_inside own s.sources s.faults → IsBuilt bs tree n faults
 built_is bs tree n b own s faults within one is mine shown are = record {
   within = within;

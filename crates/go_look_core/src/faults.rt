@@ -1,10 +1,10 @@
 //! The faults in the packages of a module.
-ghost use Rattle.std.specs.Prelude.{◌≡◌, IfOk, OnOk, slice_get};
+ghost use Rattle.std.specs.Prelude.{◌≡◌, ◌<◌, IfOk, OnOk, Some, length, slice_get};
 ghost use Rattle.go_look_core.specs.Built.{faults_inside, named_of};
 ghost use Rattle.go_look_core.specs.mirrors.Adding.{with_some};
 
 use go_board_core::draft_core::lies_inside;
-use go_graph_core::PackageSource;
+use go_history_core::KeptSnapshot;
 use go_path_core::{ImportPath, Module};
 use go_text_core::{Name, Rule, add};
 use go_type_doc_core::snap_core::PlacedFault;
@@ -22,16 +22,27 @@ pub struct Fault {
     pub rule: Rule,
 }
 
+// The fault of a number.
+fn fault_of(snapshot: &KeptSnapshot, number: usize) -> &PlacedFault
+    requires { number < length snapshot.now.faults }
+    ensures { slice_get snapshot.now.faults number ≡ Some result.now }
+{
+    match snapshot.fault(number) {
+        Some(fault) => fault,
+        None => unreachable!(),
+    }
+}
+
 // A fault with its names, if it lies in the module.
 fn named(
     alloc: Global,
     own: &Module,
-    packages: &[PackageSource],
+    snapshot: &KeptSnapshot,
     fault: &PlacedFault,
 ) -> Result<Option<Fault>, AllocError>
-    ensures { IfOk result (λ o. o ≡ named_of own.now (slice_get packages.now fault.now.«package») fault.now) }
+    ensures { IfOk result (λ o. o ≡ named_of own.now (slice_get snapshot.now.sources fault.now.«package») fault.now) }
 {
-    let Some(package) = packages.get(fault.package) else {
+    let Some(package) = snapshot.package(fault.package) else {
         return Ok(None);
     };
     if !lies_inside(own, package.path()) {
@@ -63,7 +74,7 @@ fn keep(faults: &mut Vec<Fault>, fault: Option<Fault>) -> Result<(), AllocError>
     }
 }
 
-/// The faults in the packages that lie inside a module, among those of a workspace, in the same order.
+/// The faults in the packages that lie inside a module, among those of a snapshot, in the same order.
 ///
 /// # Errors
 ///
@@ -71,14 +82,13 @@ fn keep(faults: &mut Vec<Fault>, fault: Option<Fault>) -> Result<(), AllocError>
 pub(crate) fn faults_in(
     alloc: Global,
     own: &Module,
-    packages: &[PackageSource],
-    faults: &[PlacedFault],
+    snapshot: &KeptSnapshot,
 ) -> Result<Vec<Fault>, AllocError>
-    ensures { IfOk result (λ found. found.items ≡ faults_inside own.now packages.now faults.now) }
+    ensures { IfOk result (λ found. found.items ≡ faults_inside own.now snapshot.now.sources snapshot.now.faults) }
 {
     let mut found = Vec::new(alloc);
-    for number in 0..faults.len() {
-        let one = named(alloc, own, packages, &faults[number])?;
+    for number in 0..snapshot.fault_count() {
+        let one = named(alloc, own, snapshot, fault_of(snapshot, number))?;
         keep(&mut found, one)?;
     }
     Ok(found)

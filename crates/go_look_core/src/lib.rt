@@ -3,6 +3,7 @@
 
 mod asked;
 mod faults;
+mod kept;
 mod shown;
 
 pub use asked::Look;

@@ -4,51 +4,43 @@ use Rattle.std.specs.Prelude.{IfSome, slice_get}
 use Rattle.go_batch_core.specs.graph_core.Workspaces.{PackageModel}
 use Rattle.go_batch_core.specs.part_core.Inputs.{InputModel, path_in}
 use Rattle.go_batch_core.specs.part_core.Parts.{PartModel}
+use Rattle.go_batch_core.specs.snap_core.Snapshots.{SnapshotModel}
 use Rattle.go_submit_core.proofs.Lists.{fold_push}
-use Rattle.go_submit_core.specs.Published.{IsEarlierPart, IsPartIn, batch_of, last_of, sources_of}
+use Rattle.go_submit_core.specs.Published.{IsEarlierPart, IsPartIn, LeavesWhere, batch_of, last_of, sources_of}
 use Rattle.go_submit_core.specs.Submitted.{submitted}
 use Rattle.go_submit_core.specs.declared.published.PublishedBatch.{PublishedBatch}
 use Rattle.go_batch_core.specs.Batches.{Awaits, BatchModel, IsBegun, IsNext, batch_with, with_part}
 use Rattle.go_batch_core.specs.Planning.{IsPlanned}
-use Rattle.go_batch_core.specs.Steadiness.{IsSteady, StaysAt, SteadyModel, WasAt}
+use Rattle.go_batch_core.specs.Steadiness.{AreAgain, IsSteady, StaysAt, SteadyModel, WasAt}
 use Rattle.go_batch_core.specs.declared.planned.Planned.{Planned}
 use Rattle.go_batch_core.specs.declared.slot.Slot.{Slot}
-use Rattle.go_batch_core.specs.declared.slot.Slot.TheVariants.{Taken}
-use Rattle.go_batch_core.proofs.Steadied.{steady_begun, steady_finished, steady_handed}
+use Rattle.go_batch_core.specs.declared.slot.Slot.TheVariants.{Untaken, Taken}
+use Rattle.go_batch_core.proofs.Steadied.{again_finished, steady_begun, steady_finished, steady_handed}
 use Rattle.go_sched_core.specs.Service.{Service}
 use Rattle.go_sched_core.specs.Steps.{IsFormed, IsKeptIf, with_batch}
 use Rattle.go_sched_core.specs.declared.event.Action.{Action}
 use Rattle.go_sched_core.specs.declared.change.Hand.{Hand}
 use Rattle.go_sched_core.specs.declared.running.Running.{Running}
-use Rattle.go_sched_core.specs.mirrors.Beside.{BeginsBeside, BeginsOf, IsKeptEnd, IsMove, IsMoveOf, IsPlannedFor, IsSteadyBeside, IsSteadyOf, SteadyRuns, finished, handed}
+use Rattle.go_sched_core.specs.mirrors.Beside.{BeginsBeside, BeginsOf, IsAgainBeside, IsAgainOf, IsKeptEnd, IsMove, IsMoveOf, IsPlannedFor, IsSteadyBeside, IsSteadyOf, SteadyRuns, finished, handed}
 use Rattle.go_sched_core.specs.mirrors.Fitting.{ArePublished, IsHand}
 use Rattle.go_sched_core.specs.mirrors.Kept.{RunsOn}
 use Rattle.go_sched_core.proofs.Lists.{some_same}
 
-handed_of : (o : Option PublishedBatch) (b : BatchModel) (st : Option SteadyModel) (place number : ℕ) (i : InputModel) (kept : Bool) → IsSteadyOf o b st → (kept ≡ true → (p : PartModel) × (pb : PublishedBatch) × (o ≡ Some pb) × WasAt pb.snapshot.parts place p × (p.input ≡ i))
+handed_of : (o : Option PublishedBatch) (b : BatchModel) (st : Option SteadyModel) (place number : ℕ) (i : InputModel) (kept : Bool) → IsSteadyOf o b st → slice_get b.slots place ≡ Some Untaken → slice_get b.sources place ≡ Some i.source → (kept ≡ true → (p : PartModel) × (pb : PublishedBatch) × (o ≡ Some pb) × WasAt pb.snapshot.parts place p × (p.input ≡ i))
     → IsSteadyOf o (batch_with b.sources (set b.slots place (Taken number i)) b.parts) (handed st place kept)
-handed_of o b None place number i kept is known = tt
-handed_of None b (Some m) place number i kept is known = absurd is
-handed_of (Some pb) b (Some m) place number i kept is known =
-    steady_handed pb.snapshot b m place number i kept is
+handed_of o b None place number i kept is untaken numbered known = tt
+handed_of None b (Some m) place number i kept is untaken numbered known = absurd is
+handed_of (Some pb) b (Some m) place number i kept is untaken numbered known =
+    steady_handed pb.snapshot b m place number i kept is untaken numbered
     (λ said.
     let k = known said in
     let same : k.1 ≡ pb = (let both : Some pb ≡ Some k.1 = k.2 in cc) in
     (k.0, subst (λ (x : PublishedBatch). WasAt x.snapshot.parts place k.0) same k.3, k.4))
 
--- an action is handed out
-pub runs_handed : (bs : List PublishedBatch) (b : BatchModel) (st : Option SteadyModel) (place number : ℕ) (i : InputModel) (kept : Bool) → IsSteadyOf (last_of bs) b st → (kept ≡ true → (p : PartModel) × (pb : PublishedBatch) × (last_of bs ≡ Some pb) × WasAt pb.snapshot.parts place p × (p.input ≡ i))
-    → IsSteadyOf (last_of bs) (batch_with b.sources (set b.slots place (Taken number i)) b.parts) (handed st place kept)
-runs_handed bs b st place number i kept is known = handed_of (last_of bs) b st place number i kept is known
-
-finished_of : (o : Option PublishedBatch) (b : BatchModel) (st : Option SteadyModel) (place : ℕ) (part : PartModel) (moved : Bool) (slot : Slot) → IsSteadyOf o b st → slice_get b.slots place ≡ Some slot → IsMoveOf o place part moved → IsSteadyOf o (with_part b place part) (finished st place moved)
-finished_of o b None place part moved slot is there moves = tt
-finished_of None b (Some m) place part moved slot is there moves = absurd is
-finished_of (Some pb) b (Some m) place part moved slot is there moves = steady_finished pb.snapshot b m place part moved slot is there moves
-
--- an action is finished
-pub runs_finished : (bs : List PublishedBatch) (b : BatchModel) (st : Option SteadyModel) (place : ℕ) (part : PartModel) (moved : Bool) (slot : Slot) → IsSteadyOf (last_of bs) b st → slice_get b.slots place ≡ Some slot → IsMoveOf (last_of bs) place part moved → IsSteadyOf (last_of bs) (with_part b place part) (finished st place moved)
-runs_finished bs b st place part moved slot is there moves = finished_of (last_of bs) b st place part moved slot is there moves
+finished_of : (o : Option PublishedBatch) (b : BatchModel) (st : Option SteadyModel) (place number : ℕ) (part : PartModel) (moved : Bool) → IsSteadyOf o b st → Awaits b place number part → IsMoveOf o place part moved → IsSteadyOf o (with_part b place part) (finished st place moved)
+finished_of o b None place number part moved is awaits moves = tt
+finished_of None b (Some m) place number part moved is awaits moves = absurd is
+finished_of (Some pb) b (Some m) place number part moved is awaits moves = steady_finished pb.snapshot b m place number part moved is awaits moves
 
 begun_of : (o : Option PublishedBatch) (ps : List PackageModel) (b : BatchModel) (st : Option SteadyModel) → BeginsOf o ps st → IsBegun ps b → IsSteadyOf o b st
 begun_of o ps b None begins begun = tt
@@ -128,8 +120,45 @@ kept_action bs b h a hand is earlier input n said =
 -- what is marked where an action is handed out
 pub steady_hand : (bs : List PublishedBatch) (b : BatchModel) (st : Option SteadyModel) (h : Hand) (number : ℕ) → IsSteadyBeside bs b st → IsHand bs b h
     → IsSteadyBeside bs (batch_with b.sources (set b.slots h.next.place (Taken number h.next.awaited)) b.parts) (handed st h.next.place h.kept)
-steady_hand bs b st h number is hand = runs_handed bs b st h.next.place number h.next.awaited h.kept is (hand_known bs b h hand)
+steady_hand bs b st h number is hand =
+    let numbered = hand.next.input.numbered ∙ ap (λ (i : InputModel). Some i.source) (sym hand.next.awaited) in
+    handed_of (last_of bs) b st h.next.place number h.next.awaited h.kept is hand.next.ready.untaken numbered (hand_known bs b h hand)
 
 -- what is marked where one is finished
 pub steady_end : (bs : List PublishedBatch) (o : Option Running) (r : Running) (st : Option SteadyModel) (place : ℕ) (part : PartModel) (moved : Bool) (number : ℕ) → SteadyRuns bs o st → o ≡ Some r → Awaits r.batch place number part → IsMove bs place part moved → SteadyRuns bs (Some (with_batch r (with_part r.batch place part))) (finished st place moved)
-steady_end bs o r st place part moved number is running awaits moves = runs_finished bs r.batch st place part moved (Taken number part.input) (subst (λ (x : Option Running). SteadyRuns bs x st) running is) awaits moves
+steady_end bs o r st place part moved number is running awaits moves = finished_of (last_of bs) r.batch st place number part moved (subst (λ (x : Option Running). SteadyRuns bs x st) running is) awaits moves
+
+-- what the marks say of the snapshot that a batch ended with
+
+again_of : (o : Option PublishedBatch) (b : BatchModel) (st : Option SteadyModel) (t : SnapshotModel) → IsSteadyOf o b st → t.sources ≡ b.sources → t.parts ≡ b.parts → IsAgainOf o t st
+again_of o b None t is sources parts = tt
+again_of None b (Some m) t is sources parts = tt
+again_of (Some p) b (Some m) t is sources parts =
+    subst (λ (ps : List PackageModel). AreAgain p.snapshot ps t.parts m.kept) (sym sources) (subst (λ (l : List (Option PartModel)). AreAgain p.snapshot b.sources l m.kept) (sym parts) is.again)
+
+again_last_of : (o : Option PublishedBatch) (b : BatchModel) (st : Option SteadyModel) (place number : ℕ) (part : PartModel) (t : SnapshotModel) → IsSteadyOf o b st → Awaits b place number part → t.sources ≡ b.sources → t.parts ≡ set b.parts place (Some part) → IsAgainOf o t st
+again_last_of o b None place number part t is awaits sources parts = tt
+again_last_of None b (Some m) place number part t is awaits sources parts = tt
+again_last_of (Some p) b (Some m) place number part t is awaits sources parts =
+    subst (λ (ps : List PackageModel). AreAgain p.snapshot ps t.parts m.kept) (sym sources)
+    (subst (λ (l : List (Option PartModel)). AreAgain p.snapshot b.sources l m.kept) (sym parts) (again_finished p.snapshot b m place number part is awaits))
+
+pub again_new : (bs : List PublishedBatch) (b : BatchModel) (st : Option SteadyModel) (t : SnapshotModel) → IsSteadyBeside bs b st → t.sources ≡ b.sources → t.parts ≡ b.parts → IsAgainBeside bs t st
+again_new bs b st t is sources parts = again_of (last_of bs) b st t is sources parts
+
+-- the same of the batch that runs, with its last part
+pub again_last : (bs : List PublishedBatch) (o : Option Running) (r : Running) (st : Option SteadyModel) (place number : ℕ) (part : PartModel) (t : SnapshotModel) → SteadyRuns bs o st → o ≡ Some r → Awaits r.batch place number part → t.sources ≡ r.batch.sources
+    → t.parts ≡ set r.batch.parts place (Some part) → IsAgainBeside bs t st
+again_last bs o r st place number part t is running awaits sources parts = again_last_of (last_of bs) r.batch st place number part t (subst (λ (x : Option Running). SteadyRuns bs x st) running is) awaits sources parts
+
+-- no mark says anything
+leaves_none : (o : Option PublishedBatch) (s : SnapshotModel) → LeavesWhere o s []
+leaves_none None s = tt
+leaves_none (Some b) s = record { packages = λ n marked. absurd (cc); parts = λ n marked. absurd (cc) }
+
+pub leaves_nothing : (bs : List PublishedBatch) (s : SnapshotModel) → LeavesWhere (last_of bs) s []
+leaves_nothing bs s = leaves_none (last_of bs) s
+
+-- marks and a snapshot that are there
+pub again_there : (bs : List PublishedBatch) (st : Option SteadyModel) (m : SteadyModel) (last : PublishedBatch) (s : SnapshotModel) → IsAgainBeside bs s st → st ≡ Some m → last_of bs ≡ Some last → AreAgain last.snapshot s.sources s.parts m.kept
+again_there bs st m last s is same there = subst (λ (o : Option PublishedBatch). IsAgainOf o s (Some m)) there (subst (λ (x : Option SteadyModel). IsAgainBeside bs s x) same is)

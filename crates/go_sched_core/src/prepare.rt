@@ -2,7 +2,7 @@
 ghost use Rattle.std.specs.Prelude.{◌≡◌, ℕ, ◌+◌, ◌<◌, ◌^◌, ◌++◌, ◌∷◌, [], IfErr, IfOk, IfSome, MatchOption, Some, false};
 ghost use Rattle.go_batch_core.specs.graph_core.Workspaces.{AreAllRead};
 ghost use Rattle.go_submit_core.specs.Modules.{with_trees};
-ghost use Rattle.go_submit_core.specs.Published.{IsEarlierPart, IsOneWorker, batch_of, last_of, sources_of};
+ghost use Rattle.go_submit_core.specs.Published.{IsEarlierPart, IsOneWorker, LeavesWhere, batch_of, last_of, sources_of};
 ghost use Rattle.go_submit_core.specs.Submitted.{submission_with, submitted};
 ghost use Rattle.go_batch_core.specs.Batches.{Awaits, IsForeign, IsKnown, IsReady, NoneReady, actions_left, with_part};
 ghost use Rattle.go_batch_core.specs.Planning.{IsPlanned};
@@ -10,7 +10,7 @@ ghost use Rattle.go_batch_core.specs.Steadiness.{BeginsSteady, IsSteady};
 ghost use Rattle.go_sched_core.specs.Outs.{KnowsInput};
 ghost use Rattle.go_sched_core.specs.Steps.{IsFormed, Step, accepts, with_batch};
 ghost use Rattle.go_sched_core.specs.mirrors.Fitting.{ArePublished, Fits, IsBeginning, IsHand};
-ghost use Rattle.go_sched_core.specs.mirrors.Beside.{BeginsBeside, IsKeptEnd, IsMove, IsSteadyBeside};
+ghost use Rattle.go_sched_core.specs.mirrors.Beside.{BeginsBeside, IsAgainBeside, IsKeptEnd, IsMove, IsSteadyBeside};
 
 use crate::change::{Change, Hand};
 use crate::event::{Event, Reply, SessionId};
@@ -284,13 +284,27 @@ impl Core {
         Ok(Formed { running, steady })
     }
 
-    // The published batches with one more.
+    // The marks of the packages that a batch leaves as they were in the last published one, with the same part, by the snapshot that it ended with: none
+    // where nothing is known of them.
+    fn left_by<'a>(&self, steady: &'a Option<Steady>, snapshot: &Snapshot) -> &'a [bool]
+        requires { IsAgainBeside self.now.published snapshot.now steady.now }
+        ensures { LeavesWhere (last_of self.now.published) snapshot.now result.now }
+    {
+        let (Some(steady), Some(last)) = (steady, self.published.last()) else {
+            return &[];
+        };
+        steady.left(last.snapshot.get(), snapshot)
+    }
+
+    // The published batches with one more. The marks say which packages are as they are in the last one, with the same part.
     fn published_with(
         &self,
         submissions: &Submissions,
         snapshot: Snapshot,
+        same: &[bool],
     ) -> Result<Batches, AllocError>
-        requires { IsOneWorker (submitted (sources_of self.now.published) submissions.now) snapshot }
+        requires whole { IsOneWorker (submitted (sources_of self.now.published) submissions.now) snapshot }
+        requires leaves { LeavesWhere (last_of self.now.published) snapshot same.now }
         ensures { IfOk result (λ bs. bs ≡ self.now.published ++ batch_of submissions.now snapshot ∷ []) }
     {
         let snapshot = SharedSnapshot::new(self.alloc, snapshot)?;
@@ -301,17 +315,24 @@ impl Core {
                 submissions,
                 snapshot,
             },
+            same,
         )
     }
 
     // The published batches with a new one, which has no action.
-    fn published_new(&self, running: &Running) -> Result<Batches, AllocError>
+    fn published_new(
+        &self,
+        running: &Running,
+        steady: &Option<Steady>,
+    ) -> Result<Batches, AllocError>
         requires formed { IsFormed self.now running.now }
+        requires steady { IsSteadyBeside self.now.published running.now.batch steady.now }
         requires over { actions_left running.now.batch ≡ 0 }
         ensures { IfOk result (λ bs. ArePublished self.now.published running.now bs) }
     {
         let snapshot = running.batch.snapshot(self.alloc)?;
-        self.published_with(&running.submissions, snapshot)
+        let same = self.left_by(steady, &snapshot);
+        self.published_with(&running.submissions, snapshot, same)
     }
 
     // The published batches with the one that runs, which gets its last part.
@@ -327,7 +348,8 @@ impl Core {
         ensures { IfOk result (λ bs. ArePublished self.now.published (with_batch running.now (with_part running.now.batch place part.now)) bs) }
     {
         let snapshot = running.batch.snapshot_with(self.alloc, place, part)?;
-        self.published_with(&running.submissions, snapshot)
+        let same = self.left_by(&self.steady, &snapshot);
+        self.published_with(&running.submissions, snapshot, same)
     }
 }
 
@@ -356,7 +378,7 @@ impl Core {
     {
         let Formed { running, steady } = formed;
         if running.batch.left() == 0 {
-            return match self.published_new(&running) {
+            return match self.published_new(&running, &steady) {
                 Ok(batches) => Ok(Change::PublishNew(batches)),
                 Err(AllocError) => Err(Reply::Refused(Rule::M0)),
             };

@@ -3,6 +3,7 @@ pub mod Laws
 pub mod mirrors
 pub mod SnapshotCodes
 pub mod Snapshots
+pub mod Staying
 pub mod locality_core
 pub mod answer_core
 pub mod block_core

@@ -20,6 +20,12 @@ pub none_last : {X : Type 0} (xs : List X) → slice_get xs (length xs - 1) ≡ 
 none_last [] e = refl
 none_last (x ∷ xs) e = absurd (let some = slice_get-get_or (x ∷ xs) (length (x ∷ xs) - 1) x (omega arith) in (cc))
 
+pub at_push : {X : Type 0} (xs : List X) (y : X) (n : ℕ) → n ≡ length xs → slice_get (xs ++ y ∷ []) n ≡ Some y
+at_push [] y zero e = refl
+at_push [] y (suc n) e = absurd (omega (arith, e))
+at_push (x ∷ xs) y zero e = absurd (omega (arith, e))
+at_push (x ∷ xs) y (suc n) e = at_push xs y n (omega (arith, e))
+
 pub fold_push : {A B : Type 0} (f : B → A → B) (z : B) (xs : List A) (y : A) → fold f z (xs ++ y ∷ []) ≡ f (fold f z xs) y
 fold_push f z [] y = refl
 fold_push f z (x ∷ xs) y = fold_push f (f z x) xs y

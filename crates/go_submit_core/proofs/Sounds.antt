@@ -1,8 +1,8 @@
 -- A batch that one worker gives keeps the published ones sound.
-use Rattle.std.proofs.Common.{◌≡◌, ℕ, ◌+◌, ◌-◌, ◌<◌, List, [], ◌∷◌, ◌++◌, length, take, Option, Some, None, sym, ap, ◌∙◌, subst, ⊎_elim, Bor, arith}
+use Rattle.std.proofs.Common.{◌≡◌, ℕ, ◌+◌, ◌-◌, ◌<◌, List, [], ◌∷◌, ◌++◌, length, take, Option, Some, None, refl, sym, ap, ◌∙◌, subst, ⊎_elim, Bor, arith}
 use Rattle.std.specs.Prelude.{slice_get, MatchOption}
 use Rattle.std.specs.Option.{option_copied}
-use Rattle.std.proofs.lemmas.List.{take-append-le, take_all, flat_map_more}
+use Rattle.std.proofs.lemmas.List.{take-append-le, take_all, flat_map_more, length_push}
 use Rattle.std.proofs.lemmas.List.Elements.{All-append, All-nil}
 use Rattle.std.proofs.Math.Seq.{take-append-add}
 use Rattle.std.proofs.lemmas.Option.{slice_get_within, get_or_from_slice_get}
@@ -17,7 +17,7 @@ use Rattle.go_submit_core.specs.Modules.{with_trees}
 use Rattle.go_submit_core.specs.Published.{AreSound, IsOneWorker, last_of, modules_of, sources_of}
 use Rattle.go_submit_core.specs.Submitted.{AreWorkspaces, submitted}
 use Rattle.go_submit_core.specs.mirrors.Keeping.{IsKept}
-use Rattle.go_submit_core.proofs.Lists.{at_end, fold_push, none_last, numbered_at}
+use Rattle.go_submit_core.proofs.Lists.{at_end, at_push, fold_push, none_last, numbered_at}
 
 pub sound_push : (bs : List PublishedBatch) (b : PublishedBatch) → AreSound bs → IsOneWorker (sources_of (bs ++ b ∷ [])) b.snapshot → AreSound (bs ++ b ∷ [])
 sound_push bs b s is = record {
@@ -49,16 +49,20 @@ last_sources bs (Some b) s e = (last_sound bs b.now s (sym e)).sources
 pub submitted_push : (ps : List PackageModel) (ss : List Submission) (s : Submission) → submitted ps (ss ++ s ∷ []) ≡ replaced s.tree.own (submitted ps ss) s.tree.packages
 submitted_push ps ss s = fold_push (λ w x. replaced x.tree.own w x.tree.packages) ps ss s
 
+last_push : (bs : List PublishedBatch) (b : PublishedBatch) → last_of (bs ++ b ∷ []) ≡ Some b
+last_push bs b = at_push bs b (length (bs ++ b ∷ []) - 1) (omega (arith, length_push bs b))
+
 -- the batches with one more are kept
-pub kept_push : (bs : List PublishedBatch) (b : PublishedBatch) (modules longer : List (List ℕ)) → IsKept bs modules → IsOneWorker (submitted (sources_of bs) b.submissions) b.snapshot → longer ≡ with_trees modules b.submissions → AreWorkspaces b.submissions → IsKept (bs ++ b ∷ []) longer
-kept_push bs b modules longer kept is more trees = record {
+pub kept_push : (bs : List PublishedBatch) (b : PublishedBatch) (last : Option PublishedBatch) (modules longer : List (List ℕ)) → IsKept bs last modules → IsOneWorker (submitted (sources_of bs) b.submissions) b.snapshot → longer ≡ with_trees modules b.submissions → AreWorkspaces b.submissions → IsKept (bs ++ b ∷ []) (Some b) longer
+kept_push bs b last modules longer kept is more trees = record {
+  last_is = sym (last_push bs b);
   sound = sound_push bs b kept.sound (subst (λ (ps : List PackageModel). IsOneWorker ps b.snapshot) (sym (sources_push bs b)) is);
   modules_are = more ∙ ap (λ ms. with_trees ms b.submissions) kept.modules_are ∙ sym (modules_push bs b);
   trees = subst AreWorkspaces (flat_map_more (λ (x : PublishedBatch). x.submissions) [] bs b) (All-append (λ (s : Submission). IsWorkspace s.tree.packages) (submissions_of bs) b.submissions kept.trees trees);
 }
 
-pub kept_none : (modules : List (List ℕ)) → modules ≡ [] → IsKept [] modules
-kept_none modules e = record { sound = record { each = λ k b at. absurd (cc) }; modules_are = e; trees = All-nil (λ (s : Submission). IsWorkspace s.tree.packages) }
+pub kept_none : (modules : List (List ℕ)) → modules ≡ [] → IsKept [] None modules
+kept_none modules e = record { last_is = refl; sound = record { each = λ k b at. absurd (cc) }; modules_are = e; trees = All-nil (λ (s : Submission). IsWorkspace s.tree.packages) }
 
 -- the files of a package whose part is published are as they are read
 pub part_is_read : (s : SnapshotModel) (path : List ℕ) (p : PartModel) → IsWorkspace s.sources → IsSnapshot s.sources s.parts s.faults → IsPartAt s.sources s.parts path p → AreAllRead p.input.source

@@ -1,9 +1,10 @@
 -- What published batches come to.
-use Rattle.std.specs.Prelude.{◌≡◌, ℕ, ◌+◌, ◌-◌, if◌then◌else◌, List, [], ◌∷◌, ◌++◌, length, Option, Some, None, MatchOption, slice_get, take}
+use Rattle.std.specs.Prelude.{◌≡◌, ℕ, ◌+◌, ◌-◌, Bool, if◌then◌else◌, List, [], ◌∷◌, ◌++◌, length, Option, Some, None, MatchOption, ⊤, slice_get, take}
 use Rattle.std.specs.List.{fold}
 use Rattle.go_snap_core.specs.graph_core.Workspaces.{PackageModel}
 use Rattle.go_snap_core.specs.part_core.Parts.{PartModel}
 use Rattle.go_snap_core.specs.Snapshots.{IsPartAt, IsSnapshot, SnapshotModel}
+use Rattle.go_snap_core.specs.Staying.{StaysWhere}
 use Rattle.go_submit_core.specs.Modules.{with_trees}
 use Rattle.go_submit_core.specs.Submitted.{has_ticket, submitted}
 use Rattle.go_submit_core.specs.declared.submission.Submission.{Submission}
@@ -31,6 +32,11 @@ pub record AreSound (bs : List PublishedBatch) : Type 0 where
 
 abbrev pub last_of : List PublishedBatch → Option PublishedBatch
 last_of bs = slice_get bs (length bs - 1)
+
+-- where marked, the package of a number and its part are those of that number in the last batch, if there is one
+abbrev pub LeavesWhere : Option PublishedBatch → SnapshotModel → List Bool → Type 0
+LeavesWhere None s same = ⊤
+LeavesWhere (Some b) s same = StaysWhere b.snapshot s same
 
 -- the part of the package of a path in a snapshot, if there is one
 abbrev pub IsFoundIn : SnapshotModel → List ℕ → Option PartModel → Type 0

@@ -3,9 +3,10 @@ ghost use Rattle.std.specs.Prelude.{◌≡◌, ◌++◌, ◌∷◌, [], IfOk, If
 ghost use Rattle.std.specs.Option.{option_copied};
 ghost use Rattle.go_snap_core.specs.graph_core.Workspaces.{AreAllRead};
 ghost use Rattle.go_submit_core.specs.Laws.{HaveLastTrees};
-ghost use Rattle.go_submit_core.specs.Published.{AreSound, IsEarlierPart, IsFoundIn, IsOneWorker, last_of, modules_of, number_of, sources_of};
+ghost use Rattle.go_submit_core.specs.Published.{AreSound, IsEarlierPart, IsFoundIn, IsOneWorker, LeavesWhere, last_of, modules_of, number_of, sources_of};
 ghost use Rattle.go_submit_core.specs.Submitted.{submitted};
 
+use crate::kept::KeptBatch;
 use crate::laws::published_trees;
 use crate::list::BatchList;
 use crate::module_list::ModuleList;
@@ -20,15 +21,17 @@ use std::alloc::{AllocError, Global};
 use std::marker::Model;
 use std::sync::Arc;
 
-// The batches, and the modules of which there is a submission among them, each once.
+// The batches, the last of them with its whole snapshot, and the modules of which there is a submission among them, each once.
 #[derive(Drop)]
 struct Listing {
     batches: BatchList,
+    last: Option<PublishedBatch>,
     modules: ModuleList,
 }
 
-/// The published batches, in the order in which they were published. A handle over one shared pointer, and so is each batch. Contracts see them as a
-/// list, and that each snapshot is the one of what was published up to it.
+/// The published batches, in the order in which they were published. A handle over one shared pointer, and so is each batch. The last one is there whole;
+/// of each one before only what its snapshot does not share with the one before it takes memory. Contracts see them as a list, and that each snapshot
+/// is the one of what was published up to it.
 pub struct Batches {
     list: Arc<Listing>,
 }
@@ -52,7 +55,7 @@ impl Model for Batches {
 
     ghost view = { λ b. (arc_value b.list).batches };
 
-    ghost invariant = { λ b. IsKept (arc_value b.list).batches (arc_value b.list).modules };
+    ghost invariant = { λ b. IsKept (arc_value b.list).batches (arc_value b.list).last (arc_value b.list).modules };
 }
 
 // The part of the package of a path in a snapshot, shared, where there is one.
@@ -81,6 +84,7 @@ impl Batches {
     {
         let list = Listing {
             batches: BatchList::new(alloc)?,
+            last: None,
             modules: ModuleList::new(alloc)?,
         };
         Ok(Batches {
@@ -88,22 +92,36 @@ impl Batches {
         })
     }
 
-    /// These batches, and one more, whose snapshot is the one of what was published up to it. The batches are shared: the time and the memory are those
-    /// of one pointer for each batch behind the full pieces of 64, which are fewer than 64. Each 64th time it is one more for each piece, so a time one
-    /// for each 4096 batches; and where a module is new, one handle for each module.
+    /// These batches, and one more, whose snapshot is the one of what was published up to it. The marks say, by the numbers of packages, which of them are
+    /// as they are in the last batch, with the same part; where none is there, or one is not marked, nothing is asked of it. The batches are shared: the
+    /// time and the memory are those of one pointer for each batch behind the full pieces of 64, which are fewer than 64. Each 64th time it is one more
+    /// for each piece, so a time one for each 4096 batches; and where a module is new, one handle for each module. The snapshot is kept by pieces of 64
+    /// packages: it takes one handle for each piece, and more only for those in which a package is not marked or a fault is another.
     ///
     /// # Errors
     ///
     /// `AllocError` where memory is wanting.
-    pub fn with_batch(&self, alloc: Global, batch: PublishedBatch) -> Result<Batches, AllocError>
-        requires { IsOneWorker (submitted (sources_of self.now) batch.submissions) batch.snapshot }
+    pub fn with_batch(
+        &self,
+        alloc: Global,
+        batch: PublishedBatch,
+        same: &[bool],
+    ) -> Result<Batches, AllocError>
+        requires whole { IsOneWorker (submitted (sources_of self.now) batch.submissions) batch.snapshot }
+        requires leaves { LeavesWhere (last_of self.now) batch.snapshot same.now }
         ensures { IfOk result (λ b. b ≡ self.now ++ batch ∷ []) }
     {
         batch.submissions.are_workspaces();
         let modules = self.list.modules.with_those_of(alloc, &batch.submissions)?;
-        let batches = self.list.batches.with_one(alloc, batch)?;
+        let kept = KeptBatch::behind(alloc, self.last_kept(), &batch, same)?;
+        let batches = self.list.batches.with_one(alloc, kept)?;
+        let list = Listing {
+            batches,
+            last: Some(batch),
+            modules,
+        };
         Ok(Batches {
-            list: Arc::new(alloc, Listing { batches, modules })?,
+            list: Arc::new(alloc, list)?,
         })
     }
 
@@ -128,22 +146,29 @@ impl Batches {
     }
 
     /// The batch of a place, counted from 0.
-    pub fn get(&self, place: usize) -> Option<&PublishedBatch>
+    pub fn get(&self, place: usize) -> Option<&KeptBatch>
         ensures value { option_copied result ≡ slice_get self.now place }
         ensures sound { AreSound self.now }
     {
         self.list.batches.get(place)
     }
 
-    // The last batch.
-    fn last_batch(&self) -> Option<&PublishedBatch>
-        ensures value { option_copied result ≡ last_of self.now }
-        ensures sound { AreSound self.now }
+    // The last batch, as it is listed.
+    fn last_kept(&self) -> Option<&KeptBatch>
+        ensures { option_copied result ≡ last_of self.now }
     {
         self.get(self.len().wrapping_sub(1))
     }
 
-    /// The last batch.
+    // The last batch, with its whole snapshot.
+    fn last_batch(&self) -> Option<&PublishedBatch>
+        ensures value { option_copied result ≡ last_of self.now }
+        ensures sound { AreSound self.now }
+    {
+        self.list.last.as_ref()
+    }
+
+    /// The last batch, with its whole snapshot.
     pub fn last(&self) -> Option<&PublishedBatch>
         ensures value { option_copied result ≡ last_of self.now }
         ensures sources { MatchOption result (sources_of self.now ≡ []) (λ b. b.now.snapshot.sources ≡ sources_of self.now) }
@@ -210,7 +235,7 @@ impl Batches {
             let place = count - 1 - back;
             match self.get(place) {
                 Some(batch) => {
-                    if has_ticket(batch.submissions.as_slice(), ticket.0) {
+                    if has_ticket(batch.submissions().as_slice(), ticket.0) {
                         return Some(place as u64 + 1);
                     }
                 }

@@ -1,8 +1,9 @@
 //! What sessions submit, and what was published of it: the packages of one module within the limits, submissions with their tickets, and the list of
-//! published batches, each with the snapshot of all that was published up to it.
+//! published batches, each with the snapshot of all that was published up to it, by pieces that it shares with the batch before.
 #![tactic(auto)]
 
 mod batches;
+mod kept;
 mod laws;
 mod list;
 mod module_list;
@@ -14,6 +15,7 @@ mod submission;
 mod tree_rules;
 
 pub use batches::Batches;
+pub use kept::KeptBatch;
 pub use laws::{batches_replace, last_trees, one_worker, published_trees, submissions_replace};
 pub use module_tree::ModuleTree;
 pub use modules::{add_module, add_trees, is_among, is_same_module};

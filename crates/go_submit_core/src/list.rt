@@ -2,8 +2,8 @@
 ghost use Rattle.std.specs.Prelude.{◌≡◌, [], ◌++◌, ◌∷◌, IfOk, length, slice_get};
 ghost use Rattle.std.specs.Option.{option_copied};
 
+use crate::kept::KeptBatch;
 use crate::piece::{PIECE, Piece, SharedBatch, batch_at, shared_batches, shared_pieces};
-use crate::published::PublishedBatch;
 use go_text_core::add;
 use std::alloc::{AllocError, Global};
 use std::marker::Model;
@@ -38,7 +38,7 @@ impl Model for BatchList {
 fn last_with(
     alloc: Global,
     batches: &[SharedBatch],
-    batch: PublishedBatch,
+    batch: KeptBatch,
 ) -> Result<Vec<SharedBatch>, AllocError>
     ensures { IfOk result (λ last. last.items ≡ batches.now ++ batch ∷ []) }
 {
@@ -84,11 +84,7 @@ impl BatchList {
     /// # Errors
     ///
     /// `AllocError` where memory is wanting.
-    pub(crate) fn with_one(
-        &self,
-        alloc: Global,
-        batch: PublishedBatch,
-    ) -> Result<BatchList, AllocError>
+    pub(crate) fn with_one(&self, alloc: Global, batch: KeptBatch) -> Result<BatchList, AllocError>
         ensures { IfOk result (λ l. l ≡ self.now ++ batch ∷ []) }
     {
         let count = self.count.checked_add(1).ok_or(AllocError)?;
@@ -113,7 +109,7 @@ impl BatchList {
     }
 
     /// The batch at a place, where there is one.
-    pub(crate) fn get(&self, place: usize) -> Option<&PublishedBatch>
+    pub(crate) fn get(&self, place: usize) -> Option<&KeptBatch>
         ensures { option_copied result ≡ slice_get self.now place }
     {
         let number = place / PIECE;

@@ -2,7 +2,7 @@
 ghost use Rattle.std.specs.Prelude.{◌≡◌, IfOk, slice_get};
 ghost use Rattle.std.specs.Option.{option_copied};
 
-use crate::published::PublishedBatch;
+use crate::kept::KeptBatch;
 use go_text_core::add;
 use std::alloc::{AllocError, Global};
 use std::marker::Model;
@@ -14,7 +14,7 @@ pub(crate) const PIECE: usize = 64;
 /// A batch. A handle over one shared pointer; contracts see the batch.
 #[derive(Drop)]
 pub(crate) struct SharedBatch {
-    batch: Arc<PublishedBatch>,
+    batch: Arc<KeptBatch>,
 }
 
 impl Model for SharedBatch {
@@ -54,7 +54,7 @@ impl SharedBatch {
     /// # Errors
     ///
     /// `AllocError` where memory is wanting.
-    pub(crate) fn new(alloc: Global, batch: PublishedBatch) -> Result<SharedBatch, AllocError>
+    pub(crate) fn new(alloc: Global, batch: KeptBatch) -> Result<SharedBatch, AllocError>
         ensures { IfOk result (λ b. b ≡ batch) }
     {
         Ok(SharedBatch {
@@ -76,7 +76,7 @@ impl SharedBatch {
     }
 
     /// The batch.
-    pub(crate) fn batch(&self) -> &PublishedBatch
+    pub(crate) fn batch(&self) -> &KeptBatch
         ensures { result.now ≡ self.now }
     {
         &self.batch
@@ -152,7 +152,7 @@ pub(crate) fn shared_batches(
 }
 
 /// The batch at a place, where there is one.
-pub(crate) fn batch_at(batches: &[SharedBatch], place: usize) -> Option<&PublishedBatch>
+pub(crate) fn batch_at(batches: &[SharedBatch], place: usize) -> Option<&KeptBatch>
     ensures { option_copied result ≡ slice_get batches.now place }
 {
     match batches.get(place) {

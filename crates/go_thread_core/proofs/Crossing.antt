@@ -1,5 +1,7 @@
 -- What may cross threads, and be seen by several: trees, workspaces, parts and snapshots. A level at a time, so that no search is long.
-use denote.Param.Send.{IsSend, IsSync, sendable}
+use denote.RattleType.{RattleType}
+use denote.Param.{param}
+use denote.Param.Send.{IsSend, IsSync, param_send, param_sync, sendable}
 pub use Rattle.go_path_core.proofs.modules.Module.TheSendSync as path_Module
 use Rattle.std.proofs.Crossing as std
 use Rattle.std.proofs.MapsCrossing.{HashMap-send, HashMap-sync}
@@ -133,8 +135,12 @@ use Rattle.go_snap_core.specs.part_core.contracts.files.PartFile as part_file
 use Rattle.go_snap_core.specs.part_core.contracts.content.PackageContent as content
 use Rattle.go_snap_core.specs.part_core.contracts.part.Part as part
 use Rattle.go_snap_core.specs.part_core.contracts.parts.Parts as parts
+use Rattle.go_snap_core.specs.contracts.fault.PlacedFault as placed_fault
 use Rattle.go_snap_core.specs.contracts.snapshot.Snapshot as snapshot
 use Rattle.go_snap_core.specs.contracts.shared.SharedSnapshot as shared_snapshot
+use Rattle.go_pieces_core.specs.contracts.list.Pieces as pieces
+use Rattle.go_pieces_core.specs.contracts.piece.Piece as piece
+use Rattle.go_history_core.specs.contracts.kept.KeptSnapshot as kept_snapshot
 
 pub ruleset leaves = (index_Spelling.the_send, index_Spelling.the_sync, index_Spellings.the_send, index_Spellings.the_sync, std_BuildHasherDefault.the_field_send, std_BuildHasherDefault.the_send, std_BuildHasherDefault.the_field_sync, std_BuildHasherDefault.the_sync, std_FoldHasher.the_field_send, std_FoldHasher.the_send, std_FoldHasher.the_field_sync, std_FoldHasher.the_sync, std_Option.the_field_send, std_Option.the_send, std_Option.the_field_sync, std_Option.the_sync, std_Result.the_field_send, std_Result.the_send, std_Result.the_field_sync, std_Result.the_sync, std_Memory.the_field_send, std_Memory.the_send, std_Memory.the_field_sync, std_Memory.the_sync, answer_Held.the_field_send, answer_Held.the_send, answer_Held.the_field_sync, answer_Held.the_sync, answer_Site.the_send, answer_Site.the_sync, block_Binding.the_field_send, block_Binding.the_send, block_Binding.the_field_sync, block_Binding.the_sync, block_Target.the_field_send, block_Target.the_send, block_Target.the_field_sync, block_Target.the_sync, block_Blocks.the_send, block_Blocks.the_sync, block_Exports.the_send, block_Exports.the_sync, block_ExportsContent.the_field_send, block_ExportsContent.the_send, block_ExportsContent.the_field_sync, block_ExportsContent.the_sync, block_NamedDecl.the_field_send, block_NamedDecl.the_send, block_NamedDecl.the_field_sync, block_NamedDecl.the_sync, block_BlockFault.the_field_send, block_BlockFault.the_send, block_BlockFault.the_field_sync, block_BlockFault.the_sync, block_BlockRule.the_field_send, block_BlockRule.the_send, block_BlockRule.the_field_sync, block_BlockRule.the_sync, block_Imported.the_field_send, block_Imported.the_send, block_Imported.the_field_sync, block_Imported.the_sync, constant_Parts.the_send, constant_Parts.the_sync, constant_Block.the_send, constant_Block.the_sync, constant_Piece.the_send, constant_Piece.the_sync, constant_ConstantText.the_send, constant_ConstantText.the_sync, constant_Form.the_field_send, constant_Form.the_send, constant_Form.the_field_sync, constant_Form.the_sync, constant_Constant.the_field_send, constant_Constant.the_send, constant_Constant.the_field_sync, constant_Constant.the_sync, decl_DeclKey.the_field_send, decl_DeclKey.the_send, decl_DeclKey.the_field_sync, decl_DeclKey.the_sync, decl_DeclRef.the_field_send, decl_DeclRef.the_send, decl_DeclRef.the_field_sync, decl_DeclRef.the_sync, decl_DeclKind.the_field_send, decl_DeclKind.the_send, decl_DeclKind.the_field_sync, decl_DeclKind.the_sync, denote_Outcome.the_field_send, denote_Outcome.the_send, denote_Outcome.the_field_sync, denote_Outcome.the_sync, expr_Use.the_field_send, expr_Use.the_send, expr_Use.the_field_sync, expr_Use.the_sync, face_Face.the_field_send, face_Face.the_send, face_Face.the_field_sync, face_Face.the_sync, level_EmbedPath.the_send, level_EmbedPath.the_sync, local_Fault.the_field_send, local_Fault.the_send, local_Fault.the_field_sync, local_Fault.the_sync, operand_Operand.the_field_send, operand_Operand.the_send, operand_Operand.the_field_sync, operand_Operand.the_sync, operand_ValueType.the_field_send, operand_ValueType.the_send, operand_ValueType.the_field_sync, operand_ValueType.the_sync, parse_SynFault.the_field_send, parse_SynFault.the_send, parse_SynFault.the_field_sync, parse_SynFault.the_sync, path_ImportPath.the_send, path_ImportPath.the_sync, snap_PlacedFault.the_field_send, snap_PlacedFault.the_send, snap_PlacedFault.the_field_sync, snap_PlacedFault.the_sync, term_Tag.the_send, term_Tag.the_sync, term_Basic.the_field_send, term_Basic.the_send, term_Basic.the_field_sync, term_Basic.the_sync, term_Field.the_field_send, term_Field.the_send, term_Field.the_field_sync, term_Field.the_sync, term_LocalPlace.the_field_send, term_LocalPlace.the_send, term_LocalPlace.the_field_sync, term_LocalPlace.the_sync, term_MemberPlace.the_field_send, term_MemberPlace.the_send, term_MemberPlace.the_field_sync, term_MemberPlace.the_sync, text_Form.the_field_send, text_Form.the_send, text_Form.the_field_sync, text_Form.the_sync, text_Name.the_send, text_Name.the_sync, text_Rule.the_field_send, text_Rule.the_send, text_Rule.the_field_sync, text_Rule.the_sync, text_Span.the_field_send, text_Span.the_send, text_Span.the_field_sync, text_Span.the_sync, token_Operator.the_field_send, token_Operator.the_send, token_Operator.the_field_sync, token_Operator.the_sync, tree_Role.the_field_send, tree_Role.the_send, tree_Role.the_field_sync, tree_Role.the_sync, tree_nodes_ValueKind.the_field_send, tree_nodes_ValueKind.the_send, tree_nodes_ValueKind.the_field_sync, tree_nodes_ValueKind.the_sync, tree_nodes_Key.the_field_send, tree_nodes_Key.the_send, tree_nodes_Key.the_field_sync, tree_nodes_Key.the_sync, tree_nodes_ImportDecl.the_field_send, tree_nodes_ImportDecl.the_send, tree_nodes_ImportDecl.the_field_sync, tree_nodes_ImportDecl.the_sync, tree_nodes_ImportLine.the_field_send, tree_nodes_ImportLine.the_send, tree_nodes_ImportLine.the_field_sync, tree_nodes_ImportLine.the_sync, tree_nodes_ImportName.the_field_send, tree_nodes_ImportName.the_send, tree_nodes_ImportName.the_field_sync, tree_nodes_ImportName.the_sync, tree_nodes_ImportSpec.the_field_send, tree_nodes_ImportSpec.the_send, tree_nodes_ImportSpec.the_field_sync, tree_nodes_ImportSpec.the_sync, tree_nodes_ImportSpecs.the_field_send, tree_nodes_ImportSpecs.the_send, tree_nodes_ImportSpecs.the_field_sync, tree_nodes_ImportSpecs.the_sync, tree_nodes_Receiver.the_field_send, tree_nodes_Receiver.the_send, tree_nodes_Receiver.the_field_sync, tree_nodes_Receiver.the_sync, tree_nodes_Ident.the_field_send, tree_nodes_Ident.the_send, tree_nodes_Ident.the_field_sync, tree_nodes_Ident.the_sync, tree_nodes_Idents.the_field_send, tree_nodes_Idents.the_send, tree_nodes_Idents.the_field_sync, tree_nodes_Idents.the_sync, tree_nodes_NextIdent.the_field_send, tree_nodes_NextIdent.the_send, tree_nodes_NextIdent.the_field_sync, tree_nodes_NextIdent.the_sync, tree_nodes_TextLiteral.the_field_send, tree_nodes_TextLiteral.the_send, tree_nodes_TextLiteral.the_field_sync, tree_nodes_TextLiteral.the_sync, tree_nodes_TypeName.the_field_send, tree_nodes_TypeName.the_send, tree_nodes_TypeName.the_field_sync, tree_nodes_TypeName.the_sync, tree_nodes_Usage.the_field_send, tree_nodes_Usage.the_send, tree_nodes_Usage.the_field_sync, tree_nodes_Usage.the_sync, universe_Predeclared.the_field_send, universe_Predeclared.the_send, universe_Predeclared.the_field_sync, universe_Predeclared.the_sync, HashMap-send, HashMap-sync, std_Arc.the_send, std_Arc.the_sync, std_Box.the_send, std_Box.the_sync, std_String.the_field_send, std_String.the_send, std_String.the_field_sync, std_String.the_sync, std_Vec.the_send, std_Vec.the_sync, std_Global.the_field_send, std_Global.the_send, std_Global.the_field_sync, std_Global.the_sync)
 
@@ -714,6 +720,38 @@ shared_snapshot_row_send = first_of (search (snapshot_row_send, snapshot_row_syn
 pub shared_snapshot_row_sync : IsSync shared_snapshot.the_row
 shared_snapshot_row_sync = first_of (search (snapshot_row_send, snapshot_row_sync, path_ImportPath.the_send, path_ImportPath.the_sync, text_Name.the_send, text_Name.the_sync, std.crosses, sendable) depth 60 fits 20000, search (snapshot_row_send, snapshot_row_sync, leaves, std.crosses, sendable) depth 60 fits 20000, search (snapshot_row_send, snapshot_row_sync, term_row_send, term_row_sync, term_send, term_sync, term_signature_row_send, term_signature_row_sync, term_signature_send, term_signature_sync, declared_method_row_send, declared_method_row_sync, declared_method_send, declared_method_sync, type_entry_row_send, type_entry_row_sync, type_entry_send, type_entry_sync, defined_row_send, defined_row_sync, package_types_row_send, package_types_row_sync, declared_face_row_send, declared_face_row_sync, declared_face_send, declared_face_sync, package_faces_row_send, package_faces_row_sync, summary_row_send, summary_row_sync, summary_list_row_send, summary_list_row_sync, reached_row_send, reached_row_sync, input_row_send, input_row_sync, held_local_row_send, held_local_row_sync, held_local_send, held_local_sync, answers_row_send, answers_row_sync, answers_send, answers_sync, part_file_row_send, part_file_row_sync, part_file_send, part_file_sync, content_row_send, content_row_sync, content_send, content_sync, part_row_send, part_row_sync, parts_row_send, parts_row_sync, leaves, std.crosses, sendable) depth 60 fits 20000)
 
+-- lists by pieces, of what crosses
+
+piece_row_send : (T : RattleType) → IsSend T → IsSync T → IsSend (piece.the_row T)
+piece_row_send T s y = search (std.crosses, sendable) depth 60 fits 20000
+
+piece_row_sync : (T : RattleType) → IsSend T → IsSync T → IsSync (piece.the_row T)
+piece_row_sync T s y = search (std.crosses, sendable) depth 60 fits 20000
+
+pub pieces_row_send : (T : RattleType) → IsSend T → IsSync T → IsSend (pieces.the_row T)
+pieces_row_send T s y =
+    let first = piece_row_send (param 0 T) (param_send 0 T s) (param_sync 0 T y) in
+    let second = piece_row_sync (param 0 T) (param_send 0 T s) (param_sync 0 T y) in
+    search (std.crosses, sendable) depth 60 fits 20000
+
+pub pieces_row_sync : (T : RattleType) → IsSend T → IsSync T → IsSync (pieces.the_row T)
+pieces_row_sync T s y =
+    let first = piece_row_send (param 0 T) (param_send 0 T s) (param_sync 0 T y) in
+    let second = piece_row_sync (param 0 T) (param_send 0 T s) (param_sync 0 T y) in
+    search (std.crosses, sendable) depth 60 fits 20000
+
+placed_fault_row_send : IsSend placed_fault.the_row
+placed_fault_row_send = search (snap_PlacedFault.the_send, sendable) depth 60 fits 20000
+
+placed_fault_row_sync : IsSync placed_fault.the_row
+placed_fault_row_sync = search (snap_PlacedFault.the_sync, sendable) depth 60 fits 20000
+
+pub kept_snapshot_row_send : IsSend kept_snapshot.the_row
+kept_snapshot_row_send = search (pieces_row_send, package_source_row_send, package_source_row_sync, part_row_send, part_row_sync, placed_fault_row_send, placed_fault_row_sync, std_Option.the_send, std_Option.the_sync, sendable) depth 60 fits 20000
+
+pub kept_snapshot_row_sync : IsSync kept_snapshot.the_row
+kept_snapshot_row_sync = search (pieces_row_sync, package_source_row_send, package_source_row_sync, part_row_send, part_row_sync, placed_fault_row_send, placed_fault_row_sync, std_Option.the_send, std_Option.the_sync, sendable) depth 60 fits 20000
+
 function_code_row_send : IsSend (function_code.the_row site.the_row)
 function_code_row_send = search (answer_Site.the_send, instruction_Instruction.the_send, text_Name.the_send, std.crosses, sendable) depth 60 fits 20000
 
@@ -726,4 +764,4 @@ object_row_send = search (function_code_row_send, path_ImportPath.the_send, text
 pub object_row_sync : IsSync (object.the_row site.the_row)
 object_row_sync = search (function_code_row_sync, path_ImportPath.the_sync, text_Name.the_sync, std.crosses, sendable) depth 60 fits 20000
 
-pub ruleset crossing = (shared_snapshot_row_send, shared_snapshot_row_sync, snapshot_row_send, snapshot_row_sync, parts_row_send, parts_row_sync, part_row_send, part_row_sync, input_row_send, input_row_sync, summary_row_send, summary_row_sync, workspace_row_send, workspace_row_sync, assembled_row_send, assembled_row_sync, package_source_row_send, package_source_row_sync, source_file_row_send, source_file_row_sync, path_ImportPath.the_send, path_ImportPath.the_sync, path_Module.the_send, path_Module.the_sync)
+pub ruleset crossing = (kept_snapshot_row_send, kept_snapshot_row_sync, shared_snapshot_row_send, shared_snapshot_row_sync, snapshot_row_send, snapshot_row_sync, parts_row_send, parts_row_sync, part_row_send, part_row_sync, input_row_send, input_row_sync, summary_row_send, summary_row_sync, workspace_row_send, workspace_row_sync, assembled_row_send, assembled_row_sync, package_source_row_send, package_source_row_sync, source_file_row_send, source_file_row_sync, path_ImportPath.the_send, path_ImportPath.the_sync, path_Module.the_send, path_Module.the_sync)

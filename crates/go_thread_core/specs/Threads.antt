@@ -2,6 +2,7 @@
 use denote.Param.Send.{IsSend, IsSync}
 use Rattle.go_answer_core.specs.contracts.site.Site as site
 use Rattle.go_block_core.specs.graph_core.contracts.workspace.Workspace as workspace
+use Rattle.go_history_core.specs.contracts.kept.KeptSnapshot as kept_snapshot
 use Rattle.go_object_core.specs.contracts.object.Object as object
 use Rattle.go_snap_core.specs.part_core.contracts.input.PartInput as input
 use Rattle.go_snap_core.specs.part_core.contracts.part.Part as part
@@ -26,6 +27,9 @@ SnapshotsCross = IsSend snapshot.the_row × IsSync snapshot.the_row
 
 abbrev pub SharedSnapshotsCross : Type 0
 SharedSnapshotsCross = IsSend shared_snapshot.the_row × IsSync shared_snapshot.the_row
+
+abbrev pub KeptSnapshotsCross : Type 0
+KeptSnapshotsCross = IsSend kept_snapshot.the_row × IsSync kept_snapshot.the_row
 
 abbrev pub ObjectsCross : Type 0
 ObjectsCross = IsSend (object.the_row site.the_row) × IsSync (object.the_row site.the_row)

@@ -2,10 +2,11 @@
 //! that gives such values to threads cites them.
 #![tactic(auto)]
 
-ghost use Rattle.go_thread_core.specs.Threads.{InputsCross, ObjectsCross, PartsCross, SharedSnapshotsCross, SinglePartsCross, SnapshotsCross, WorkspacesCross};
+ghost use Rattle.go_thread_core.specs.Threads.{InputsCross, KeptSnapshotsCross, ObjectsCross, PartsCross, SharedSnapshotsCross, SinglePartsCross, SnapshotsCross, WorkspacesCross};
 
 use go_answer_core::Site;
 use go_block_core::graph_core::Workspace;
+use go_history_core::KeptSnapshot;
 use go_object_core::Object;
 use go_snap_core::part_core::{Part, PartInput, Parts};
 use go_snap_core::{SharedSnapshot, Snapshot};
@@ -53,6 +54,13 @@ pub fn shared_snapshots_cross()
     ensures { SharedSnapshotsCross }
 {
     is_shared_by_threads::<SharedSnapshot>();
+}
+
+/// Snapshots that are kept by pieces.
+pub fn kept_snapshots_cross()
+    ensures { KeptSnapshotsCross }
+{
+    is_shared_by_threads::<KeptSnapshot>();
 }
 
 /// Objects, with the declarations that their code refers to.

@@ -218,7 +218,7 @@ impl Bench {
     fn faults(&self) -> usize {
         let batches = self.core.batches();
         match batches.get(batches.len().wrapping_sub(1)) {
-            Some(batch) => batch.snapshot.get().faults().len(),
+            Some(batch) => batch.snapshot().fault_count(),
             None => 0,
         }
     }

@@ -60,18 +60,22 @@ pub(crate) fn add_board(out: &mut Lines, core: &Core) {
             return;
         };
         out.count("  batch ", place.saturating_add(1), ": tickets");
-        for submission in batch.submissions.as_slice() {
+        for submission in batch.submissions().as_slice() {
             out.count(" ", submission.ticket.0 as usize, "");
         }
         out.add(", packages");
-        let snapshot = batch.snapshot.get();
-        let packages = snapshot.sources().packages();
-        for package in packages {
-            out.pieces(&[" ", package.path().as_str()]);
+        let snapshot = batch.snapshot();
+        for number in 0..snapshot.package_count() {
+            if let Some(package) = snapshot.package(number) {
+                out.pieces(&[" ", package.path().as_str()]);
+            }
         }
         out.add("\n");
-        for fault in snapshot.faults() {
-            if let Some(package) = packages.get(fault.package) {
+        for number in 0..snapshot.fault_count() {
+            let Some(fault) = snapshot.fault(number) else {
+                return;
+            };
+            if let Some(package) = snapshot.package(fault.package) {
                 if let Some(file) = package.files().get(fault.file) {
                     out.pieces(&["  fault ", package.path().as_str(), "/", file.name()]);
                     out.count(":", fault.offset, " ");
@@ -87,8 +91,9 @@ pub(crate) fn add_generations(out: &mut Lines, core: &Core) {
     let batches = core.batches();
     out.count("batch ", batches.len(), "");
     if let Some(batch) = batches.get(batches.len().wrapping_sub(1)) {
-        for slot in batch.snapshot.get().parts() {
-            if let Some(part) = slot {
+        let snapshot = batch.snapshot();
+        for number in 0..snapshot.package_count() {
+            if let Some(Some(part)) = snapshot.part(number) {
                 out.pieces(&[" ", part.path().as_str()]);
                 out.count(" made in ", part.made_in() as usize, "");
             }

@@ -27,6 +27,7 @@ use Rattle.govisd_desk.specs.submit_core.contracts.list.BatchList as batch_list
 use Rattle.govisd_desk.specs.submit_core.contracts.module_list.ModuleList as module_list
 use Rattle.govisd_desk.specs.submit_core.contracts.piece.Piece as batch_piece
 use Rattle.govisd_desk.specs.submit_core.contracts.piece.SharedBatch as shared_batch
+use Rattle.govisd_desk.specs.submit_core.contracts.published.PublishedBatch as published_batch
 use Rattle.govisd_desk.specs.sched_core.contracts.event.Event as event
 use Rattle.govisd_desk.specs.sched_core.contracts.event.Held as held
 use Rattle.govisd_desk.specs.sched_core.contracts.running.Running as running
@@ -103,11 +104,17 @@ module_list_row_send = search (crossing, std.crosses, sendable) depth 60 fits 20
 module_list_row_sync : IsSync module_list.the_row
 module_list_row_sync = search (crossing, std.crosses, sendable) depth 60 fits 20000
 
+published_batch_row_send : IsSend published_batch.the_row
+published_batch_row_send = search (below, sendable) depth 60 fits 20000
+
+published_batch_row_sync : IsSync published_batch.the_row
+published_batch_row_sync = search (below, sendable) depth 60 fits 20000
+
 batches_row_send : IsSend batches.the_row
-batches_row_send = search (batch_list_row_send, batch_list_row_sync, module_list_row_send, module_list_row_sync, std.crosses, sendable) depth 60 fits 20000
+batches_row_send = search (batch_list_row_send, batch_list_row_sync, published_batch_row_send, published_batch_row_sync, module_list_row_send, module_list_row_sync, std.crosses, sendable) depth 60 fits 20000
 
 batches_row_sync : IsSync batches.the_row
-batches_row_sync = search (batch_list_row_send, batch_list_row_sync, module_list_row_send, module_list_row_sync, std.crosses, sendable) depth 60 fits 20000
+batches_row_sync = search (batch_list_row_send, batch_list_row_sync, published_batch_row_send, published_batch_row_sync, module_list_row_send, module_list_row_sync, std.crosses, sendable) depth 60 fits 20000
 
 core_row_send : IsSend core.the_row
 core_row_send = search (list.the_send, held_row_send, running_row_send, batches_row_send, planned_row_send, steady_row_send, below, sendable) depth 60 fits 20000

@@ -2,12 +2,13 @@
 use Rattle.std.specs.Prelude.{◌≡◌, ℕ, Bool, true, false, List, Option, Some, None, ⊤, slice_set}
 use Rattle.go_batch_core.specs.graph_core.Workspaces.{PackageModel}
 use Rattle.go_batch_core.specs.part_core.Parts.{PartModel}
+use Rattle.go_batch_core.specs.snap_core.Snapshots.{SnapshotModel}
 use Rattle.go_submit_core.specs.Published.{last_of, sources_of}
 use Rattle.go_submit_core.specs.declared.published.PublishedBatch.{PublishedBatch}
 use Rattle.go_batch_core.specs.whole_core.Inputs.{Tells}
 use Rattle.go_batch_core.specs.Batches.{Awaits, BatchModel}
 use Rattle.go_batch_core.specs.Planning.{IsPlanned}
-use Rattle.go_batch_core.specs.Steadiness.{BeginsSteady, IsSteady, SteadyModel, WasAt, steady_with}
+use Rattle.go_batch_core.specs.Steadiness.{AreAgain, BeginsSteady, IsSteady, SteadyModel, WasAt, steady_with}
 use Rattle.go_batch_core.specs.declared.planned.Planned.{Planned}
 use Rattle.go_sched_core.specs.declared.running.Running.{Running}
 
@@ -33,6 +34,15 @@ BeginsBeside bs ps m = BeginsOf (last_of bs) ps m
 abbrev pub SteadyRuns : List PublishedBatch → Option Running → Option SteadyModel → Type 0
 SteadyRuns bs None m = ⊤
 SteadyRuns bs (Some r) m = IsSteadyBeside bs r.batch m
+
+-- what the marks say of a snapshot beside the one of the last published batch
+abbrev pub IsAgainOf : Option PublishedBatch → SnapshotModel → Option SteadyModel → Type 0
+IsAgainOf last s None = ⊤
+IsAgainOf None s (Some m) = ⊤
+IsAgainOf (Some p) s (Some m) = AreAgain p.snapshot s.sources s.parts m.kept
+
+abbrev pub IsAgainBeside : List PublishedBatch → SnapshotModel → Option SteadyModel → Type 0
+IsAgainBeside bs s m = IsAgainOf (last_of bs) s m
 
 -- the plan of all that is published
 abbrev pub IsPlannedFor : List PublishedBatch → Option Planned → Type 0

@@ -15,7 +15,7 @@ returns-then-has_ticket c =
     let bs = c.args.self.now in
     let place = c.len-count.result - 1 - c.loop-back.back in
     let b : PublishedBatch = c.in-Some.batch.now in
-    let has : has_ticket n b.submissions ≡ true = ap (has_ticket n) (sym c.as_slice.ensures) ∙ sym c.has_ticket.ensures ∙ c.if-has_ticket.true in
+    let has : has_ticket n b.submissions ≡ true = ap (has_ticket n) (sym (c.as_slice.ensures ∙ c.submissions.ensures)) ∙ sym c.has_ticket.ensures ∙ c.if-has_ticket.true in
     let same : place + 1 ≡ c.len-count.result - c.loop-back.back = omega (arith, c.loop-back-test.true) in
     sym (number_here n bs place b (sym c.in-Some.ensures.value) has) ∙ ap (λ k. number_of n (take k bs)) same ∙ c.loop-back.invariant
 
@@ -28,7 +28,7 @@ loop-back-preserved c =
     let bs = c.args.self.now in
     let place = c.len-count.result - 1 - c.loop-back.back in
     let b : PublishedBatch = c.in-Some.batch.now in
-    let has : has_ticket n b.submissions ≡ false = ap (has_ticket n) (sym c.as_slice.ensures) ∙ sym c.has_ticket.ensures ∙ c.if-has_ticket.false in
+    let has : has_ticket n b.submissions ≡ false = ap (has_ticket n) (sym (c.as_slice.ensures ∙ c.submissions.ensures)) ∙ sym c.has_ticket.ensures ∙ c.if-has_ticket.false in
     let same : place + 1 ≡ c.len-count.result - c.loop-back.back = omega (arith, c.loop-back-test.true) in
     let next : c.len-count.result - (c.loop-back.back + 1) ≡ place = omega (arith, c.loop-back-test.true) in
     ap (λ k. number_of n (take k bs)) next ∙ sym (number_on n bs place b (sym c.in-Some.ensures.value) has) ∙ ap (λ k. number_of n (take k bs)) same ∙ c.loop-back.invariant
