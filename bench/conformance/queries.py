@@ -126,6 +126,8 @@ def form_of_members(told, names):
         return "members that are declared twice (B5)"
     if told["cyclic"]:
         return "in a package in which a type reaches itself (Y1)"
+    if told.get("clashes"):
+        return "in a package in which an import and the package bind one name (B2)"
     return ""
 
 

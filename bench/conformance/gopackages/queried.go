@@ -313,6 +313,13 @@ func (q *questioner) odd(told *toldUse, one *usage, words ...string) {
 	q.file.Odd = append(q.file.Odd, strings.Join(words, " "))
 }
 
+// leadsBack says whether an identifier stands behind a value of a type that go/types found to lead back to itself: it has no members then, but go/types may
+// come to a selector of it before it finds that.
+func (q *questioner) leadsBack(one *usage) bool {
+	left := q.j.info.Types[one.left]
+	return left.IsValue() && isValid(left.Type) && !isValid(left.Type.Underlying())
+}
+
 // extentOf gives where errors stand that are about an identifier and no other.
 func (q *questioner) extentOf(told *toldUse, one *usage) extent {
 	where := q.extent(one)
@@ -336,6 +343,9 @@ func (q *questioner) probe(told *toldUse, one *usage, name string, object types.
 		what = found.whatTaken()
 	} else if isSame {
 		what = found.whatRefused(rule, one.role)
+	}
+	if what == "" && rule == "S1" && q.leadsBack(one) {
+		what = "behind a type that leads back to itself, which go/types finds later"
 	}
 	if what == "" {
 		q.odd(told, one, name, "by the scopes: "+rule, "by go/types: "+q.said(found))
