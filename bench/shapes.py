@@ -203,7 +203,7 @@ def embedded_towers(n):
     )
 
 
-@beyond
+@shape
 def embedded_tree(n):
     """A tree of types that each embed two, and a selection of the field of each leaf."""
     inner = "".join(f"type T{i} struct {{ T{2 * i + 1}; T{2 * i + 2} }}\n" for i in range(n))
@@ -211,25 +211,25 @@ def embedded_tree(n):
     return inner + leaves + "func f(t T0) {\n" + "".join(f"\t_ = t.f{i}\n" for i in range(n, 2 * n + 1)) + "}\n"
 
 
-@beyond
+@shape
 def embedded_through(n):
     """Many types that each embed one type, which embeds many, with three selections from each."""
     types = lines("type X% struct { f% int }\n", 2 * n) + "type U struct {\n" + lines("\tX%\n", 2 * n) + "}\n" + lines("type T% struct { U }\n", n)
     return types + "".join(f"func g{i}(t T{i}) {{ _, _, _ = t.f{2 * i}, t.f{2 * i + 1}, t.f{i} }}\n" for i in range(n))
 
 
-@beyond
+@shape
 def derived_selected(n):
     """Many types that are defined by one big struct type, and a selection from each."""
     return struct("S", n) + lines("type T% S\nfunc f%(t T%) int { return t.f% }\n", n)
 
 
-@beyond
+@shape
 def derived_methods(n):
     return struct("S", n) + lines("type T% S\nfunc (T%) m%() {}\n", n)
 
 
-@beyond
+@shape
 def derived_literals(n):
     return struct("S", n) + lines("type T% S\nvar v% = T%{f%: 1}\n", n)
 
@@ -264,17 +264,17 @@ def types_chained_selected(n):
     return "".join(f"type T{i} T{i + 1}\n" for i in range(n)) + f"type T{n} struct {{ f int }}\n" + lines("func f%(t T%) int { return t.f }\n", n)
 
 
-@beyond
+@shape
 def derived_compared(n):
     return struct("S", n) + lines("type T% S\nfunc f%(t T%) bool { return t == t }\n", n)
 
 
-@beyond
+@shape
 def pointers_converted(n):
     return struct("S", n) + struct("T", n) + "func f(s *S, t *T) {\n" + "\ts = (*S)(t)\n" * n + "}\n"
 
 
-@beyond
+@shape
 def variables_converted(n):
     return struct("S", n) + struct("T", n) + "var t T\n" + lines("var v% = S(t)\n", n)
 

@@ -71,7 +71,9 @@ pub mod select_core {
 
 /// What the crates above name of `go_table_core`.
 pub mod table_core {
-    pub use go_face_core::table_core::{DefinedType, PackageTypes, TypeEntry, TypeTable};
+    pub use go_face_core::table_core::{
+        DefinedType, FieldTable, PackageTypes, TypeEntry, TypeTable,
+    };
 }
 
 /// What the crates above name of `go_type_core`.

@@ -1,19 +1,22 @@
 -- Names of methods, gathered, and the fields that have them.
-use Rattle.std.proofs.Common.{◌≡◌, ℕ, ◌+◌, ◌<◌, ◌≤◌, Bool, true, false, ◌||◌, List, [], ◌∷◌, ◌++◌, map, length, drop, get_or, if◌then◌else◌, refl, sym, ap, ◌∙◌}
+use Rattle.std.proofs.Common.{◌≡◌, ℕ, ◌+◌, ◌<◌, ◌≤◌, Bool, true, false, not, ◌||◌, List, [], ◌∷◌, ◌++◌, map, length, drop, get_or, if◌then◌else◌, refl, sym, ap, ◌∙◌}
 use Rattle.std.specs.Str.{bytes_eq}
+use Rattle.std.proofs.lemmas.Bool.{true≢false, and_from, or_left, or_parts, or_right}
 use Rattle.std.proofs.lemmas.List.{drop_more, drop_all}
+use Rattle.std.proofs.lemmas.Slice.Eq.{bytes_eq-Decides}
 use Rattle.go_term_core.specs.text_core.declared.rule.Rule.TheVariants as rules
 use Rattle.go_term_core.specs.text_core.Each.{or_false}
 use Rattle.go_term_core.specs.declared.term.Field.{Field}
-use Rattle.go_term_core.specs.Terms.{Term, StructOf}
+use Rattle.go_term_core.specs.Terms.{Term, NoType, Predeclared, ErrorType, Defined, PointerTo, StructOf, InterfaceOf, Fields, NoField, AField}
 use Rattle.go_term_core.specs.Shapes.{Line, fields_in}
 use Rattle.go_type_core.specs.settle_core.Settled.{is_among_names}
 use Rattle.go_type_core.specs.table_core.declared.entry.DeclaredMethod.{DeclaredMethod}
 use Rattle.go_type_core.specs.table_core.Entries.{Member}
+use Rattle.go_type_core.specs.table_core.Methods.{field_spelled, term_fields}
 use Rattle.go_type_core.specs.table_core.Shown.{member_shown}
 use Rattle.go_embed_core.specs.declared.faults.MemberFault.{MemberFault}
 use Rattle.go_embed_core.specs.Faults.{member_fault_if, is_left_out, own_names, named_faults, hidden_faults}
-use Rattle.go_embed_core.specs.mirrors.Passing.{SameNames, names_with}
+use Rattle.go_embed_core.specs.mirrors.Passing.{SameNames, is_hiding, is_one_hiding, names_with}
 use Rattle.go_embed_core.proofs.Noting.{step}
 
 -- names so far, and those of the methods that are left
@@ -65,3 +68,55 @@ pub hidden_struct : (ls : List Line) (path home : List ℕ) (fs : List Field) (u
 hidden_struct ls path home fs u ms is same =
     ap (λ t. named_faults (own_names path t ms) (fields_in ls fs)) is
     ∙ (sym (ap (λ b. if b then named_faults (own_names path (StructOf home (fields_in ls fs)) ms) (fields_in ls fs) else []) same) ∙ ap (λ t. hidden_faults path t ms) (sym is))
+
+-- where no method is spelled as a field, no field stands behind a method
+
+no_own : (path : List ℕ) (u : Term) (ms : List Member) (n : List ℕ) → field_spelled (term_fields u) n ≡ true → is_one_hiding path u ms ≡ false → is_among_names (own_names path u ms) n ≡ false
+no_own path u [] n there h = refl
+no_own path u (m ∷ ms) n there h =
+    let parts = or_parts (is_hiding path u m) (is_one_hiding path u ms) h in
+    by (is_left_out path u m) refl (bytes_eq m.name n) refl parts.0 (no_own path u ms n there parts.1)
+  where
+    hiding : is_left_out path u m ≡ false → bytes_eq m.name n ≡ true → is_hiding path u m ≡ true
+    hiding own same =
+        and_from (field_spelled (term_fields u) m.name) (not (is_left_out path u m)) (ap (field_spelled (term_fields u)) ((bytes_eq-Decides m.name n).0 same) ∙ there) (ap not own)
+
+    by : (left : Bool) → is_left_out path u m ≡ left → (same : Bool) → bytes_eq m.name n ≡ same → is_hiding path u m ≡ false → is_among_names (own_names path u ms) n ≡ false
+        → is_among_names (if left then own_names path u ms else m.name ∷ own_names path u ms) n ≡ false
+    by true own same is off rest = rest
+    by false own true is off rest = absurd (true≢false (sym (hiding own is) ∙ off))
+    by false own false is off rest = ap (λ b. if b then true else is_among_names (own_names path u ms) n) is ∙ rest
+
+none_named : (names : List (List ℕ)) (fs : Fields) → ((n : List ℕ) → field_spelled fs n ≡ true → is_among_names names n ≡ false) → named_faults names fs ≡ []
+none_named names NoField off = refl
+none_named names (AField n place embedded t tag fs) off =
+    ap (λ b. member_fault_if b place rules.B5 ++ named_faults names fs) (off n (or_left (bytes_eq n n) (field_spelled fs n) ((bytes_eq-Decides n n).1 refl)))
+    ∙ none_named names fs (λ k h. off k (or_right (bytes_eq k n) (field_spelled fs k) h))
+
+pub none_hidden : (path : List ℕ) (u : Term) (ms : List Member) → is_one_hiding path u ms ≡ false → hidden_faults path u ms ≡ []
+none_hidden path NoType ms h = refl
+none_hidden path (Predeclared b) ms h = refl
+none_hidden path ErrorType ms h = refl
+none_hidden path (Defined k) ms h = refl
+none_hidden path (PointerTo t) ms h = refl
+none_hidden path (StructOf home fs) ms h = by (bytes_eq home path)
+  where
+    by : (b : Bool) → (if b then named_faults (own_names path (StructOf home fs) ms) fs else []) ≡ []
+    by true = none_named (own_names path (StructOf home fs) ms) fs (λ n there. no_own path (StructOf home fs) ms n there h)
+    by false = refl
+none_hidden path (InterfaceOf home methods) ms h = refl
+
+module _ (path : List ℕ) (u : Term) (ms : List DeclaredMethod) (i : ℕ) (m : DeclaredMethod) (all : Bool) (lt : i < length ms) (is : m ≡ get_or ms i m) (was : is_one_hiding path u (map member_shown (drop i ms)) ≡ all) where
+  one_off : is_hiding path u (member_shown m) || is_one_hiding path u (map member_shown (drop (i + 1) ms)) ≡ all
+  one_off =
+      let split : drop i ms ≡ m ∷ drop (i + 1) ms = drop_more ms i m lt ∙ ap (λ x. x ∷ drop (i + 1) ms) (sym is) in
+      ap (λ l. is_one_hiding path u (map member_shown l)) (sym split) ∙ was
+
+  pub hiding_step : is_hiding path u (member_shown m) ≡ false → is_one_hiding path u (map member_shown (drop (i + 1) ms)) ≡ all
+  hiding_step off = sym (ap (λ b. b || is_one_hiding path u (map member_shown (drop (i + 1) ms))) off) ∙ one_off
+
+  pub hiding_found : is_hiding path u (member_shown m) ≡ true → true ≡ all
+  hiding_found found = sym (ap (λ b. b || is_one_hiding path u (map member_shown (drop (i + 1) ms))) found) ∙ one_off
+
+pub hiding_end : (path : List ℕ) (u : Term) (ms : List DeclaredMethod) (i : ℕ) (all : Bool) → length ms ≤ i → is_one_hiding path u (map member_shown (drop i ms)) ≡ all → false ≡ all
+hiding_end path u ms i all past was = ap (λ l. is_one_hiding path u (map member_shown l)) (sym (drop_all i ms past)) ∙ was

@@ -432,8 +432,8 @@ pub fn check_struct<K: Kinds>(
 }
 
 /// The faults of the methods that are declared of a type, in order of file and place, and of the types in their signatures: a method that
-/// repeats the name of an earlier one, or of a field that comes before it (B5). `path` is of the type's package, `underlying` the type's
-/// underlying type. It takes expected time that is linear in the fields and the methods.
+/// repeats the name of an earlier one, or of a field that comes before it (B5). `path` is of the type's package, `fields` has the fields of
+/// the type's underlying type. It takes expected time that is linear in the methods.
 ///
 /// # Errors
 ///
@@ -442,19 +442,18 @@ pub fn check_methods<K: Kinds>(
     alloc: Global,
     kinds: &K,
     path: &ImportPath,
-    underlying: &TypeTerm,
+    fields: &FieldTable<'_>,
     methods: &[DeclaredMethod],
 ) -> Result<Vec<MemberFault>, AllocError>
-    ensures { IfOk result (λ faults. faults.items ≡ declared_faults (K.kinds kinds.now) path.now (shape underlying.now) [] (map member_shown methods.now)) }
+    ensures { IfOk result (λ faults. faults.items ≡ declared_faults (K.kinds kinds.now) path.now fields.now [] (map member_shown methods.now)) }
 {
-    let fields = FieldTable::of(alloc, underlying)?;
     let mut passed = SeenNames::new(alloc);
     let mut faults = Vec::new(alloc);
     match add_declared(
         alloc,
         kinds,
         path,
-        &fields,
+        fields,
         methods,
         &mut passed,
         &mut faults,

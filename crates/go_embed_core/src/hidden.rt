@@ -2,11 +2,11 @@
 ghost use Rattle.std.specs.Prelude.{◌≡◌, ◌∷◌, IfOk, List, OnOk, map};
 ghost use Rattle.std.specs.Str.{bytes_eq};
 ghost use Rattle.go_term_core.specs.text_core.Text.{is_blank};
-ghost use Rattle.go_term_core.specs.Shapes.{Line, shape, fields_in};
+ghost use Rattle.go_term_core.specs.Shapes.{Line, fields_in};
 ghost use Rattle.go_type_core.specs.settle_core.Settled.{is_among_names};
 ghost use Rattle.go_type_core.specs.table_core.Shown.{member_shown};
 ghost use Rattle.go_embed_core.specs.Faults.{is_left_out, own_names, named_faults, hidden_faults};
-ghost use Rattle.go_embed_core.specs.mirrors.Passing.{SameNames, names_with};
+ghost use Rattle.go_embed_core.specs.mirrors.Passing.{SameNames, is_hiding, is_one_hiding, names_with};
 
 use crate::faults::{MemberFault, note_if};
 use go_term_core::text_core::{Rule, is_blank};
@@ -98,22 +98,41 @@ fn named_faults(
 fn hidden_fields(
     alloc: Global,
     path: &ImportPath,
-    underlying: &TypeTerm,
+    table: &FieldTable<'_>,
     fields: &[Field],
     methods: &[DeclaredMethod],
 ) -> Result<Vec<MemberFault>, AllocError>
-    ensures { IfOk result (λ faults. (ls : List Line) → faults.items ≡ named_faults (own_names path.now (shape underlying.now) (map member_shown methods.now)) (fields_in ls fields.now)) }
+    ensures { IfOk result (λ faults. (ls : List Line) → faults.items ≡ named_faults (own_names path.now table.now (map member_shown methods.now)) (fields_in ls fields.now)) }
 {
-    let table = FieldTable::of(alloc, underlying)?;
-    let names = own_names(alloc, path, &table, methods)?;
+    let names = own_names(alloc, path, table, methods)?;
     named_faults(alloc, &names, fields)
+}
+
+// Whether a method is a type's own and spelled as one of its fields.
+fn is_hiding(path: &ImportPath, fields: &FieldTable<'_>, method: &DeclaredMethod) -> bool
+    ensures { result ≡ is_hiding path.now fields.now (member_shown method.now) }
+{
+    fields.has_spelled(method.name.as_str()) && !is_left_out(path, fields, method)
+}
+
+// Whether one of the methods that are a type's own is spelled as one of its fields.
+fn is_one_hiding(path: &ImportPath, fields: &FieldTable<'_>, methods: &[DeclaredMethod]) -> bool
+    ensures { result ≡ is_one_hiding path.now fields.now (map member_shown methods.now) }
+{
+    for method in methods {
+        if is_hiding(path, fields, method) {
+            return true;
+        }
+    }
+    false
 }
 
 /// The faults of the fields of a defined type that its methods keep from it, in order of the fields: a field of a struct type that is written
 /// in the package of the type repeats the identifier of a method that is declared before it (B5). `path` is of the type's package,
-/// `underlying` the type's underlying type, be it written in another type declaration, or, where it is no type, the type as it is written;
-/// `methods` are those that are declared of it. Of a field and a method of one identifier the one that stands behind the other has the fault,
-/// here or in `check_methods`. It takes expected time that is linear in the fields and the methods.
+/// `fields` has the fields of the type's underlying type, be it written in another type declaration, or, where it is no type, of the type as
+/// it is written; `methods` are those that are declared of it. Of a field and a method of one identifier the one that stands behind the other
+/// has the fault, here or in `check_methods`. It takes expected time that is linear in the methods, and in the fields only where a method is
+/// spelled as one of them and stands behind none.
 ///
 /// # Errors
 ///
@@ -121,15 +140,18 @@ fn hidden_fields(
 pub fn check_hidden_fields(
     alloc: Global,
     path: &ImportPath,
-    underlying: &TypeTerm,
+    fields: &FieldTable<'_>,
     methods: &[DeclaredMethod],
 ) -> Result<Vec<MemberFault>, AllocError>
-    ensures { IfOk result (λ faults. faults.items ≡ hidden_faults path.now (shape underlying.now) (map member_shown methods.now)) }
+    ensures { IfOk result (λ faults. faults.items ≡ hidden_faults path.now fields.now (map member_shown methods.now)) }
 {
-    match underlying {
-        TypeTerm::Struct(home, fields, _) => {
+    if !is_one_hiding(path, fields, methods) {
+        return Ok(Vec::new(alloc));
+    }
+    match fields.underlying() {
+        TypeTerm::Struct(home, list, _) => {
             if is_home(home, path) {
-                hidden_fields(alloc, path, underlying, fields, methods)
+                hidden_fields(alloc, path, fields, list, methods)
             } else {
                 Ok(Vec::new(alloc))
             }

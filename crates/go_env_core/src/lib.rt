@@ -16,6 +16,7 @@ mod recall;
 mod recalling;
 mod scene;
 mod surveys;
+mod ways;
 
 pub use here::{Here, stand};
 pub use laws::{

@@ -1,12 +1,15 @@
 //! What was decided of declared types, remembered behind a shared reference. Its locks are tried and never waited for: what is not had is decided anew.
 ghost use Rattle.std.specs.Bool.{OnTrue};
 ghost use Rattle.std.specs.Prelude.{◌≡◌, IfSome};
+ghost use Rattle.go_term_core.specs.Shapes.{shape};
 ghost use Rattle.go_level_core.specs.Selectors.{IsSelectorAnswer};
 ghost use Rattle.go_face_core.specs.table_core.Entries.{find_entry};
+ghost use Rattle.go_face_core.specs.handle_core.Stars.{starred};
 ghost use Rattle.go_env_core.specs.Recalled.{assignable_in, convertible_in};
 
-use crate::surveys::{Asked, cost_of};
-use go_face_core::handle_core::{Decl, SignatureRef, TypeRef};
+use crate::surveys::{AskedTypes, cost_of};
+use crate::ways::place_of;
+use go_face_core::handle_core::{Decl, SignatureRef, TypeParts, TypeRef};
 use go_face_core::select_core::{EmbedPath, Selected};
 use go_face_core::table_core::TypeTable;
 use go_path_core::ImportPath;
@@ -43,9 +46,6 @@ struct Spot {
     to_stars: usize,
 }
 
-// Where a declared type is looked up: by the path of its package, and the place of its declaration there.
-type Place<'p> = (&'p str, usize, usize);
-
 // Whether a value of a type is assignable to a variable of another.
 #[derive(Drop)]
 struct Assigned<'p, K: TypesOf> {
@@ -70,7 +70,7 @@ struct Converted<'p, K: TypesOf> {
 pub struct Recall<'p, K: TypesOf> {
     assigned: Mutex<HashMap<Spot, Assigned<'p, K>>>,
     converted: Mutex<HashMap<Spot, Converted<'p, K>>>,
-    asked: Mutex<HashMap<Place<'p>, Asked<'p, K>>>,
+    asked: Mutex<AskedTypes<'p, K>>,
 }
 
 impl<'p, K: TypesOf> Drop for Recall<'p, K> {
@@ -83,10 +83,27 @@ impl<'p, K: TypesOf> Drop for Recall<'p, K> {
     }
 }
 
+// The parts of a type, where a pointer type that is written counts as a star.
+fn counted<'p>(t: &TypeRef<'p>) -> TypeParts<'p>
+    ensures { starred result.stars (shape result.term.now) ≡ t.now }
+{
+    let parts = t.parts();
+    if parts.stars > 0 {
+        return parts;
+    }
+    match parts.term {
+        TypeTerm::Pointer(base) => TypeParts {
+            stars: 1,
+            term: base,
+        },
+        _ => parts,
+    }
+}
+
 // Where two declared types are looked up, which may stand under stars; none where one is another type.
 fn spot_of(value: &TypeRef<'_>, to: &TypeRef<'_>) -> Option<Spot> {
-    let value = value.parts();
-    let to = to.parts();
+    let value = counted(value);
+    let to = counted(to);
     match (value.term, to.term) {
         (TypeTerm::Defined(a), TypeTerm::Defined(b)) => Some(Spot {
             file: a.decl.file,
@@ -100,24 +117,12 @@ fn spot_of(value: &TypeRef<'_>, to: &TypeRef<'_>) -> Option<Spot> {
     }
 }
 
-// Where a declared type is looked up, which may stand under one star; none where it is another type.
-fn place_of<'p>(t: &TypeRef<'p>) -> Option<Place<'p>> {
-    let parts = t.parts();
-    if parts.stars > 1 {
-        return None;
-    }
-    match parts.term {
-        TypeTerm::Defined(key) => Some((key.path.as_str(), key.decl.file, key.decl.number)),
-        _ => None,
-    }
-}
-
 // Whether two types are one declared type under as many stars. It takes no memory.
 fn is_same_name(a: &TypeRef<'_>, b: &TypeRef<'_>) -> bool
     ensures { OnTrue result (a.now ≡ b.now) }
 {
-    let a = a.parts();
-    let b = b.parts();
+    let a = counted(a);
+    let b = counted(b);
     if a.stars != b.stars {
         return false;
     }
@@ -133,7 +138,7 @@ impl<'p, K: TypesOf> Recall<'p, K> {
         Recall {
             assigned: Mutex::new(HashMap::new(alloc)),
             converted: Mutex::new(HashMap::new(alloc)),
-            asked: Mutex::new(HashMap::new(alloc)),
+            asked: Mutex::new(AskedTypes::new(alloc)),
         }
     }
 
@@ -205,10 +210,11 @@ impl<'p, K: TypesOf> Recall<'p, K> {
     }
 
     /// What a name selects behind an operand of a type, as [`select`](go_face_core::select_core::select) answers it in the package `from`, where
-    /// that is known of the type. It takes constant expected time beside that of the path.
+    /// that is known of the type, or of one that embeds the same type alone. It takes constant expected time beside that of the path.
     pub fn select(
         &self,
         alloc: Global,
+        table: &'p TypeTable,
         t: &TypeRef<'p>,
         name: &str,
         from: &ImportPath,
@@ -221,18 +227,19 @@ impl<'p, K: TypesOf> Recall<'p, K> {
         if asked.is_empty() {
             return None;
         }
-        let found = asked.get(&place_of(t)?)?;
-        found.select(alloc, t, name, from)
+        let place = place_of(table, t, name, from)?;
+        asked.select(alloc, &place, t, name, from)
     }
 
-    /// Notes what a name was found to select behind an operand of a type, and what that cost: once the selections from a type have cost
-    /// about as much as it takes to know all of them, these are found. Where memory is wanting, it is forgotten.
+    /// Notes what a name was found to select behind an operand of a type, and what that cost: once the selections from a type, or from those
+    /// that embed it alone, have cost about as much as it takes to know all of them, these are found. Where memory is wanting, it is forgotten.
     pub fn note_selection(
         &self,
         alloc: Global,
         table: &'p TypeTable,
         from: &'p ImportPath,
         t: &TypeRef<'p>,
+        name: &str,
         selection: &Selection<TypeRef<'p>, SignatureRef<'p>, Decl<'p>, EmbedPath>,
     )
         requires { table.now ≡ K.types }
@@ -242,15 +249,11 @@ impl<'p, K: TypesOf> Recall<'p, K> {
         if cost == 0 {
             return;
         }
-        let Some(place) = place_of(t) else {
+        let Some(place) = place_of(table, t, name, from) else {
             return;
         };
         if let Some(mut asked) = self.asked.try_lock() {
-            let now = match asked.remove(&place) {
-                Some(before) => before.again(alloc, table, term, from, cost),
-                None => Asked::once(cost),
-            };
-            let _ = asked.insert(place, now);
+            asked.note(alloc, table, from, place, term, cost, selection);
         }
     }
 }

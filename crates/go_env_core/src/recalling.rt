@@ -131,12 +131,12 @@ impl<'m, 'n, 'p, K: TypesOf> Names for Recalling<'m, 'n, 'p, K> {
     ) -> Result<Selection<TypeRef<'p>, SignatureRef<'p>, Decl<'p>, EmbedPath>, AllocError> {
         let types = self.here.scene.types;
         let home = self.here.scene.home;
-        if let Some(answered) = self.recall.select(alloc, t, name, home.path()) {
+        if let Some(answered) = self.recall.select(alloc, types, t, name, home.path()) {
             return chosen(types, home, answered);
         }
         let found = self.here.select(alloc, t, name)?;
         self.recall
-            .note_selection(alloc, types, home.path(), t, &found);
+            .note_selection(alloc, types, home.path(), t, name, &found);
         Ok(found)
     }
 

@@ -1,26 +1,29 @@
 //! Selections from one type, told by a survey of it once they have cost about as much as it does.
-ghost use Rattle.std.specs.Bool.{OnTrue};
 ghost use Rattle.std.specs.Coded.{Coded-set, coded_list};
 ghost use Rattle.std.specs.Prelude.{◌≡◌, IfSome};
-ghost use Rattle.go_term_core.specs.Shapes.{shape};
 ghost use Rattle.go_level_core.specs.Selectors.{IsSelectorAnswer};
 ghost use Rattle.go_face_core.specs.table_core.Entries.{find_entry};
 ghost use Rattle.go_face_core.specs.table_core.codes.EntryCodes.{coded_entry};
 
 use crate::recall::TypesOf;
+use crate::ways::Place;
 use go_face_core::handle_core::{Decl, SignatureRef, TypeRef};
 use go_face_core::select_core::{EmbedPath, Owner, Selected};
 use go_face_core::table_core::TypeTable;
 use go_path_core::ImportPath;
-use go_survey_core::Survey;
+use go_survey_core::{Survey, breadth};
 use go_term_core::TypeTerm;
 use go_text_core::Rule;
 use go_top_core::denote_core::Selection;
 use std::alloc::Global;
+use std::collections::HashMap;
 use std::marker::PhantomData;
 
 /// A survey may go over so many times what the selections before it went over.
 const SHARE: usize = 2;
+
+/// How many types, fields and methods all surveys of a package may go over.
+const MOST: usize = 2_097_152;
 
 /// A survey of a type of a table.
 #[derive(Drop)]
@@ -30,27 +33,27 @@ struct Surveyed<'p, K: TypesOf> {
     ghost right: { survey.entries ≡ K.types } by { Coded-set (coded_list coded_entry) _ _ },
 }
 
-/// What is known of the selections from one type of a table, and from pointers to it.
+// What is known of the selections from one type of a table, and from pointers to it.
 #[derive(Drop)]
-pub(crate) struct Asked<'p, K: TypesOf> {
-    // How many fields those went over at least that no survey told.
+struct Asked<'p, K: TypesOf> {
+    // How much those went over at least that no survey told.
     spent: usize,
-    // How many a survey may go over the next time that one is tried.
+    // How much a survey may go over the next time that one is tried.
     next: usize,
+    // How much the survey went over at most.
+    held: usize,
     survey: Option<Surveyed<'p, K>>,
 }
 
-// Whether two types are one declared type. It takes no memory.
-fn is_same_name(a: &TypeTerm, b: &TypeTerm) -> bool
-    ensures { OnTrue result (shape a.now ≡ shape b.now) }
-{
-    match (a, b) {
-        (TypeTerm::Defined(one), TypeTerm::Defined(other)) => one.is_same(other),
-        _ => false,
-    }
+/// What is known of the selections from the types of a table.
+#[derive(Drop)]
+pub(crate) struct AskedTypes<'p, K: TypesOf> {
+    types: HashMap<Place<'p>, Asked<'p, K>>,
+    // How much all surveys went over at most.
+    held: usize,
 }
 
-// What a survey tells of a selection behind an operand of a type, where it is of the type or of what it points to, and for the package.
+// What a survey tells of a selection behind an operand of a type, where it tells of the type or of what it points to, and for the package.
 fn told<'p>(
     alloc: Global,
     survey: &Survey<'p>,
@@ -61,7 +64,7 @@ fn told<'p>(
     ensures { IfSome result (λ answered. IsSelectorAnswer (find_entry survey.now.entries) t.now name.now from.now answered) }
 {
     let parts = t.parts();
-    if !is_same_name(survey.term(), parts.term) || !survey.from().is_same(from) {
+    if !survey.from().is_same(from) || !survey.tells(parts.term, name) {
         return None;
     }
     if parts.stars == 0 {
@@ -108,6 +111,15 @@ fn field_count_along(table: &TypeTable, term: &TypeTerm, steps: &[usize]) -> usi
     count
 }
 
+// How many embedded fields lead to what a selection denotes; as many as there are where it denotes nothing.
+fn depth_of(selection: &Selection<TypeRef<'_>, SignatureRef<'_>, Decl<'_>, EmbedPath>) -> usize {
+    match selection {
+        Selection::Field(_, path, _, _) => path.steps().len(),
+        Selection::Method(_, path, _, _, _) => path.steps().len(),
+        Selection::Missing(_) => usize::MAX,
+    }
+}
+
 /// How many fields a selection from a type went over at least. Of a field or method of the type itself it is none.
 pub(crate) fn cost_of(
     table: &TypeTable,
@@ -122,45 +134,50 @@ pub(crate) fn cost_of(
 }
 
 impl<'p, K: TypesOf> Asked<'p, K> {
-    /// One selection, of which the cost is known.
-    pub(crate) fn once(cost: usize) -> Asked<'p, K> {
+    // One selection, of which the cost is known.
+    fn once(cost: usize) -> Asked<'p, K> {
         Asked {
             spent: cost,
             next: 0,
+            held: 0,
             survey: None,
         }
     }
 
-    /// One selection more. A survey is made where it goes over no more than twice what the selections did; where it would, and behind
-    /// one that is made, one is tried again only when they went over twice as much.
-    pub(crate) fn again(
+    // One selection more. A survey is made where it goes over no more than twice what the selections did; where it would, and behind one that
+    // is made, one is tried again only when they went over twice as much. It goes over `most` types, fields and methods at most.
+    fn again(
         self,
         alloc: Global,
         table: &'p TypeTable,
         term: &'p TypeTerm,
         from: &'p ImportPath,
         cost: usize,
+        most: usize,
     ) -> Asked<'p, K>
         requires { table.now ≡ K.types }
     {
         let spent = self.spent.saturating_add(cost);
-        let room = spent.saturating_mul(SHARE);
+        let room = spent.saturating_mul(SHARE).min(most);
         if room < self.next {
             return Asked {
                 spent,
                 next: self.next,
+                held: self.held,
                 survey: self.survey,
             };
         }
+        let survey = survey_of(alloc, table, term, from, room);
         Asked {
             spent,
             next: room.saturating_mul(2),
-            survey: survey_of(alloc, table, term, from, room),
+            held: if survey.is_some() { room } else { 0 },
+            survey,
         }
     }
 
-    /// What a selection behind an operand of a type denotes that is written in a package, where a survey tells it.
-    pub(crate) fn select(
+    // What a selection behind an operand of a type denotes that is written in a package, where a survey tells it.
+    fn select(
         &self,
         alloc: Global,
         t: &TypeRef<'p>,
@@ -173,5 +190,67 @@ impl<'p, K: TypesOf> Asked<'p, K> {
             Some(surveyed) => told(alloc, &surveyed.survey, t, name, from),
             None => None,
         }
+    }
+}
+
+impl<'p, K: TypesOf> AskedTypes<'p, K> {
+    /// No selection is known.
+    pub(crate) fn new(alloc: Global) -> AskedTypes<'p, K> {
+        AskedTypes {
+            types: HashMap::new(alloc),
+            held: 0,
+        }
+    }
+
+    /// Whether no selection is known.
+    pub(crate) fn is_empty(&self) -> bool {
+        self.types.is_empty()
+    }
+
+    /// What a selection behind an operand of a type denotes that is written in a package, where a survey of the place tells it.
+    pub(crate) fn select(
+        &self,
+        alloc: Global,
+        place: &Place<'p>,
+        t: &TypeRef<'p>,
+        name: &str,
+        from: &ImportPath,
+    ) -> Option<Result<Selected<'p>, Rule>>
+        ensures { IfSome result (λ answered. IsSelectorAnswer (find_entry K.types) t.now name.now from.now answered) }
+    {
+        let found = self.types.get(place)?;
+        found.select(alloc, t, name, from)
+    }
+
+    /// Notes a selection of a place, and what it cost at least. Where memory is wanting, it is forgotten.
+    pub(crate) fn note(
+        &mut self,
+        alloc: Global,
+        table: &'p TypeTable,
+        from: &'p ImportPath,
+        place: Place<'p>,
+        term: &'p TypeTerm,
+        cost: usize,
+        selection: &Selection<TypeRef<'p>, SignatureRef<'p>, Decl<'p>, EmbedPath>,
+    )
+        requires { table.now ≡ K.types }
+    {
+        let Some(before) = self.types.remove(&place) else {
+            let _ = self.types.insert(place, Asked::once(cost));
+            return;
+        };
+        let others = self.held.saturating_sub(before.held);
+        let searched = breadth(alloc, table, term, depth_of(selection));
+        let most = MOST.saturating_sub(others);
+        let now = before.again(
+            alloc,
+            table,
+            term,
+            from,
+            cost.saturating_add(searched),
+            most,
+        );
+        self.held = others.saturating_add(now.held);
+        let _ = self.types.insert(place, now);
     }
 }

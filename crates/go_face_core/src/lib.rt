@@ -65,8 +65,8 @@ pub mod graph_core {
 /// What the crates above name of `go_handle_core`.
 pub mod handle_core {
     pub use go_handle_core::{
-        Decl, DeclSite, Home, SignatureRef, TypeRef, chosen, is_assignable, is_convertible,
-        is_identical, selection, typed,
+        Decl, DeclSite, Home, SignatureRef, TypeParts, TypeRef, chosen, is_assignable,
+        is_convertible, is_identical, selection, typed,
     };
 }
 
@@ -103,7 +103,7 @@ pub mod settle_core {
 /// What the crates above name of `go_table_core`.
 pub mod table_core {
     pub use go_handle_core::table_core::{
-        DeclaredMethod, DefinedType, PackageTypes, StructField, TypeEntry, TypeTable,
+        DeclaredMethod, DefinedType, FieldTable, PackageTypes, StructField, TypeEntry, TypeTable,
     };
 }
 

@@ -1,6 +1,5 @@
 //! The faults of type declarations.
 ghost use Rattle.std.specs.Prelude.{◌≡◌, ◌++◌, IfOk, OnOk, map, slice_get};
-ghost use Rattle.go_term_core.specs.Shapes.{shape};
 ghost use Rattle.go_summary_core.specs.table_core.Shown.{entry_shown};
 ghost use Rattle.go_summary_core.specs.entry_core.Entries.{package_meanings};
 ghost use Rattle.go_summary_core.specs.entry_core.Outlines.{outline_shown};
@@ -12,7 +11,7 @@ use go_path_core::ImportPath;
 use go_summary_core::block_core::Blocks;
 use go_summary_core::embed_core::{check_hidden_fields, check_methods, check_struct};
 use go_summary_core::entry_core::ImportedNames;
-use go_summary_core::table_core::{TypeEntry, TypeTable};
+use go_summary_core::table_core::{FieldTable, TypeEntry, TypeTable};
 use go_summary_core::type_core::TypeFault;
 use go_term_core::decl_core::Outline;
 use go_term_core::{MemberPlace, TypeTerm};
@@ -33,15 +32,19 @@ pub struct WrittenTypes<'a, 'o> {
     pub loops: &'a [TypeFault],
 }
 
-// The type whose fields the methods of a defined type may meet.
-fn met_type<'a>(types: &'a TypeTable, entry: &'a TypeEntry) -> &'a TypeTerm
-    ensures { shape result.now ≡ met_in types.now (entry_shown entry.now) }
+// The fields that the methods of a defined type may meet.
+fn met_fields<'a>(
+    alloc: Global,
+    types: &'a TypeTable,
+    entry: &'a TypeEntry,
+) -> Result<FieldTable<'a>, AllocError>
+    ensures { IfOk result (λ fields. fields ≡ met_in types.now (entry_shown entry.now)) }
 {
     match types.locate(&entry.key) {
-        None => &entry.term,
+        None => FieldTable::of(alloc, &entry.term),
         Some(located) => match located.defined.underlying() {
-            TypeTerm::NoType => &entry.term,
-            underlying => underlying,
+            TypeTerm::NoType => FieldTable::of(alloc, &entry.term),
+            _ => located.defined.field_table(alloc),
         },
     }
 }
@@ -59,10 +62,10 @@ fn add_entry(
 {
     let found = check_struct(alloc, types, &entry.term)?;
     add_faults(faults, outlines, &found)?;
-    let met = met_type(types, entry);
-    let found = check_methods(alloc, types, path, met, &entry.methods)?;
+    let fields = met_fields(alloc, types, entry)?;
+    let found = check_methods(alloc, types, path, &fields, &entry.methods)?;
     add_faults(faults, outlines, &found)?;
-    let found = check_hidden_fields(alloc, path, met, &entry.methods)?;
+    let found = check_hidden_fields(alloc, path, &fields, &entry.methods)?;
     add_faults(faults, outlines, &found)
 }
 

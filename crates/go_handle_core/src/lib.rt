@@ -69,7 +69,7 @@ pub mod settle_core {
 /// What the crates above name of `go_table_core`.
 pub mod table_core {
     pub use go_decide_core::table_core::{
-        DeclaredMethod, DefinedType, PackageTypes, StructField, TypeEntry, TypeTable,
+        DeclaredMethod, DefinedType, FieldTable, PackageTypes, StructField, TypeEntry, TypeTable,
     };
 }
 

@@ -3,13 +3,12 @@ use Rattle.std.proofs.Common.{◌≡◌, ℕ, List, [], ◌∷◌, ◌++◌, len
 use Rattle.std.specs.Prelude.{slice_index_or}
 use Rattle.std.specs.List.{flat_map, enumerate_from}
 use Rattle.std.proofs.lemmas.List.{map-append, length-map}
-use Rattle.go_value_core.specs.decl_core.declared.keys.DeclRef.{DeclRef}
 use Rattle.go_value_core.specs.decl_core.TopDecls.{TopDeclTree}
 use Rattle.go_value_core.specs.table_core.Entries.{Entry}
 use Rattle.go_value_core.specs.written_core.Written.{InFile, Meaning}
 use Rattle.go_value_core.specs.entry_core.Outlines.{FileOutline}
 use Rattle.go_value_core.specs.entry_core.Entries.{Meanings, file_at, package_meanings}
-use Rattle.go_value_core.specs.face_core.Written.{WrittenOf, decls_of, file_written, written_of, package_written}
+use Rattle.go_value_core.specs.face_core.Written.{WrittenOf, decls_of, file_written, package_written}
 use Rattle.go_value_core.specs.inline_core.Types.{InlineOf}
 use Rattle.go_value_core.specs.Package.{PlacedOf, placed, placed_in, placed_decls}
 use Rattle.go_known_core.specs.Laws.{decl_placed, DeclsStandAlike}

@@ -1,6 +1,6 @@
 -- What the top of a file sees.
-use Rattle.std.proofs.Common.{◌≡◌, ℕ, List, [], ◌∷◌, length, map, refl, sym, ap, ◌∙◌, subst}
-use Rattle.std.specs.Prelude.{Option, Some, Contains, Result, Ok, Err, IfOk, slice_get, option_map}
+use Rattle.std.proofs.Common.{◌≡◌, ℕ, List, [], length, map, sym, ap, ◌∙◌, subst}
+use Rattle.std.specs.Prelude.{Option, Some, Result, Ok, Err, IfOk, slice_get, option_map}
 use Rattle.std.proofs.lemmas.Option.{slice_get-map}
 use Rattle.go_tree_nodes.specs.declared.decls.ValueKind.{ValueKind}
 use Rattle.go_tree_nodes.specs.Trees.{ValueSpecTree}
@@ -21,7 +21,7 @@ use Rattle.go_value_core.specs.env_core.Looks.{TheLooks, looks_in, inline_rules,
 use Rattle.go_needs_core.specs.Needs.{known_in}
 use Rattle.go_value_core.specs.Initial.{initial, initial_idents}
 use Rattle.go_value_core.specs.declared.placed.PlacedDecl.{PlacedDecl}
-use Rattle.go_value_core.specs.Package.{top_look, top_looks, first_values, idents_need, placed_shown, form_face, some_face, declared_face}
+use Rattle.go_value_core.specs.Package.{top_look, top_looks, first_values, placed_shown, form_face, some_face, declared_face}
 use Rattle.go_value_core.proofs.Seeing.{name_alike, first_at, needs_inside}
 
 abbrev seen : Scene → ℕ → List (ℕ × InlineOf) → List (Option TheFace) → ScopesModel → List Meaning → TheLooks

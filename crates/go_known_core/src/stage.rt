@@ -1,5 +1,7 @@
 //! What each declaration of a package is, by those that it needs.
 ghost use Rattle.std.specs.Prelude.{◌≡◌, [], IfOk, map};
+ghost use Rattle.std.specs.Coded.{Coded-set, coded_list};
+ghost use Rattle.go_env_core.specs.table_core.codes.EntryCodes.{coded_entry};
 ghost use Rattle.go_value_core.specs.decl_core.Shown.{form_shown};
 ghost use Rattle.go_tree_nodes.specs.Shapes.{shape_value_spec};
 ghost use Rattle.go_needs_core.specs.Needs.{known_in};
@@ -10,10 +12,10 @@ ghost use Rattle.go_value_core.specs.env_core.Scenes.{scene_shown};
 ghost use Rattle.go_value_core.specs.Initial as initial;
 ghost use Rattle.go_value_core.specs.Package as package_values;
 
+use go_env_core::{Meaning, Recall, Recalling, Scene, TypesOf, outer_names, stand};
 use go_needs_core::Needing;
 use go_tree_nodes::{ValueKind, ValueSpec};
 use go_value_core::decl_core::DeclForm;
-use go_value_core::env_core::{Meaning, Scene, outer_names, stand};
 use go_value_core::face_core::Face;
 use go_value_core::handle_core::{SignatureRef, TypeRef};
 use go_value_core::names_core::OpenNames;
@@ -22,11 +24,13 @@ use go_value_core::scope_core::Scopes;
 use go_value_core::{PlacedDecl, initial_value};
 use std::alloc::{AllocError, Global};
 
-/// What is known of a package, and its declarations.
-#[derive(Clone, Copy)]
-pub(crate) struct Stage<'n, 'p> {
+/// What is known of a package, and its declarations, with what was decided of the types of its table.
+#[derive(Drop)]
+pub(crate) struct Stage<'n, 'p, K: TypesOf> {
     pub scene: &'n Scene<'p>,
     pub decls: &'n [PlacedDecl<'p>],
+    pub recall: &'n Recall<'p, K>,
+    pub ghost same: { scene.now.types.now ≡ K.types } by { Coded-set (coded_list coded_entry) _ _ },
 }
 
 // What is written of the declaration of a position.
@@ -40,9 +44,10 @@ fn written_face<'p>(scene: &Scene<'p>, at: usize) -> Face<TypeRef<'p>, Signature
 }
 
 // What the name of a number of a specification stands for, where names mean what they mean at the top of its file.
-fn place_value<'p>(
+fn place_value<'p, K: TypesOf>(
     alloc: Global,
     scene: &Scene<'p>,
+    recall: &Recall<'p, K>,
     placed: &PlacedDecl<'p>,
     known: &[Option<Face<TypeRef<'p>, SignatureRef<'p>>>],
     names: &OpenNames<Meaning<'p>>,
@@ -50,35 +55,40 @@ fn place_value<'p>(
     spec: &ValueSpec,
     at: usize,
 ) -> Result<Option<Operand<TypeRef<'p>>>, AllocError>
+    requires table { scene.now.types.now ≡ K.types }
     requires scopes { names.now.scopes.now ≡ scopes_model (scene_shown scene.now).blocks placed.now.file [] }
     requires locals { names.now.locals.now ≡ [] }
     ensures { IfOk result (λ o. o ≡ initial.initial (package_values.top_looks (scene_shown scene.now) placed.now.file placed.now.types.now (known_in known.now)) kind (shape_value_spec spec.now) at) }
 {
     let here = stand(scene, placed.file, placed.types, known, names);
-    initial_value(&here, alloc, kind, spec, at)
+    let place = Recalling { here, recall };
+    initial_value(&place, alloc, kind, spec, at)
 }
 
 // What the name of a number of a specification is, by its initialiser.
-fn initial_face<'p>(
+fn initial_face<'p, K: TypesOf>(
     alloc: Global,
     scene: &Scene<'p>,
+    recall: &Recall<'p, K>,
     placed: &PlacedDecl<'p>,
     known: &[Option<Face<TypeRef<'p>, SignatureRef<'p>>>],
     kind: ValueKind,
     spec: &ValueSpec,
     at: usize,
 ) -> Result<Face<TypeRef<'p>, SignatureRef<'p>>, AllocError>
+    requires { scene.now.types.now ≡ K.types }
     ensures { IfOk result (λ f. f ≡ faces.«Value» (initial.initial (package_values.top_looks (scene_shown scene.now) placed.now.file placed.now.types.now (known_in known.now)) kind (shape_value_spec spec.now) at)) }
 {
     let scopes = Scopes::begin(alloc, scene.blocks, placed.file);
     let names = outer_names(scene, &scopes);
-    Ok(Face::Value(place_value(alloc, scene, placed, known, &names, kind, spec, at)?))
+    Ok(Face::Value(place_value(alloc, scene, recall, placed, known, &names, kind, spec, at)?))
 }
 
 // What a constant or a variable is: a variable with a written type is as it is written.
-fn value_face<'p>(
+fn value_face<'p, K: TypesOf>(
     alloc: Global,
     scene: &Scene<'p>,
+    recall: &Recall<'p, K>,
     placed: &PlacedDecl<'p>,
     known: &[Option<Face<TypeRef<'p>, SignatureRef<'p>>>],
     node: usize,
@@ -86,37 +96,40 @@ fn value_face<'p>(
     spec: &ValueSpec,
     at: usize,
 ) -> Result<Face<TypeRef<'p>, SignatureRef<'p>>, AllocError>
+    requires { scene.now.types.now ≡ K.types }
     ensures { IfOk result (λ f. f ≡ package_values.value_face (package_values.top_looks (scene_shown scene.now) placed.now.file placed.now.types.now (known_in known.now)) (written_at (scene_shown scene.now).written node) kind (shape_value_spec spec.now).type_expr (shape_value_spec spec.now) at) }
 {
     match kind {
-        ValueKind::Const => initial_face(alloc, scene, placed, known, kind, spec, at),
+        ValueKind::Const => initial_face(alloc, scene, recall, placed, known, kind, spec, at),
         ValueKind::Var => match &spec.type_expr {
-            None => initial_face(alloc, scene, placed, known, kind, spec, at),
+            None => initial_face(alloc, scene, recall, placed, known, kind, spec, at),
             Some(_) => Ok(written_face(scene, node)),
         },
     }
 }
 
 // What a declaration is.
-fn form_face<'p>(
+fn form_face<'p, K: TypesOf>(
     alloc: Global,
     scene: &Scene<'p>,
+    recall: &Recall<'p, K>,
     placed: &PlacedDecl<'p>,
     known: &[Option<Face<TypeRef<'p>, SignatureRef<'p>>>],
     node: usize,
 ) -> Result<Face<TypeRef<'p>, SignatureRef<'p>>, AllocError>
+    requires { scene.now.types.now ≡ K.types }
     ensures { IfOk result (λ f. f ≡ package_values.form_face (package_values.top_looks (scene_shown scene.now) placed.now.file placed.now.types.now (known_in known.now)) (written_at (scene_shown scene.now).written node) (form_shown placed.now.decl.form)) }
 {
     match placed.decl.form {
         DeclForm::Value(kind, spec, at) => {
-            value_face(alloc, scene, placed, known, node, kind, spec, at)
+            value_face(alloc, scene, recall, placed, known, node, kind, spec, at)
         }
         DeclForm::Type(_) => Ok(written_face(scene, node)),
         DeclForm::Func(_) => Ok(written_face(scene, node)),
     }
 }
 
-impl<'n, 'p> Needing for Stage<'n, 'p> {
+impl<'n, 'p, K: TypesOf> Needing for Stage<'n, 'p, K> {
     ghost use Rattle.std.specs.Prelude.{map};
     ghost use Rattle.go_value_core.specs.env_core.Scenes.{scene_shown};
     ghost use Rattle.go_value_core.specs.Package.{declared_face, package_needs, placed_shown};
@@ -138,7 +151,7 @@ impl<'n, 'p> Needing for Stage<'n, 'p> {
     ) -> Result<Face<TypeRef<'p>, SignatureRef<'p>>, AllocError> {
         match self.decls.get(node) {
             None => Ok(written_face(self.scene, node)),
-            Some(placed) => form_face(alloc, self.scene, placed, known, node),
+            Some(placed) => form_face(alloc, self.scene, self.recall, placed, known, node),
         }
     }
 }

@@ -84,7 +84,7 @@ pub mod select_core {
 
 /// What the crates above name of `go_table_core`.
 pub mod table_core {
-    pub use go_alike_core::table_core::{TypeEntry, TypeTable};
+    pub use go_alike_core::table_core::{FieldTable, TypeEntry, TypeTable};
 }
 
 /// What the crates above name of `go_type_core`.

@@ -63,7 +63,7 @@ searched_plain look (InterfaceOf path ms) h = refl
 searched_starred : (look : EntryLook) (t : Term) → term_kind_in look t ≡ kinds.Other → In t true ≡ searched look (PointerTo t)
 searched_starred look t h = sym (ap (λ k. unless_refused k (In t true)) h)
 
-operand_searched : (look : EntryLook) (t : Term) (by_pointer : Bool) → term_kind_in look t ≡ kinds.Other → In t by_pointer ≡ searched look (operand_type by_pointer t)
+pub operand_searched : (look : EntryLook) (t : Term) (by_pointer : Bool) → term_kind_in look t ≡ kinds.Other → In t by_pointer ≡ searched look (operand_type by_pointer t)
 operand_searched look t false h = searched_plain look t h
 operand_searched look t true h = searched_starred look t h
 

@@ -1,3 +1,5 @@
+pub mod Sole
+pub mod SoleShown
 pub mod Surveys
 pub mod codes
 pub mod mirrors

@@ -1,4 +1,5 @@
 -- Definitions that follow the code step by step, for its proof. No statement that a caller rests on needs them.
+pub mod Alike
 pub mod Walks
 pub mod Seen
 pub mod Told

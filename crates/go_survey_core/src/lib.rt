@@ -4,7 +4,11 @@
 #![tactic(auto)]
 
 mod names;
+mod reach;
+mod sole;
 mod survey;
 mod walk;
 
+pub use reach::breadth;
+pub use sole::{SoleField, sole_embedded};
 pub use survey::Survey;

@@ -1,15 +1,18 @@
 //! What selectors denote behind operands of one type.
+ghost use Rattle.std.specs.Bool.{OnTrue};
 ghost use Rattle.std.specs.Prelude.{◌≡◌, length, if◌then◌else◌, IfOk, IfSome};
 ghost use Rattle.go_term_core.specs.Terms.{PointerTo};
 ghost use Rattle.go_term_core.specs.Shapes.{shape};
 ghost use Rattle.go_level_core.specs.table_core.Entries.{find_entry};
 ghost use Rattle.go_level_core.specs.Selectors.{IsSelectorAnswer, term_kind_in};
 ghost use Rattle.go_select_core.specs.mirrors.Listings.{IsWithin};
+ghost use Rattle.go_survey_core.specs.Sole.{HasSameAnswers};
 ghost use Rattle.go_survey_core.specs.Surveys.{survey_of};
 ghost use Rattle.go_survey_core.specs.mirrors.Seen.{has_word};
 ghost use Rattle.go_survey_core.specs.mirrors.Told.{IsReached, operand_type};
 
 use crate::names::{hidden_in, known_from};
+use crate::sole::is_alike;
 use crate::walk::walk_from;
 use go_level_core::path_core::ImportPath;
 use go_level_core::settle_core::{Kind, kind_of};
@@ -161,6 +164,15 @@ impl<'a> Survey<'a> {
         ensures { result.now ≡ self.now.from }
     {
         self.from
+    }
+
+    /// Whether the survey tells of a name what it denotes behind operands of a type too, and of pointers to it. It is so of the survey's type,
+    /// and of one that embeds the same type, where each embeds it by its only embedded field, at the same place, and has itself no member that
+    /// is spelled so; the types that they embed may be two of which this holds, up to eight of them one behind the other. It takes no memory.
+    pub fn tells(&self, term: &TypeTerm, name: &str) -> bool
+        ensures { OnTrue result (HasSameAnswers (find_entry self.now.entries) self.now.term (shape term.now) name.now self.now.from) }
+    {
+        is_alike(self.table, self.term, term, name, self.from)
     }
 
     // What the selector `x.name` denotes for an operand `x` of the type or, where it is so said, of a pointer to it. Errors: as of `select`.

@@ -4,6 +4,7 @@ pub mod Searching
 pub mod Adding
 pub mod Placing
 pub mod Spelled
+pub mod Ordering
 pub mod Underlying
 pub mod Listing
 pub mod Meanings

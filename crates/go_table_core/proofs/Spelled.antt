@@ -52,12 +52,12 @@ or_right false b h = h
 abbrev Before : Spot → Spot → Type 0
 Before a b = (a.file < b.file) ⊎ ((a.file ≡ b.file) × (a.at < b.at))
 
-before_decides : (a b : Spot) → Decides (spot_before a b) (Before a b)
+pub before_decides : (a b : Spot) → Decides (spot_before a b) (Before a b)
 before_decides a b =
     Decides-or (nat_lt a.file b.file) (nat_eq a.file b.file && nat_lt a.at b.at) (Decides-ltb a.file b.file)
     (Decides-and (nat_eq a.file b.file) (nat_lt a.at b.at) (Decides-eqb a.file b.file) (Decides-ltb a.at b.at))
 
-before_trans : (a b c : Spot) → Before a b → Before b c → Before a c
+pub before_trans : (a b c : Spot) → Before a b → Before b c → Before a c
 before_trans a b c (inl x) (inl y) = inl (omega arith)
 before_trans a b c (inl x) (inr y) = inl (omega arith)
 before_trans a b c (inr x) (inl y) = inl (omega arith)
@@ -110,7 +110,7 @@ with_before e (places.Declared a) (places.Local b) = or_false (some_before e.loc
 with_before e (places.Local a) (places.Declared b) = or_false (some_before e.declared (spot b.file b.number))
 with_before e (places.Local a) (places.Local b) = earlier_before e.local (spot a.file a.offset) (spot b.file b.offset)
 
-none_before : (q : MemberPlace) → earliest_before (earliest None None) q ≡ false
+pub none_before : (q : MemberPlace) → earliest_before (earliest None None) q ≡ false
 none_before (places.Declared d) = refl
 none_before (places.Local p) = refl
 
@@ -237,6 +237,12 @@ no_struct path (PointerTo t) m h = refl
 no_struct path (StructOf home fs) m h = absurd (let no : Some home ≡ None = h in cc)
 no_struct path (InterfaceOf home ms) m h = refl
 
+pub not_before : (fs : Fields) (name : List ℕ) (q : MemberPlace) → field_spelled fs name ≡ false → named_before fs name q ≡ false
+not_before NoField name q h = refl
+not_before (AField n place embedded t tag fs) name q h =
+    ap (λ b. (b && is_before place q) || named_before fs name q) (or_left (bytes_eq name n) (field_spelled fs name) h)
+    ∙ not_before fs name q (or_right (bytes_eq name n) (field_spelled fs name) h)
+
 -- no field is spelled as the method
 pub none_before_method : (path : List ℕ) (t : Term) (m : Member) → field_spelled (term_fields t) m.name ≡ false → false ≡ has_field_before path t m
 none_before_method path NoType m h = refl
@@ -246,14 +252,8 @@ none_before_method path (Defined k) m h = refl
 none_before_method path (PointerTo t) m h = refl
 none_before_method path (StructOf home fs) m h = sym (fields_before path home fs m ∙ by (bytes_eq home path))
   where
-    none : (fs : Fields) → field_spelled fs m.name ≡ false → named_before fs m.name m.place ≡ false
-    none NoField h = refl
-    none (AField n place embedded t tag fs) h =
-        ap (λ b. (b && is_before place m.place) || named_before fs m.name m.place) (or_left (bytes_eq m.name n) (field_spelled fs m.name) h)
-        ∙ none fs (or_right (bytes_eq m.name n) (field_spelled fs m.name) h)
-
     by : (s : Bool) → (if s then named_before fs m.name m.place else field_spelled fs m.name && exported (chars m.name)) ≡ false
-    by true = none fs h
+    by true = not_before fs m.name m.place h
     by false = ap (λ b. b && exported (chars m.name)) h
 none_before_method path (InterfaceOf home ms) m h = refl
 
@@ -305,22 +305,15 @@ spells_nothing fs = refl
 
 -- what a table of names answers of a method
 
-pub earlier_field : (ps : List (List ℕ × Earliest)) (t : Term) (path home : List ℕ) (m : Member) (first : Earliest) → HasPlaces ps (term_fields t) → found_places ps m.name ≡ Some first → struct_path t ≡ Some home → home ≡ path → earliest_before first m.place ≡ has_field_before path t m
-earlier_field ps t path home m first has found is same =
-    ap (λ o. found_before o m.place) (sym found)
-    ∙ (has.before m.name m.place ∙ sym (before_method path home t m true is (bytes_same home path same)))
+pub earlier_field : (t : Term) (path home : List ℕ) (m : Member) → struct_path t ≡ Some home → home ≡ path → named_before (term_fields t) m.name m.place ≡ has_field_before path t m
+earlier_field t path home m is same = sym (before_method path home t m true is (bytes_same home path same))
 
-pub foreign_field : (ps : List (List ℕ × Earliest)) (t : Term) (path home : List ℕ) (m : Member) (first : Earliest) → HasPlaces ps (term_fields t) → found_places ps m.name ≡ Some first → struct_path t ≡ Some home → (home ≡ path → ⊥) → exported (chars m.name) ≡ has_field_before path t m
-foreign_field ps t path home m first has found is apart =
-    let spelled : field_spelled (term_fields t) m.name ≡ true = sym (has.spelled m.name) ∙ ap is_some found in
-    sym (before_method path home t m false is (differ (bytes_eq home path) refl) ∙ ap (λ b. b && exported (chars m.name)) spelled)
+pub foreign_field : (t : Term) (path home : List ℕ) (m : Member) → struct_path t ≡ Some home → (home ≡ path → ⊥) → field_spelled (term_fields t) m.name && exported (chars m.name) ≡ has_field_before path t m
+foreign_field t path home m is apart = sym (before_method path home t m false is (differ (bytes_eq home path) refl))
   where
     differ : (b : Bool) → bytes_eq home path ≡ b → bytes_eq home path ≡ false
     differ true e = absurd (apart (same_bytes home path e))
     differ false e = e
-
-pub nameless_field : (ps : List (List ℕ × Earliest)) (t : Term) (path : List ℕ) (m : Member) → HasPlaces ps (term_fields t) → found_places ps m.name ≡ None → false ≡ has_field_before path t m
-nameless_field ps t path m has found = none_before_method path t m (sym (has.spelled m.name) ∙ ap is_some found)
 
 -- a loop over methods
 

@@ -100,18 +100,18 @@ impl Model for DefinedType {
     ghost invariant = { λ d. IsDefined d.hides d.spellings (defined_shown d.key d.name d.underlying d.methods) };
 }
 
-/// Whether a field of a struct type is spelled as one of these methods. Time grows with fields and methods.
+/// Whether a field of a struct type is spelled as one of these methods. It takes expected time that is linear in the methods.
 fn spells_one_of(
     alloc: Global,
-    term: &TypeTerm,
+    underlying: &IndexedTerm,
     methods: &[DeclaredMethod],
 ) -> Result<bool, AllocError>
-    ensures { IfOk result (λ spells. spells ≡ spells_some (map member_shown methods.now) (term_fields (shape term.now))) }
+    ensures { IfOk result (λ spells. spells ≡ spells_some (map member_shown methods.now) (term_fields underlying.now)) }
 {
     if methods.is_empty() {
         return Ok(false);
     }
-    let fields = FieldTable::of(alloc, term)?;
+    let fields = underlying.field_table(alloc)?;
     for method in methods {
         if fields.has_spelled(method.name.as_str()) {
             return Ok(true);
@@ -135,7 +135,7 @@ impl DefinedType {
     ) -> Result<DefinedType, AllocError>
         ensures { IfOk result (λ d. d ≡ record { key = key; name = name; term = arc_value underlying; methods = map member_shown methods.items }) }
     {
-        let hides = spells_one_of(alloc, underlying.term(), methods.as_slice())?;
+        let hides = spells_one_of(alloc, &underlying, methods.as_slice())?;
         let spellings = method_index(alloc, methods.as_slice())?;
         Ok(DefinedType {
             key,
@@ -166,6 +166,17 @@ impl DefinedType {
         ensures { shape result.now ≡ self.now.term }
     {
         self.underlying.term()
+    }
+
+    /// The fields of its underlying type. It takes constant time where they are many and in order.
+    ///
+    /// # Errors
+    ///
+    /// `AllocError` where memory is wanting.
+    pub fn field_table(&self, alloc: Global) -> Result<FieldTable<'_>, AllocError>
+        ensures { IfOk result (λ table. table ≡ self.now.term) }
+    {
+        self.underlying.field_table(alloc)
     }
 
     /// Its underlying type once more, to be shared with another defined type. It takes no memory.

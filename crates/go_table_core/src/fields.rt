@@ -1,11 +1,14 @@
 //! The fields of a struct type by their names.
-ghost use Rattle.std.specs.Prelude.{◌≡◌, IfOk, OnOk, option_map, [], ◌<◌};
-ghost use Rattle.go_term_core.specs.Shapes.{shape, shape_found, fields_in, line_at, line_shapes};
+ghost use Rattle.std.specs.Prelude.{◌≡◌, ◌<◌, [], IfOk, List, None, OnOk, option_map};
+ghost use Rattle.go_term_core.specs.Shapes.{Line, shape, shape_found, fields_in, line_at, line_shapes};
 ghost use Rattle.go_table_core.specs.Shown.{line_shown, member_shown};
-ghost use Rattle.go_table_core.specs.Methods.{has_field_before, field_spelled, term_fields};
-ghost use Rattle.go_table_core.specs.mirrors.Spots.{spot_before, earlier_of, earliest_with, earliest_before, named_places, struct_path, HasPlaces, AddsField};
+ghost use Rattle.go_table_core.specs.Methods.{has_field_before, field_spelled, is_before, term_fields};
+ghost use Rattle.go_index_core.specs.Spelled.{places_of};
+ghost use Rattle.go_table_core.specs.mirrors.Ordered.{has_order, is_after, spelled_before, IsFieldIndex};
+ghost use Rattle.go_table_core.specs.mirrors.Spots.{spot_before, earlier_of, earliest_with, earliest_before, found_before, found_places, named_before, named_places, struct_path, HasPlaces, AddsField};
 
 use crate::entry::DeclaredMethod;
+use go_index_core::{Spelling, Spellings};
 use go_settle_core::path_core::ImportPath;
 use go_settle_core::text_core::is_exported;
 use go_term_core::{Field, FieldLine, MemberPlace, TypeTerm};
@@ -27,10 +30,27 @@ struct Earliest {
     local: Option<Spot>,
 }
 
+/// What fields are found by.
+enum FieldPlaces<'a> {
+    /// The earliest places of each name.
+    Made(HashMap<&'a str, Earliest>),
+    /// Where each name stands among the fields, which stand in order of their places.
+    Indexed(&'a Spellings),
+}
+
+impl Drop for FieldPlaces<'_> {
+    fn drop(self) {
+        match self {
+            FieldPlaces::Made(_) => {}
+            FieldPlaces::Indexed(_) => {}
+        }
+    }
+}
+
 /// The fields of a struct type by their names; of any other type it has none. Contracts see the type.
 pub struct FieldTable<'a> {
     underlying: &'a TypeTerm,
-    places: HashMap<&'a str, Earliest>,
+    places: FieldPlaces<'a>,
 }
 
 impl Drop for FieldTable<'_> {
@@ -47,7 +67,7 @@ impl<'a> Model for FieldTable<'a> {
     ghost use Rattle.go_term_core.specs.codes.TermCodes.{coded_term};
     ghost use Rattle.go_term_core.specs.Shapes.{shape};
     ghost use Rattle.go_table_core.specs.Methods.{term_fields};
-    ghost use Rattle.go_table_core.specs.mirrors.Spots.{named_places, HasPlaces};
+    ghost use Rattle.go_table_core.specs.mirrors.Ordered.{FindsFields};
 
     ghost Value = { Term };
 
@@ -55,7 +75,7 @@ impl<'a> Model for FieldTable<'a> {
 
     ghost view = { λ t. shape t.underlying.now };
 
-    ghost invariant = { λ t. HasPlaces (named_places t.places) (term_fields (shape t.underlying.now)) };
+    ghost invariant = { λ t. FindsFields t.places (term_fields (shape t.underlying.now)) };
 }
 
 impl Spot {
@@ -251,6 +271,78 @@ fn places_of<'a>(
     Ok(places)
 }
 
+/// Whether a place stands before another of its package: by file, then by place there.
+fn is_before(one: MemberPlace, other: MemberPlace) -> bool
+    ensures { result ≡ is_before one other }
+{
+    match one {
+        MemberPlace::Declared(a) => match other {
+            MemberPlace::Declared(b) => {
+                a.file < b.file || (a.file == b.file && a.number < b.number)
+            }
+            MemberPlace::Local(_) => false,
+        },
+        MemberPlace::Local(a) => match other {
+            MemberPlace::Declared(_) => false,
+            MemberPlace::Local(b) => a.file < b.file || (a.file == b.file && a.offset < b.offset),
+        },
+    }
+}
+
+/// Whether a place stands behind the one that may be given.
+fn is_after(last: Option<MemberPlace>, place: MemberPlace) -> bool
+    ensures { result ≡ is_after last place }
+{
+    match last {
+        Some(last) => is_before(last, place),
+        None => true,
+    }
+}
+
+/// Whether fields stand in order of their places.
+fn stand_in_order(fields: &[Field]) -> bool
+    ensures { (ls : List Line) → result ≡ has_order None (fields_in ls fields.now) }
+{
+    let mut last = None;
+    for field in fields {
+        if !is_after(last, field.place) {
+            return false;
+        }
+        last = Some(field.place);
+    }
+    true
+}
+
+/// Whether the fields of a struct type stand in order of their places. It takes time that is linear in them.
+pub(crate) fn has_order(term: &TypeTerm) -> bool
+    ensures { result ≡ has_order None (term_fields (shape term.now)) }
+{
+    stand_in_order(term_fields(term).fields)
+}
+
+/// Whether the first of the fields of a name stands before a place, by where the name stands among the fields.
+fn first_is_before(fields: &[Field], spelling: Option<Spelling>, place: MemberPlace) -> bool
+    ensures { (ls : List Line) → result ≡ spelled_before (fields_in ls fields.now) spelling place }
+{
+    let Some(spelling) = spelling else {
+        return false;
+    };
+    match fields.get(spelling.first) {
+        Some(field) => is_before(field.place, place),
+        None => false,
+    }
+}
+
+/// Whether the earliest place of a name stands before a place.
+fn earliest_is_before(places: &HashMap<&str, Earliest>, name: &str, place: MemberPlace) -> bool
+    ensures { result ≡ found_before (found_places (named_places places.now) name.now) place }
+{
+    match places.get(name) {
+        Some(first) => first.is_before(place),
+        None => false,
+    }
+}
+
 impl<'a> FieldTable<'a> {
     /// The fields of an underlying type. Time grows with the number of fields.
     ///
@@ -260,15 +352,48 @@ impl<'a> FieldTable<'a> {
     pub fn of(alloc: Global, underlying: &'a TypeTerm) -> Result<FieldTable<'a>, AllocError>
         ensures { IfOk result (λ table. table ≡ shape underlying.now) }
     {
-        let places = places_of(alloc, term_fields(underlying))?;
+        let places = FieldPlaces::Made(places_of(alloc, term_fields(underlying))?);
         Ok(FieldTable { underlying, places })
+    }
+
+    /// The fields of an underlying type by an index of their names, which is lent. It takes constant time and no memory.
+    pub(crate) fn over(underlying: &'a TypeTerm, index: &'a Spellings) -> FieldTable<'a>
+        requires { IsFieldIndex (places_of index.now) (term_fields (shape underlying.now)) }
+        ensures { result ≡ shape underlying.now }
+    {
+        FieldTable {
+            underlying,
+            places: FieldPlaces::Indexed(index),
+        }
+    }
+
+    /// The type whose fields they are.
+    pub fn underlying(&self) -> &'a TypeTerm
+        ensures { shape result.now ≡ self.now }
+    {
+        self.underlying
     }
 
     /// Whether a field is spelled so, be it of the same package or not. It takes constant expected time and no memory.
     pub fn has_spelled(&self, name: &str) -> bool
         ensures { result ≡ field_spelled (term_fields self.now) name.now }
     {
-        self.places.contains_key(name)
+        match &self.places {
+            FieldPlaces::Made(places) => places.contains_key(name),
+            FieldPlaces::Indexed(index) => index.find(name).is_some(),
+        }
+    }
+
+    /// Whether a field that is spelled so stands before a place.
+    fn has_before(&self, name: &str, place: MemberPlace) -> bool
+        ensures { result ≡ named_before (term_fields self.now) name.now place }
+    {
+        match &self.places {
+            FieldPlaces::Made(places) => earliest_is_before(places, name, place),
+            FieldPlaces::Indexed(index) => {
+                first_is_before(term_fields(self.underlying).fields, index.find(name), place)
+            }
+        }
     }
 
     /// Whether a field comes before a method of a package that has its identifier: it stands before it, or in another package. Then the
@@ -278,17 +403,14 @@ impl<'a> FieldTable<'a> {
         ensures { result ≡ has_field_before path.now self.now (member_shown method.now) }
     {
         let name = method.name.as_str();
-        match self.places.get(name) {
-            Some(first) => match home_of(self.underlying) {
-                Some(home) => {
-                    if home.is_same(path) {
-                        first.is_before(method.place)
-                    } else {
-                        is_exported(name)
-                    }
+        match home_of(self.underlying) {
+            Some(home) => {
+                if home.is_same(path) {
+                    self.has_before(name, method.place)
+                } else {
+                    self.has_spelled(name) && is_exported(name)
                 }
-                None => false,
-            },
+            }
             None => false,
         }
     }

@@ -3,8 +3,11 @@ ghost use Rattle.std.specs.Prelude.{◌≡◌, IfOk, IfSome, map};
 ghost use Rattle.go_term_core.specs.Shapes.{shape};
 ghost use Rattle.go_index_core.specs.Spelled.{AreSpelled, places_of};
 ghost use Rattle.go_table_core.specs.MemberNames.{term_names};
+ghost use Rattle.go_table_core.specs.Methods.{term_fields};
+ghost use Rattle.go_table_core.specs.mirrors.Ordered.{IsFieldIndex};
 
 use crate::entry::DeclaredMethod;
+use crate::fields::{FieldTable, has_order};
 use go_index_core::Spellings;
 use go_settle_core::text_core::add;
 use go_term_core::{Field, Method, TypeTerm};
@@ -19,6 +22,8 @@ const INDEX_FROM: usize = 12;
 pub struct IndexedTerm {
     term: TypeTerm,
     members: Option<Spellings>,
+    /// Whether its fields stand in order of their places, as those of one declaration do.
+    in_order: bool,
 }
 
 impl Drop for IndexedTerm {
@@ -26,17 +31,16 @@ impl Drop for IndexedTerm {
         let IndexedTerm {
             term: _,
             members: _,
+            in_order: _,
         } = self;
     }
 }
 
 impl Model for IndexedTerm {
-    ghost use Rattle.std.specs.Prelude.{IfSome};
     ghost use Rattle.go_term_core.specs.Terms.{Term};
     ghost use Rattle.go_term_core.specs.codes.TermCodes.{coded_term};
     ghost use Rattle.go_term_core.specs.Shapes.{shape};
-    ghost use Rattle.go_index_core.specs.Spelled.{AreSpelled, places_of};
-    ghost use Rattle.go_table_core.specs.MemberNames.{term_names};
+    ghost use Rattle.go_table_core.specs.mirrors.Kept.{IsIndexed};
 
     ghost Value = { Term };
 
@@ -44,7 +48,7 @@ impl Model for IndexedTerm {
 
     ghost view = { λ t. shape t.term };
 
-    ghost invariant = { λ t. IfSome t.members (λ s. AreSpelled (places_of s) (term_names (shape t.term))) };
+    ghost invariant = { λ t. IsIndexed t.members t.in_order (shape t.term) };
 }
 
 // The names of fields.
@@ -147,7 +151,12 @@ impl IndexedTerm {
         ensures { IfOk result (λ t. t ≡ shape term) }
     {
         let members = term_index(alloc, &term)?;
-        Ok(IndexedTerm { term, members })
+        let in_order = has_order(&term);
+        Ok(IndexedTerm {
+            term,
+            members,
+            in_order,
+        })
     }
 
     /// The type.
@@ -164,6 +173,39 @@ impl IndexedTerm {
         match &self.members {
             Some(members) => Some(members),
             None => None,
+        }
+    }
+
+    // Where the names of the fields of a struct type stand among them, where they are many and stand in order.
+    fn fields(&self) -> Option<&Spellings>
+        ensures { IfSome result (λ s. IsFieldIndex (places_of s.now) (term_fields self.now)) }
+    {
+        if !self.in_order {
+            return None;
+        }
+        match &self.term {
+            TypeTerm::Struct(_, _, _) => self.members(),
+            TypeTerm::NoType
+            | TypeTerm::Basic(_)
+            | TypeTerm::Error
+            | TypeTerm::Defined(_)
+            | TypeTerm::Pointer(_)
+            | TypeTerm::Interface(_, _) => None,
+        }
+    }
+
+    /// The fields of the type. It takes constant time where they are many and stand in order of their places, as those of one declaration
+    /// do; else it grows with their number.
+    ///
+    /// # Errors
+    ///
+    /// `AllocError` where memory is wanting.
+    pub fn field_table(&self, alloc: Global) -> Result<FieldTable<'_>, AllocError>
+        ensures { IfOk result (λ table. table ≡ self.now) }
+    {
+        match self.fields() {
+            Some(index) => Ok(FieldTable::over(&self.term, index)),
+            None => FieldTable::of(alloc, &self.term),
         }
     }
 }

@@ -3,14 +3,12 @@ ghost use Rattle.std.specs.Prelude.{◌≡◌, [], ℕ, List, IfOk, map, not};
 ghost use Rattle.go_table_core.specs.settle_core.Settled.{is_among_names, kind_of_term};
 ghost use Rattle.go_table_core.specs.Methods.{has_field_before};
 ghost use Rattle.go_table_core.specs.Shown.{member_shown};
-ghost use Rattle.go_term_core.specs.Shapes.{shape};
 ghost use Rattle.go_type_core.specs.Built.{unrepeated_methods, kept_over, settled_member};
 ghost use Rattle.go_type_core.specs.mirrors.Making.{is_left_out, seen_after};
 
 use go_table_core::path_core::ImportPath;
 use go_table_core::settle_core::{Kind, Kinds, SeenNames, kind_of, settle_signature};
-use go_table_core::{DeclaredMethod, FieldTable};
-use go_term_core::TypeTerm;
+use go_table_core::{DeclaredMethod, FieldTable, IndexedTerm};
 use go_term_core::text_core::is_blank;
 use std::alloc::{AllocError, Global};
 
@@ -76,20 +74,20 @@ pub(crate) fn kept_methods<K: Kinds>(
     alloc: Global,
     kinds: &K,
     path: &ImportPath,
-    underlying: &TypeTerm,
+    underlying: &IndexedTerm,
     methods: &[DeclaredMethod],
 ) -> Result<Vec<DeclaredMethod>, AllocError>
-    ensures { IfOk result (λ own. map member_shown own.items ≡ kept_over (kind_of_term (shape underlying.now)) (K.kinds kinds.now) path.now (shape underlying.now) (map member_shown methods.now)) }
+    ensures { IfOk result (λ own. map member_shown own.items ≡ kept_over (kind_of_term underlying.now) (K.kinds kinds.now) path.now underlying.now (map member_shown methods.now)) }
 {
-    match kind_of(underlying) {
+    match kind_of(underlying.term()) {
         Kind::Pointer => Ok(Vec::new(alloc)),
         Kind::Interface => Ok(Vec::new(alloc)),
         Kind::Nothing => {
-            let fields = FieldTable::of(alloc, underlying)?;
+            let fields = underlying.field_table(alloc)?;
             own_methods(alloc, kinds, path, &fields, methods)
         }
         Kind::Other => {
-            let fields = FieldTable::of(alloc, underlying)?;
+            let fields = underlying.field_table(alloc)?;
             own_methods(alloc, kinds, path, &fields, methods)
         }
     }

@@ -165,7 +165,7 @@ fn defined_type(
         alloc,
         &plan.kinds,
         &entry.key.path,
-        underlying.term(),
+        &underlying,
         &entry.methods,
     )?;
     let name = entry.name.copy(alloc)?;

@@ -1,5 +1,5 @@
 -- The faults of one member, beside those of its type, behind members of the names that were passed.
-use Rattle.std.specs.Prelude.{◌≡◌, ℕ, not, ◌&&◌, ◌||◌, List, ◌∷◌, ◌++◌, if◌then◌else◌}
+use Rattle.std.specs.Prelude.{◌≡◌, ℕ, Bool, false, not, ◌&&◌, ◌||◌, List, [], ◌∷◌, ◌++◌, if◌then◌else◌}
 use Rattle.go_term_core.specs.text_core.Text.{is_blank}
 use Rattle.go_term_core.specs.text_core.declared.rule.Rule.TheVariants as rules
 use Rattle.go_type_core.specs.decl_core.declared.keys.DeclKey.{DeclKey}
@@ -11,7 +11,7 @@ use Rattle.go_type_core.specs.settle_core.declared.kind.Kind.{Kind}
 use Rattle.go_type_core.specs.settle_core.Settled.{can_be_embedded, is_among_names, repeats_earlier}
 use Rattle.go_type_core.specs.table_core.declared.entry.DeclaredMethod.{DeclaredMethod}
 use Rattle.go_type_core.specs.table_core.Entries.{Member}
-use Rattle.go_type_core.specs.table_core.Methods.{has_field_before}
+use Rattle.go_type_core.specs.table_core.Methods.{field_spelled, has_field_before, term_fields}
 use Rattle.go_type_core.specs.table_core.Shown.{member_shown}
 use Rattle.go_embed_core.specs.declared.faults.MemberFault.{MemberFault}
 use Rattle.go_embed_core.specs.Faults.{member_fault_if, is_left_out}
@@ -32,3 +32,11 @@ method_own seen m = member_fault_if (is_blank m.name || is_among_names seen m.na
 
 abbrev pub declared_own : List ℕ → Term → List (List ℕ) → DeclaredMethod → List MemberFault
 declared_own path u seen m = member_fault_if (not (is_blank m.name) && (is_among_names seen m.name || has_field_before path u (member_shown m))) m.place rules.B5
+
+-- a method is a type's own and spelled as one of its fields
+abbrev pub is_hiding : List ℕ → Term → Member → Bool
+is_hiding path u m = field_spelled (term_fields u) m.name && not (is_left_out path u m)
+
+abbrev pub is_one_hiding : List ℕ → Term → List Member → Bool
+is_one_hiding path u [] = false
+is_one_hiding path u (m ∷ ms) = is_hiding path u m || is_one_hiding path u ms

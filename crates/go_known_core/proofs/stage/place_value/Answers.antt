@@ -1,10 +1,10 @@
-use Rattle.std.proofs.Common.{◌≡◌, ap, ◌∙◌}
+use Rattle.std.proofs.Common.{ap, ◌∙◌}
 use Rattle.go_tree_nodes.specs.Shapes.{shape_value_spec}
 use Rattle.go_known_core.proofs.Standing.{stands_ok}
 use Rattle.go_known_core.proofs.stage.place_value.Goals as goal
 
 pub returns : goal.returns
-returns c =
+returns g c =
     let h = c.stand-here.result in
     let p = c.args.placed.now in
     stands_ok h c.args.scene.now p.file p.types.now c.args.known.now c.args.kind (shape_value_spec c.args.spec.now) c.args.at c.initial_value.result

@@ -1,4 +1,4 @@
-use Rattle.std.proofs.Common.{true, false, sym, ◌∙◌}
+use Rattle.std.proofs.Common.{true, sym, ◌∙◌}
 use Rattle.std.proofs.lemmas.Bool.{true≢false}
 use Rattle.go_term_core.specs.Shapes.{shape}
 use Rattle.go_table_core.proofs.Underlying.{found_same, found_met}

@@ -6,7 +6,7 @@ use Rattle.go_known_core.proofs.Standing.{declared}
 use Rattle.go_known_core.proofs.stage.StageNeeding.value_of.Goals as goal
 
 pub returns-in-Some : goal.returns-in-Some
-returns-in-Some c =
+returns-in-Some g c =
     let s = c.args.self.now in
     let p = c.in-Some.placed.now in
     let read = slice_get_read s.decls.now (length s.decls.now) c.args.node p refl c.in-Some.ensures.lookup.3.0 c.in-Some.ensures.lookup.1 in

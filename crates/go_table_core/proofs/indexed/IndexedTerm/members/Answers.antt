@@ -9,5 +9,5 @@ use Rattle.go_table_core.proofs.indexed.IndexedTerm.members.Goals as goal
 pub returns-in-Some : goal.returns-in-Some
 returns-in-Some c =
     let are : AreSpelled (places_of c.in-Some.members) (term_names (shape c.self.inside.term)) =
-    subst (λ (o : Option Spellings). IfSome o (λ s. AreSpelled (places_of s) (term_names (shape c.self.inside.term)))) c.in-Some.is c.self.invariant in
+    subst (λ (o : Option Spellings). IfSome o (λ s. AreSpelled (places_of s) (term_names (shape c.self.inside.term)))) c.in-Some.is c.self.invariant.spelled in
     subst (λ t. AreSpelled (places_of c.in-Some.members) (term_names t)) c.self.view_is are
