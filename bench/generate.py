@@ -409,6 +409,7 @@ class Whole:
         methods = "".join(f"\t{self.name()}{self.signature()}\n" for _ in range(self.numbers.below(5)))
         return self.numbers.pick([
             f"type Type{self.number} {self.type_expr()}",
+            f"type Type{self.number} = {self.type_name()}",
             f"type Type{self.number} struct {{\n{fields}}}",
             f"type Type{self.number} interface {{\n{methods}}}",
             f"type (\n\tType{self.number} {self.type_expr()}\n\tOther{self.number} {self.type_expr()}\n)",

@@ -512,4 +512,5 @@ def main():
     return 0 if all(passed) or args.beyond else 1
 
 
-sys.exit(main())
+if __name__ == "__main__":
+    sys.exit(main())

@@ -270,12 +270,13 @@ class Base:
             proved, running = {it for it, of in self.proved.items() if now.get(it) == of}, {*self.running}
         behind, left = self.behind(there), [it for it in there.values() if it.name not in proved]
         fails = lambda it: self.failed.get(it.name) == now[it.name]
-        held = (rtlib.text_of(f"{LOGS}/held") or "").split()
+        held = (rtlib.text_of(f"{LOGS}/{os.environ.get('BASE_HELD', 'held')}") or "").split()
         ready = [it for it in left if it.name not in running and it.name not in held and not fails(it) and all(dep.name in proved for dep in it.below())]
         most = max([behind[it.name] for it in left if not fails(it)], default=0)
-        for crate in sorted(ready, key=lambda it: -behind[it.name])[: max(self.lanes - len(running), 0)]:
+        lanes = int(rtlib.text_of(f"{LOGS}/lanes") or self.lanes)
+        for crate in sorted(ready, key=lambda it: -behind[it.name])[: max(lanes - len(running), 0)]:
             is_first = behind[crate.name] >= 0.95 * most
-            given = crate, now[crate.name], 3 if is_first and self.took.get(crate.name, 0) > 120 else 1, -16 if is_first else -8
+            given = crate, now[crate.name], 3 if is_first and self.took.get(crate.name, 0) > 40 else 1, -16 if is_first else -8
             self.running[crate.name] = now[crate.name]
             threading.Thread(target=self.prove, args=given, daemon=True).start()
             print(f"{time.strftime('%H:%M:%S')} {crate.name} begins", flush=True)

@@ -1,5 +1,5 @@
 """Programs over `int` and `bool` for runs.py: of several packages with `init` functions, loops, recursion, methods, overflow, division, panics, short
-circuits and shadowing. Each is one that Go builds. A number gives the same program each time."""
+circuits, shadowing and aliases. Each is one that Go builds. A number gives the same program each time."""
 import random
 import re
 
@@ -7,6 +7,8 @@ NAMES = ["a", "b", "c", "d", "x", "y", "z"]
 NUMBERS = [0, 1, 2, 3, 5, 7, 10, 64, 255, 1_000_003, 4_611_686_018_427_387_904, 9_223_372_036_854_775_807]
 DIVISORS = [1, 2, 3, 7, 10, -1, -2, -5, 1_000_003, 9_223_372_036_854_775_807]
 INT, BOOL = "int", "bool"
+# What each package declares for these.
+ALIASES = {INT: ["Whole", "number"], BOOL: ["flag"]}
 
 
 class Type:
@@ -50,9 +52,12 @@ class Body:
     # Expressions: each is a text, and whether it is constant.
 
     def spelled(self, type_):
+        """The name of a type, or that of an alias of it."""
+        is_alias = self.program.aliases.random() < 0.4
         if not isinstance(type_, Type):
-            return type_
-        return type_.name if type_.package == self.package else f"p{type_.package}.{type_.name}"
+            return self.program.aliases.choice(ALIASES[type_]) if is_alias else type_
+        name = f"A{type_.name}" if is_alias else type_.name
+        return name if type_.package == self.package else f"p{type_.package}.{name}"
 
     def constant(self, type_):
         if under(type_) == BOOL:
@@ -298,6 +303,7 @@ class Body:
 class Program:
     def __init__(self, number, with_inits=True):
         self.random = random.Random(number * 7919 + 11)
+        self.aliases = random.Random(number * 31 + 7)
         self.types, self.functions, self.with_inits = [], [], with_inits
         self.count = self.random.randrange(1, 5)
         # The last package is `main`; each imports some of those before it.
@@ -325,11 +331,11 @@ class Program:
 
     def package(self, package):
         is_last = package == self.count - 1
-        pieces = []
+        pieces = ["type number = Whole\n", "type (\n\tflag = bool\n\tWhole = int\n)\n"]
         for number in range(self.random.randrange(3)):
             of = Type(package, f"T{number}", self.random.choice([INT, INT, BOOL]))
             self.types.append(of)
-            pieces.append(f"type {of.name} {of.under}\n")
+            pieces += [f"type {of.name} {of.under}\n", f"type A{of.name} = {of.name}\n"]
         for number in range(self.random.randrange(1, 5)):
             function = self.new_function(package, number)
             body = Body(self, package, function)

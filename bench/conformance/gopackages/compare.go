@@ -285,7 +285,7 @@ func (t *tally) compareOwn(a *answer, isAbove bool, inPackage func(place) bool, 
 	sort.Strings(rules)
 	switch {
 	case len(rules) == 0:
-	case isAbove && isOnly(rules, "Y7 S4 C1"):
+	case isAbove && isOnly(rules, "Y7 S4 C1 F8"):
 		t.named("a name of another package that has no type since it is refused there: "+strings.Join(rules, " "), where(at))
 	case has(rules, "X1") || has(rules, "N7") || has(rules, "C3"):
 		t.named("a changed package that go/types accepts is refused by "+strings.Join(rules, " "), where(at))
@@ -454,6 +454,10 @@ func (t *tally) compareFirst(j *judgement, first *oddity, a *answer, inPackage f
 			return
 		}
 	}
+	if first.code == "DivByZero" && a.isRefusedBy("X1", inPackage) {
+		t.named("a division by a constant that has no value where X1 refuses it", file+" "+first.at.String())
+		return
+	}
 	if j.isAboveRefused(path.Dir(first.at.file)) {
 		t.named("an error of go/types that follows from what another package refuses: "+first.code, file+" "+first.at.String())
 		return
@@ -466,4 +470,14 @@ func (t *tally) compareFirst(j *judgement, first *oddity, a *answer, inPackage f
 	}
 	sort.Strings(near)
 	t.note(fmt.Sprintf("no fault where go/types has %s (%s)", first.code, j.form), fmt.Sprintf("%s %s %s %v", file, first.at, first.text, near))
+}
+
+// isRefusedBy tells whether a fault of a rule stands in a package.
+func (a *answer) isRefusedBy(rule string, inPackage func(place) bool) bool {
+	for at, given := range a.refused {
+		if inPackage(at) && has(given, rule) {
+			return true
+		}
+	}
+	return false
 }

@@ -83,6 +83,7 @@ type typeMade struct {
 	fields     map[string]bool
 	methods    map[string]bool
 	isFree     bool // whether it may have methods
+	isAlias    bool
 }
 
 // A function that is made.
@@ -175,15 +176,15 @@ func (m *made) written(f *fileMade, depth, limit int) string {
 	return m.one("int", "string", "bool")
 }
 
-// embedded picks an embedded field, with its name.
+// embedded picks an embedded field, with its name: none that an alias names, since go/types writes such a field by its type.
 func (m *made) embedded(f *fileMade, limit int) (string, string, bool) {
 	switch n := m.r.Intn(10); {
 	case n < 5 && limit > 0:
 		t := m.types[m.r.Intn(limit)]
-		return t.name, t.name, t.form != "pointer"
+		return t.name, t.name, t.form != "pointer" && !t.isAlias
 	case n < 7 && len(m.types) > 0:
 		t := m.types[m.r.Intn(len(m.types))]
-		return "*" + t.name, t.name, t.form == "struct" || t.form == "basic"
+		return "*" + t.name, t.name, (t.form == "struct" || t.form == "basic") && !t.isAlias
 	case n < 9:
 		text, kind, ok := m.foreign(f, func(t types.Type) bool { _, isPointer := t.Underlying().(*types.Pointer); return !isPointer })
 		if !ok {
@@ -192,7 +193,9 @@ func (m *made) embedded(f *fileMade, limit int) (string, string, bool) {
 		if _, isInterface := kind.Underlying().(*types.Interface); !isInterface && m.chance(40) {
 			text = "*" + text
 		}
-		return text, text[strings.LastIndexAny(text, ".*")+1:], true
+		name := text[strings.LastIndexAny(text, ".*")+1:]
+		named, isDefined := kind.(*types.Named)
+		return text, name, isDefined && named.Obj().Name() == name
 	case n == 9:
 		name := m.one("error", "string", "bool")
 		return name, name, true
@@ -293,10 +296,40 @@ func (m *made) resultText(f *fileMade, depth int) string {
 	return text
 }
 
+// aliased picks what an alias stands for: a type of the package, one of another, or a predeclared one. It has its fields and methods.
+func (m *made) aliased(f *fileMade, t *typeMade, limit int) string {
+	t.isAlias = true
+	if n := m.r.Intn(10); n < 6 && limit > 0 {
+		other := m.types[m.r.Intn(limit)]
+		t.form, t.isFree, t.fields, t.methods = other.form, other.isFree, other.fields, other.methods
+		return other.name
+	} else if n < 9 {
+		if name, kind, ok := m.foreign(f, always); ok {
+			t.form = formOf(kind)
+			return name
+		}
+	}
+	name := m.one("int", "string", "bool", "error", "any")
+	t.form = formOf(types.Universe.Lookup(name).Type())
+	return name
+}
+
+func formOf(kind types.Type) string {
+	switch kind.Underlying().(type) {
+	case *types.Struct:
+		return "struct"
+	case *types.Interface:
+		return "interface"
+	case *types.Pointer:
+		return "pointer"
+	}
+	return "basic"
+}
+
 // declareTypes makes the types of the package, and their methods.
 func (m *made) declareTypes() {
 	for _, name := range m.some(m.names.types, 4+m.r.Intn(5)) {
-		form := m.one("struct", "struct", "struct", "basic", "interface", "basic", "same", "pointer")
+		form := m.one("struct", "struct", "struct", "basic", "interface", "basic", "same", "pointer", "alias", "alias", "alias", "alias")
 		m.types = append(m.types, &typeMade{name: name, form: form, fields: map[string]bool{}, methods: map[string]bool{}})
 	}
 	texts := make([]string, len(m.types))
@@ -304,6 +337,10 @@ func (m *made) declareTypes() {
 	for i, t := range m.types {
 		f := m.file()
 		places[i] = f
+		if t.form == "alias" {
+			texts[i] = "= " + m.aliased(f, t, i)
+			continue
+		}
 		t.isFree = t.form != "interface" && t.form != "pointer"
 		switch t.form {
 		case "struct":
@@ -340,9 +377,10 @@ func (m *made) declareMethods(t *typeMade) {
 		return
 	}
 	for _, name := range m.some(append([]string{"a", "x", "_"}, methodNames...), m.r.Intn(4)) {
-		if t.fields[name] {
+		if t.fields[name] || name != "_" && t.methods[name] {
 			continue
 		}
+		t.methods[name] = true
 		receiver := m.one("r", "t", "x", "self", "_", "")
 		f := m.file()
 		base := m.one("", "*") + t.name

@@ -195,7 +195,7 @@ func isNodeInGrammar(n ast.Node) bool {
 			}
 		}
 	case *ast.TypeSpec:
-		isRight = isRight && !n.Assign.IsValid()
+		isRight = isRight && (!n.Assign.IsValid() || isTypeName(n.Type))
 	case *ast.FuncDecl:
 		isRight = isRight && n.Body != nil && isReceiver(n.Recv)
 	case *ast.KeyValueExpr:
@@ -292,4 +292,16 @@ func mutate(r *rand.Rand, text string, turn int) (string, string) {
 		}
 	}
 	return "unchanged", text
+}
+
+// isTypeName tells whether what stands after the `=` of an alias is a name, alone or after a package's name and a dot, without parentheses.
+func isTypeName(e ast.Expr) bool {
+	switch e := e.(type) {
+	case *ast.Ident:
+		return true
+	case *ast.SelectorExpr:
+		_, isIdent := e.X.(*ast.Ident)
+		return isIdent
+	}
+	return false
 }

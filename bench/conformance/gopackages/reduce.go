@@ -301,7 +301,7 @@ func (r *reducer) outsideSpec(f *source, word token.Token, spec ast.Spec, leave 
 			leave(f.cover(spec), "constants and variables outside the grammar")
 		}
 	case *ast.TypeSpec:
-		if spec.Assign.IsValid() || spec.TypeParams != nil || !isTypeWithin(spec.Type, func(n ast.Node) { leave(n, "fields and methods outside the grammar") }) {
+		if spec.Assign.IsValid() && !isTypeName(spec.Type) || spec.TypeParams != nil || !isTypeWithin(spec.Type, func(n ast.Node) { leave(n, "fields and methods outside the grammar") }) {
 			leave(f.cover(spec), "types outside the grammar")
 		}
 	}

@@ -1,4 +1,5 @@
 pub mod mirrors
+pub mod alias_core
 pub mod block_core
 pub mod decide_core
 pub mod decl_core

@@ -2,6 +2,7 @@
 pub use Rattle.go_face_core.proofs.Displaying as Displaying
 pub use Rattle.go_face_core.specs.Faces as Faces
 pub use Rattle.go_face_core.specs.Held as Held
+pub use Rattle.go_face_core.specs.Here as Here
 pub use Rattle.go_face_core.specs.Laws as Laws
 pub use Rattle.go_face_core.proofs.Locality as Locality
 pub use Rattle.go_face_core.specs.Packages as Packages

@@ -13,6 +13,11 @@ pub use entries::same_types;
 pub use faces::same_faces;
 pub use names::{same_exports, same_names};
 
+/// What the crates above name of `go_alias_core`.
+pub mod alias_core {
+    pub use go_face_core::alias_core::{Aliases, alias_loops, aliases_of, written_aliases};
+}
+
 /// What the crates above name of `go_block_core`.
 pub mod block_core {
     pub use go_face_core::block_core::{
@@ -30,14 +35,14 @@ pub mod embed_core {
 
 /// What the crates above name of `go_entry_core`.
 pub mod entry_core {
-    pub use go_face_core::entry_core::{FileNames, ImportedNames, ShownPackages};
+    pub use go_face_core::entry_core::{DeclaredNames, FileNames, ImportedNames, ShownPackages};
 }
 
 /// What the crates above name of `go_face_core`.
 pub mod face_core {
     pub use go_face_core::{
-        DeclaredFace, Face, FaceTable, PackageFaces, ShownFace, WrittenFaces, hold, lend,
-        written_faces,
+        DeclaredFace, Face, FaceTable, PackageFaces, ShownFace, TypesHere, WrittenFaces, hold,
+        lend, written_faces,
     };
 }
 

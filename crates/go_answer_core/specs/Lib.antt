@@ -4,6 +4,7 @@ pub mod Sample
 pub mod Shown
 pub mod Sites
 pub mod mirrors
+pub mod alias_core
 pub mod alike_core
 pub mod block_core
 pub mod decide_core

@@ -21,6 +21,11 @@ pub use locals::{HeldLocal, hold_local};
 pub use outer::{OuterAt, outer_faults};
 pub use site::Site;
 
+/// What the crates above name of `go_alias_core`.
+pub mod alias_core {
+    pub use go_fault_core::alias_core::{Aliases, alias_loops, aliases_of, written_aliases};
+}
+
 /// What the crates above name of `go_alike_core`.
 pub mod alike_core {
     pub use go_fault_core::alike_core::same_exports;
@@ -52,7 +57,7 @@ pub mod embed_core {
 /// What the crates above name of `go_face_core`.
 pub mod face_core {
     pub use go_fault_core::face_core::{
-        Face, FaceTable, PackageFaces, WrittenFaces, lend, written_faces,
+        Face, FaceTable, PackageFaces, TypesHere, WrittenFaces, lend, written_faces,
     };
 }
 

@@ -30,7 +30,9 @@ pub mod entry_core {
 
 /// What the crates above name of `go_face_core`.
 pub mod face_core {
-    pub use go_func_core::face_core::{Face, ShownFace, WrittenFaces, hold, written_faces};
+    pub use go_func_core::face_core::{
+        Face, FaceTable, ShownFace, TypesHere, WrittenFaces, hold, written_faces,
+    };
 }
 
 /// What the crates above name of `go_handle_core`.

@@ -15,10 +15,10 @@ use go_expr_core::literal_core::Literals;
 use go_expr_core::operand_core::TypeForm;
 use go_text_core::{add, is_blank};
 use std::alloc::{AllocError, Global};
-use std::collections::HashSet;
+use std::collections::BTreeSet;
 
 // Adds a name to a set, unless it is there, and answers whether it was not.
-fn insert<'a>(names: &mut HashSet<&'a str>, name: &'a str) -> Result<bool, AllocError>
+fn insert<'a>(names: &mut BTreeSet<&'a str>, name: &'a str) -> Result<bool, AllocError>
     ensures added { IfOk result (λ is_new. is_new ≡ not (has_name name.now (map (λ n. n.now) names.old.keys))) }
     ensures seen { OnOk result (HasNames (map (λ n. n.now) names.new.keys) (name.now ∷ map (λ n. n.now) names.old.keys)) }
 {
@@ -29,10 +29,10 @@ fn insert<'a>(names: &mut HashSet<&'a str>, name: &'a str) -> Result<bool, Alloc
 }
 
 // The set of some names.
-fn set_of<'a>(alloc: Global, names: &[&'a str]) -> Result<HashSet<&'a str>, AllocError>
+fn set_of<'a>(alloc: Global, names: &[&'a str]) -> Result<BTreeSet<&'a str>, AllocError>
     ensures { IfOk result (λ set. HasNames (map (λ n. n.now) set.keys) (map (λ n. n.now) names.now)) }
 {
-    let mut set = HashSet::new(alloc);
+    let mut set = BTreeSet::new(alloc);
     for name in names {
         insert(&mut set, *name)?;
     }
@@ -62,8 +62,8 @@ fn is_left<'n, E: Literals>(
     t: &E::Type,
     at: usize,
     name: &'n str,
-    others: &HashSet<&str>,
-    seen: &mut HashSet<&'n str>,
+    others: &BTreeSet<&str>,
+    seen: &mut BTreeSet<&'n str>,
 ) -> Result<bool, AllocError>
     requires within { at < length ((E.literals env.now).fields t.now) }
     requires named { option_map (λ f. f.name) (slice_get ((E.literals env.now).fields t.now) at) ≡ Some name.now }
@@ -82,12 +82,12 @@ fn names_left<'n, E: Literals>(
     alloc: Global,
     t: &E::Type,
     fields: &[&'n str],
-    others: &HashSet<&str>,
+    others: &BTreeSet<&str>,
 ) -> Result<Vec<&'n str>, AllocError>
     requires { map (λ n. n.now) fields.now ≡ map (λ f. f.name) ((E.literals env.now).fields t.now) }
     ensures { IfOk result (λ names. map (λ n. n.now) names.items ≡ keyed.keys_left (map (λ n. n.now) others.now.keys) ((E.literals env.now).fields t.now)) }
 {
-    let mut seen = HashSet::new(alloc);
+    let mut seen = BTreeSet::new(alloc);
     let mut names = Vec::new(alloc);
     for (at, name) in fields.iter().enumerate() {
         let left = is_left(env, t, at, *name, others, &mut seen)?;

@@ -34,7 +34,7 @@ pub mod denote_core {
 
 /// What the crates above name of `go_entry_core`.
 pub mod entry_core {
-    pub use go_env_core::entry_core::{FileNames, ImportedNames, ShownPackages};
+    pub use go_env_core::entry_core::{FileNames, ImportedNames, ShownPackages, outlines};
 }
 
 /// What the crates above name of `go_env_core`.
@@ -50,7 +50,7 @@ pub mod expr_core {
 /// What the crates above name of `go_face_core`.
 pub mod face_core {
     pub use go_env_core::face_core::{
-        Face, FaceTable, ShownFace, WrittenFaces, hold, lend, written_faces,
+        Face, FaceTable, ShownFace, TypesHere, WrittenFaces, hold, lend, written_faces,
     };
 }
 

@@ -5,6 +5,7 @@ use Rattle.std.specs.List.{AllByRecursion, enumerate_from, list_any, range_with_
 use Rattle.std.specs.Str.{bytes_eq}
 use Rattle.std.proofs.lemmas.Bool.{eq-eqb, eqb-true}
 use Rattle.std.proofs.lemmas.Grind.{flat_map-append}
+use Rattle.go_clear_core.specs.text_core.declared.span.Span.{Span}
 use Rattle.go_tree_nodes.specs.declared.decls.ValueKind.{ValueKind}
 use Rattle.go_tree_nodes.specs.declared.decls.ValueKind.TheVariants as kinds
 use Rattle.go_tree_nodes.specs.Spelling.{IsPlaced}
@@ -23,7 +24,7 @@ use Rattle.go_func_core.specs.env_core.declared.meaning.Meaning.{Meaning as Name
 use Rattle.go_func_core.specs.env_core.declared.meaning.Meaning.TheVariants as means
 use Rattle.go_func_core.specs.face_core.Faces.{TheFace, variable_face}
 use Rattle.go_func_core.specs.face_core.Packages.{PackageFacesModel, face_by, package_in}
-use Rattle.go_func_core.specs.face_core.Written.{WrittenOf, face_found, file_written, form_as_written, type_written, value_as_written, written_at}
+use Rattle.go_func_core.specs.face_core.Written.{WrittenOf, declared_face, face_found, file_written, form_as_written, type_written, value_as_written, written_at}
 use Rattle.go_func_core.specs.handle_core.Declarations.{Declaration}
 use Rattle.go_func_core.specs.names_core.declared.meaning.Outside.{Outside}
 use Rattle.go_func_core.specs.written_core.Written.{InFile as WrittenFile, Meaning as WrittenMeaning}
@@ -35,7 +36,7 @@ use Rattle.go_snap_core.specs.part_core.Inputs.{InputModel}
 use Rattle.go_snap_core.specs.part_core.Parts.{ContentOf, IsPart, package_seen, seen_by}
 use Rattle.go_clear_core.specs.piece_core.Specifications.{values_given}
 use Rattle.go_ready_core.specs.Laws.{package_placed}
-use Rattle.go_ready_core.specs.Packages.{PackageIn, outlines_in, scene_in, trees_in}
+use Rattle.go_ready_core.specs.Packages.{PackageIn, outlines_in, scene_in, shows_in, trees_in}
 use Rattle.go_ready_core.specs.Values.{AreDeclared}
 use Rattle.go_snap_core.specs.summary_core.Summaries.{SummaryModel}
 use Rattle.go_snap_core.specs.summary_core.Views.{faces_told, types_told}
@@ -99,9 +100,13 @@ module _ (rules : TypeRules Term) where
   value_written mean f es kinds.Var None = tt
   value_written mean f es kinds.Const t = tt
 
+  type_face_written : (mark : Option Span) (mean : WrittenMeaning) (f : WrittenFile) (es : List Entry) (n : ℕ) (t : TypeTree) → IsFaceOver rules (declared_face mark mean f es n t)
+  type_face_written None mean f es n t = tt
+  type_face_written (Some m) mean f es n t = tt
+
   form_written : (mean : WrittenMeaning) (f : WrittenFile) (es : List Entry) (n : ℕ) (t : FormTree) → IsSomeFaceOver rules (form_as_written mean f es n t)
   form_written mean f es n (ValueForm k v i) = value_written mean f es k v.type_expr
-  form_written mean f es n (TypeForm t) = tt
+  form_written mean f es n (TypeForm t) = type_face_written t.alias mean f es n t.type_expr
   form_written mean f es n (FuncForm g) = tt
 
   decls_written : (mean : WrittenMeaning) (f : WrittenFile) (es : List Entry) (ds : List TopDeclTree) (w : WrittenOf) → HasItem (file_written mean f es ds) w → IsSomeFaceOver rules w.face
@@ -229,7 +234,7 @@ module _ (i : InputModel) (c : ContentOf) (part : IsPart i c) (placed : All IsPl
   part_written : (n : ℕ) → IsSomeFaceOver (rules_in i c) (written_at (scene_in p es).written n)
   part_written n =
       found_written (rules_in i c) (scene_in p es).written
-      (λ w h. (let one = from_flat (λ (q : ℕ × FileOutline). file_written (package_meanings p.shows p.path p.blocks q.0) (file_at p.path q.0 q.1) es q.1.decls) (enumerate_from 0 (outlines_in p)) w h in
+      (λ w h. (let one = from_flat (λ (q : ℕ × FileOutline). file_written (package_meanings (shows_in p) p.path p.blocks q.0) (file_at p.path q.0 q.1) es q.1.decls) (enumerate_from 0 (outlines_in p)) w h in
       decls_written (rules_in i c) _ _ es one.item.1.decls w one.here))
       (slice_get (scene_in p es).written n) n refl
 

@@ -23,6 +23,7 @@ pub mod link_core
 pub mod local_core
 pub mod means_core
 pub mod meant_core
+pub mod needs_core
 pub mod object_core
 pub mod open_core
 pub mod operand_core

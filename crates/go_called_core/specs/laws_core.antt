@@ -11,6 +11,7 @@ pub use Rattle.go_clear_core.specs.laws_core.Meanings as Meanings
 pub use Rattle.go_clear_core.specs.laws_core.Methods as Methods
 pub use Rattle.go_clear_core.specs.laws_core.Parts as Parts
 pub use Rattle.go_clear_core.specs.laws_core.Reading as Reading
+pub use Rattle.go_clear_core.specs.laws_core.Ruled as Ruled
 pub use Rattle.go_clear_core.specs.laws_core.Standing as Standing
 pub use Rattle.go_clear_core.specs.laws_core.Tables as Tables
 pub use Rattle.go_clear_core.specs.laws_core.Terms as Terms

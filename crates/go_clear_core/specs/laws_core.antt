@@ -16,6 +16,7 @@ pub use Rattle.go_laws_core.proofs.Names as Names
 pub use Rattle.go_laws_core.proofs.Parts as Parts
 pub use Rattle.go_laws_core.proofs.Pieces as Pieces
 pub use Rattle.go_laws_core.proofs.Reading as Reading
+pub use Rattle.go_laws_core.proofs.Ruled as Ruled
 pub use Rattle.go_laws_core.specs.Standing as Standing
 pub use Rattle.go_laws_core.proofs.Tables as Tables
 pub use Rattle.go_laws_core.proofs.Terms as Terms

@@ -5,6 +5,7 @@ use Rattle.std.specs.List.{AllByRecursion, flat_map}
 use Rattle.std.specs.Option.{option_map}
 use Rattle.std.proofs.lemmas.List.Elements.{All-from_recursion, Contains-append_left, Contains-append_right, Contains-append_cases}
 use Rattle.std.proofs.lemmas.Option.{slice_get-map, slice_get_within, get_or_from_slice_get}
+use Rattle.go_text_core.specs.declared.span.Span.{Span}
 use Rattle.go_tree_nodes.specs.declared.decls.ValueKind.{ValueKind}
 use Rattle.go_tree_nodes.specs.declared.decls.ValueKind.TheVariants as value_kinds
 use Rattle.go_tree_nodes.specs.declared.files.Receiver.{Receiver}
@@ -28,14 +29,14 @@ use Rattle.go_needs_core.specs.Needs.{needed, NeedsLead, IsEndless, known_in, Ar
 use Rattle.go_fitting_core.specs.face_core.declared.face.Face.TheVariants as faces
 use Rattle.go_fitting_core.specs.face_core.Faces.{TheFace, variable_face}
 use Rattle.go_fitting_core.specs.face_core.Laws.{FileDecl, Stands, package_decls, written_there}
-use Rattle.go_fitting_core.specs.face_core.Written.{WrittenOf, form_as_written, value_as_written, written_of, written_at, face_found, position_of, package_written}
+use Rattle.go_fitting_core.specs.face_core.Written.{WrittenOf, declared_face, form_as_written, value_as_written, written_of, written_at, face_found, position_of, package_written}
 use Rattle.go_fitting_core.specs.face_core.Places.{positions_are_exact}
 use Rattle.go_place_core.specs.env_core.Scenes.{SceneModel}
 use Rattle.go_place_core.specs.env_core.Looks.{TheLooks}
 use Rattle.go_place_core.specs.env_core.Found.{face_at, own_face}
 use Rattle.go_place_core.specs.value_core.Package.{form_idents, idents_need, form_face, value_face, written_face, first_values}
 use Rattle.go_place_core.specs.func_core.Stands.{outer_looks}
-use Rattle.go_place_core.specs.ready_core.Packages.{PackageIn, outlines_in, scene_in, stand_in}
+use Rattle.go_place_core.specs.ready_core.Packages.{PackageIn, outlines_in, shows_in, scene_in, stand_in}
 use Rattle.go_place_core.specs.ready_core.Values.{AreDeclared, decls_in, needs_in, file_decl_needs, declared_in, some_decl_face, face_there}
 use Rattle.go_place_core.specs.ready_core.Lists.{mapped_at}
 use Rattle.go_fitting_core.specs.context_core.declared.things.Thing.{Thing}
@@ -73,7 +74,11 @@ form_thing looks mean f es n (ValueForm value_kinds.Var v i) = by v.type_expr
     by : (t : Option TypeTree) → Some (thing_of_face (Some (value_face looks (value_as_written mean f es value_kinds.Var t) value_kinds.Var t v i))) ≡ Some things.«Value»
     by None = refl
     by (Some t) = refl
-form_thing looks mean f es n (TypeForm t) = refl
+form_thing looks mean f es n (TypeForm t) = by t.alias
+  where
+    by : (mark : Option Span) → Some (thing_of_face (Some (declared_face mark mean f es n t.type_expr))) ≡ Some things.«Type»
+    by None = refl
+    by (Some s) = refl
 form_thing looks mean f es n (FuncForm g) = by g.receiver
   where
     by : (r : Option Receiver) → Some things.Func ≡ kind_thing (kind_of_func r)
@@ -157,7 +162,7 @@ all_outlines fs = All-from_recursion IsOutline (map outline_of fs) (by fs)
 
 module _ (p : PackageIn) (types : List Entry) (known : List (Option TheFace)) (declared : AreDeclared p types known) where
   abbrev at_place : FileDecl → WrittenOf
-  at_place d = written_there p.shows p.path p.blocks types d
+  at_place d = written_there (shows_in p) p.path p.blocks types d
 
   -- what stands at a place
   place_thing : (place : ℕ) (d : FileDecl) → slice_get (decls_in p) place ≡ Some d → slice_get (scene_in p types).written place ≡ Some (at_place d)
@@ -170,7 +175,7 @@ module _ (p : PackageIn) (types : List Entry) (known : List (Option TheFace)) (d
           let looks : TheLooks = outer_looks (stand_in p types (first_values (length (scene_in p types).written) (known_in known)) d.file d.outline) in
           let made : v ≡ form_face looks (at_place d).face d.decl.form =
           declared.values place v is ∙ (ap (some_decl_face p types (known_in known) place) there ∙ ap (λ w. form_face looks w d.decl.form) written) in
-          ap (λ f. Some (thing_of_face (Some f))) made ∙ form_thing looks (file_meaning p.shows p.path p.blocks d.file) (file_at p.path d.file d.outline) types d.decl.number d.decl.form
+          ap (λ f. Some (thing_of_face (Some f))) made ∙ form_thing looks (file_meaning (shows_in p) p.path p.blocks d.file) (file_at p.path d.file d.outline) types d.decl.number d.decl.form
       by None is =
           let row : slice_get (needs_in p types) place ≡ Some (file_decl_needs (scene_in p types) d) = slice_get-map (file_decl_needs (scene_in p types)) (decls_in p) place ∙ ap (option_map (file_decl_needs (scene_in p types))) there in
           let lead = endless_needs (needs_in p types) place (declared.endless place (slice_get_within (needs_in p types) place (file_decl_needs (scene_in p types) d) row) is) in
@@ -184,9 +189,9 @@ module _ (p : PackageIn) (types : List Entry) (known : List (Option TheFace)) (d
         let r = in_files 0 ts first.first listed in
         let os : List FileOutline = outlines_in p in
         let file : slice_get os r.number ≡ Some (outline_of r.tree) = slice_get-map outline_of p.trees r.number ∙ ap (option_map outline_of) (ap (λ l. slice_get l r.number) trees ∙ r.there) in
-        let stands = positions_are_exact.declared p.shows p.path p.blocks types os r.number (outline_of r.tree) r.decl (all_outlines p.trees) (file, r.among) in
+        let stands = positions_are_exact.declared (shows_in p) p.path p.blocks types os r.number (outline_of r.tree) r.decl (all_outlines p.trees) (file, r.among) in
         let decl : d ≡ decl_ref r.number r.decl.number (kind_of_form r.decl.form) = sym first.is ∙ (sym (ap (λ (x : PackageDeclaration). x.decl) r.is) ∙ ap (λ n. decl_ref n r.decl.number (kind_of_form r.decl.form)) (let e : 0 + r.number ≡ r.number = omega arith in e)) in
-        let at = mapped_at at_place (decls_in p) stands.place _ (ap (λ l. slice_get l stands.place) (sym (positions_are_exact.listed p.shows p.path p.blocks types os)) ∙ stands.there) in
+        let at = mapped_at at_place (decls_in p) stands.place _ (ap (λ l. slice_get l stands.place) (sym (positions_are_exact.listed (shows_in p) p.path p.blocks types os)) ∙ stands.there) in
         let kind : kind_of_form at.0.decl.form ≡ kind_of_form r.decl.form = ap (λ (w : WrittenOf). w.decl.kind) at.2 in
         ap (λ (e : DeclRef). Some (thing_of_face (own_face (scene_in p types) known e))) decl
         ∙ (ap (λ o. Some (thing_of_face (face_at known o))) stands.found

@@ -132,7 +132,7 @@ value_spec_gives : (k : ValueKind) (v : ValueSpecTree) → Gives (spell_value_sp
 value_spec_gives k v = gives_both (idents_give _ _ v.names) (gives_both (some_type_gives v.type_expr) (values_give v.values))
 
 type_spec_gives : (t : TypeSpecTree) → Gives (spell_type_spec t) (type_spec_outers t)
-type_spec_gives t = gives_name (type_gives t.type_expr)
+type_spec_gives t = gives_name (gives_second _ (type_gives t.type_expr))
 
 group_gives : {A : Type 0} (f : A → List Terminal) (g : A → List Outer) → ((x : A) → Gives (f x) (g x)) → (xs : List (A × Option Span)) → Gives (spell_specs_of f xs) (flat_map (λ l. g l.0) xs)
 group_gives f g each [] = gives_none

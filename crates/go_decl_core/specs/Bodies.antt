@@ -116,7 +116,7 @@ abbrev pub bare_value_spec : ValueSpecTree → ValueSpecTree
 bare_value_spec v = record { names = bare_idents v.names; type_expr = bare_some_type v.type_expr; values = bare_values v.values }
 
 abbrev pub bare_type_spec : TypeSpecTree → TypeSpecTree
-bare_type_spec t = record { name = bare_ident t.name; type_expr = bare_type t.type_expr }
+bare_type_spec t = record { name = bare_ident t.name; alias = bare_some t.alias; type_expr = bare_type t.type_expr }
 
 abbrev pub bare_line : {A : Type 0} → (A → A) → A × Option Span → A × Option Span
 bare_line f l = (f l.0, bare_some l.1)

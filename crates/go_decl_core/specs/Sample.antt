@@ -4,7 +4,7 @@ use Rattle.go_path_core.specs.text_core.declared.span.Span.{Span}
 use Rattle.go_tree_nodes.specs.declared.names.Ident.{Ident}
 use Rattle.go_tree_nodes.specs.declared.types.TypeName.TheVariants as type_name
 use Rattle.go_tree_nodes.specs.declared.decls.ValueKind.TheVariants as value_kinds
-use Rattle.go_tree_nodes.specs.Samples.{at, called, int_at}
+use Rattle.go_tree_nodes.specs.Samples.{at, called, int_at, type_spec_of}
 use Rattle.go_tree_nodes.specs.Trees as tree
 use Rattle.go_tree_nodes.specs.Trees.{One, Then, TypeTree, NamedType, Struct, Interface, NoFields, NamedFields, EmbeddedField, NoMethods, Method, ParamTrees, NoParams, Param, SignatureTree, Signed, NoResult, Integer, Named, Binary, Single, Define, Lines, NoLines, Line, FuncTree, Types, Func, TopTree, FileTree}
 use Rattle.go_decl_core.specs.declared.places.DeclKind.{DeclKind}
@@ -28,7 +28,7 @@ early d body = top (Func (record { func = at 3; receiver = None; name = called (
 
 -- type T struct { Base; a, b int }
 abbrev pub decl_sample_struct : ℕ → TopTree
-decl_sample_struct d = top (Types (record { keyword = at (d + 15); specs = Single (record { name = called (codes "T") (d + 16); type_expr = Struct (at (d + 17)) (at (d + 18)) (EmbeddedField None (type_name.Plain (called (codes "Base") (d + 19))) None (Some (at (d + 20))) (NamedFields (Then (called (codes "a") (d + 21)) (at (d + 22)) (One (called (codes "b") (d + 23)))) (int_at (d + 24)) None None NoFields)) (at (d + 25)) }) })) (d + 26)
+decl_sample_struct d = top (Types (record { keyword = at (d + 15); specs = Single (type_spec_of (called (codes "T") (d + 16)) (Struct (at (d + 17)) (at (d + 18)) (EmbeddedField None (type_name.Plain (called (codes "Base") (d + 19))) None (Some (at (d + 20))) (NamedFields (Then (called (codes "a") (d + 21)) (at (d + 22)) (One (called (codes "b") (d + 23)))) (int_at (d + 24)) None None NoFields)) (at (d + 25)))) })) (d + 26)
 
 -- func (t *T) m(q int) {}
 abbrev pub decl_sample_method : ℕ → TopTree
@@ -36,7 +36,7 @@ decl_sample_method d = top (Func (record { func = at (d + 27); receiver = Some (
 
 -- type I interface { g(x int) }
 abbrev pub interface_type : ℕ → TopTree
-interface_type d = top (Types (record { keyword = at (d + 41); specs = Single (record { name = called (codes "I") (d + 42); type_expr = Interface (at (d + 43)) (at (d + 44)) (Method (called (codes "g") (d + 45)) (one_param (codes "x") (d + 46)) None NoMethods) (at (d + 50)) }) })) (d + 51)
+interface_type d = top (Types (record { keyword = at (d + 41); specs = Single (type_spec_of (called (codes "I") (d + 42)) (Interface (at (d + 43)) (at (d + 44)) (Method (called (codes "g") (d + 45)) (one_param (codes "x") (d + 46)) None NoMethods) (at (d + 50)))) })) (d + 51)
 
 -- var last, other int
 abbrev pub variables : ℕ → TopTree

@@ -14,10 +14,10 @@ use go_type_core::path_core::ImportPath;
 use go_type_core::table_core::FieldTable;
 use go_type_core::{DeclaredMethod, Field, TypeTerm};
 use std::alloc::{AllocError, Global};
-use std::collections::HashSet;
+use std::collections::BTreeSet;
 
 // Whether a name is among these.
-fn has_name(names: &HashSet<&str>, name: &str) -> bool
+fn has_name(names: &BTreeSet<&str>, name: &str) -> bool
     ensures { result ≡ is_among_names (map (λ n. n.now) names.now.keys) name.now }
 {
     names.contains(name)
@@ -31,7 +31,7 @@ fn is_home(home: &ImportPath, path: &ImportPath) -> bool
 }
 
 // Adds a name to others.
-fn add_name<'a>(names: &mut HashSet<&'a str>, name: &'a str) -> Result<(), AllocError>
+fn add_name<'a>(names: &mut BTreeSet<&'a str>, name: &'a str) -> Result<(), AllocError>
     ensures { OnOk result (SameNames (map (λ n. n.now) names.new.keys) (name.now ∷ map (λ n. n.now) names.old.keys)) }
 {
     match names.insert(name) {
@@ -52,7 +52,7 @@ fn take_name<'a>(
     path: &ImportPath,
     fields: &FieldTable<'_>,
     method: &'a DeclaredMethod,
-    names: &mut HashSet<&'a str>,
+    names: &mut BTreeSet<&'a str>,
 ) -> Result<(), AllocError>
     ensures { OnOk result (SameNames (map (λ n. n.now) names.new.keys) (names_with path.now fields.now (member_shown method.now) (map (λ n. n.now) names.old.keys))) }
 {
@@ -68,10 +68,10 @@ fn own_names<'a>(
     path: &ImportPath,
     fields: &FieldTable<'_>,
     methods: &'a [DeclaredMethod],
-) -> Result<HashSet<&'a str>, AllocError>
+) -> Result<BTreeSet<&'a str>, AllocError>
     ensures { IfOk result (λ names. SameNames (map (λ n. n.now) names.keys) (own_names path.now fields.now (map member_shown methods.now))) }
 {
-    let mut names = HashSet::new(alloc);
+    let mut names = BTreeSet::new(alloc);
     for method in methods {
         take_name(path, fields, method, &mut names)?;
     }
@@ -81,7 +81,7 @@ fn own_names<'a>(
 // The faults of fields that have one of these names.
 fn named_faults(
     alloc: Global,
-    names: &HashSet<&str>,
+    names: &BTreeSet<&str>,
     fields: &[Field],
 ) -> Result<Vec<MemberFault>, AllocError>
     ensures { IfOk result (λ faults. (ls : List Line) → faults.items ≡ named_faults (map (λ n. n.now) names.now.keys) (fields_in ls fields.now)) }
@@ -131,8 +131,8 @@ fn is_one_hiding(path: &ImportPath, fields: &FieldTable<'_>, methods: &[Declared
 /// in the package of the type repeats the identifier of a method that is declared before it (B5). `path` is of the type's package,
 /// `fields` has the fields of the type's underlying type, be it written in another type declaration, or, where it is no type, of the type as
 /// it is written; `methods` are those that are declared of it. Of a field and a method of one identifier the one that stands behind the other
-/// has the fault, here or in `check_methods`. It takes expected time that is linear in the methods, and in the fields only where a method is
-/// spelled as one of them and stands behind none.
+/// has the fault, here or in `check_methods`. It takes time that is linear but for a logarithm in the methods, and in the fields only where a
+/// method is spelled as one of them and stands behind none.
 ///
 /// # Errors
 ///

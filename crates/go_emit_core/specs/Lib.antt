@@ -3,6 +3,7 @@ pub mod Emitted
 pub mod Laws
 pub mod Samples
 pub mod mirrors
+pub mod alias_core
 pub mod answer_core
 pub mod block_core
 pub mod body_core

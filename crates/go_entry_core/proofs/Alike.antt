@@ -1,5 +1,5 @@
 -- Types and methods that are written under meanings which agree on the names that they write.
-use Rattle.std.proofs.Common.{◌≡◌, ℕ, suc, ◌+◌, inl, inr, true, List, [], ◌∷◌, ◌++◌, Option, Some, None, is_some, refl, ap, subst, arith}
+use Rattle.std.proofs.Common.{◌≡◌, ℕ, suc, ◌+◌, inl, inr, true, false, List, [], ◌∷◌, ◌++◌, Option, Some, None, is_some, refl, ap, subst, arith}
 use Rattle.std.specs.Prelude.{slice_get}
 use Rattle.std.specs.List.{flat_map, enumerate_from}
 use Rattle.go_tree_nodes.specs.declared.files.Receiver.{Receiver}
@@ -8,11 +8,11 @@ use Rattle.go_tree_nodes.specs.Trees.{TypeTree, NamedType, Pointer, ParenType, S
 use Rattle.go_written_core.specs.decl_core.declared.places.DeclKind.TheVariants as kinds
 use Rattle.go_written_core.specs.decl_core.TopDecls.{TopDeclTree, FormTree, ValueForm, TypeForm, FuncForm}
 use Rattle.go_term_core.specs.Terms.{PointerTo, StructOf, InterfaceOf, AField, AMethod, SignOf, NoTerm, ATerm}
-use Rattle.go_table_core.specs.Entries.{Entry}
 use Rattle.go_written_core.specs.Written.{InFile, Meaning, member_place, term_starred, tag_of, named_fields, for_names, term_of, fields_of_tree, methods_of_tree, signature_of, results_of_tree, params_of_tree}
 use Rattle.go_written_core.specs.decl_core.Outer.{last_ident}
-use Rattle.go_entry_core.specs.Entries.{Received, Meanings, type_key, method_place, methods_received, func_methods, decl_methods, entry_of, file_at, file_methods, file_entries, package_methods}
+use Rattle.go_entry_core.specs.Entries.{Received, Meanings, type_key, method_place, methods_received, func_methods, decl_methods, entry_of, is_listed, listed_entry, file_at, file_methods, file_entries, package_methods}
 use Rattle.go_entry_core.specs.Laws.{EntriesAreLocal}
+use Rattle.go_entry_core.specs.Marks.{alias_mark}
 use Rattle.go_entry_core.specs.Meanings.{file_meaning}
 use Rattle.go_entry_core.specs.Names.{received_names, form_names, names_written}
 use Rattle.go_entry_core.specs.Outlines.{FileOutline}
@@ -90,7 +90,7 @@ entry_alike : (mean other : Meaning) (f : InFile) (rs ss : List Received) (d : T
 entry_alike mean other f rs ss d (ValueForm k v i) h same = refl
 entry_alike mean other f rs ss d (TypeForm t) h same =
     let term = type_alike mean other f t.type_expr h in
-    ap (λ (e : Entry). e ∷ []) (λ i. record { key = type_key f d.number; name = d.ident.name; term = term i; methods = methods_received (type_key f d.number) (same i) })
+    ap (listed_entry (is_listed false (alias_mark t))) (λ i. record { key = type_key f d.number; name = d.ident.name; term = term i; methods = methods_received (type_key f d.number) (same i) })
 entry_alike mean other f rs ss d (FuncForm g) h same = refl
 
 abbrev written : List TopDeclTree → List TypeName

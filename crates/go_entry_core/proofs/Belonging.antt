@@ -4,6 +4,7 @@ use Rattle.std.specs.Prelude.{slice_get, ⊤, AllPairs, Contains}
 use Rattle.std.specs.List.{filter, flat_map, enumerate_from}
 use Rattle.std.proofs.lemmas.List.Elements.{All-head, All-tail, Contains-get_or}
 use Rattle.std.proofs.lemmas.Option.{slice_get-get_or}
+use Rattle.go_text_core.specs.declared.span.Span.{Span}
 use Rattle.go_tree_nodes.specs.declared.files.Receiver.{Receiver}
 use Rattle.go_tree_nodes.specs.Trees.{FuncTree, TypeSpecTree}
 use Rattle.go_written_core.specs.decl_core.declared.places.DeclKind.TheVariants as kinds
@@ -17,8 +18,9 @@ use Rattle.go_term_core.specs.Terms.{Term, Defined}
 use Rattle.go_table_core.specs.Entries.{Entry, Member}
 use Rattle.go_table_core.specs.Tables.{KeysRise}
 use Rattle.go_written_core.specs.Written.{InFile, Meaning}
-use Rattle.go_entry_core.specs.Entries.{Received, Meanings, is_type_of, methods_received, received_of, func_methods, decl_methods, file_methods, package_methods, spec_entry, entry_of, file_at, entries_with, declared_entries, package_meanings, type_key, method_of}
+use Rattle.go_entry_core.specs.Entries.{Received, Meanings, is_type_of, methods_received, received_of, func_methods, decl_methods, file_methods, package_methods, spec_entry, entry_of, is_listed, listed_entry, file_at, entries_with, declared_entries, package_meanings, type_key, method_of}
 use Rattle.go_entry_core.specs.Laws.{IsTypeKey, KeysDiffer, IsDeclaredMethod, IsPlaceBefore, MethodsAreOfTheType}
+use Rattle.go_entry_core.specs.Marks.{alias_mark}
 use Rattle.go_entry_core.specs.Meanings.{Shows}
 use Rattle.go_entry_core.specs.Outlines.{FileOutline, IsOutline}
 use Rattle.go_entry_core.proofs.Among.{Among, among_from, among_to, among_flat, flat_among, among_numbered, numbered_among, among_filter, filter_among, among_map, map_among}
@@ -35,14 +37,14 @@ is_type k t h = subst (λ (u : Term). is_type_of k u ≡ true) (sym h) (same_key
 -- items of files
 
 -- a declaration of the file of a number
-record Found (os : List FileOutline) : Type 0 where
-  file : ℕ
-  outline : FileOutline
-  decl : TopDeclTree
-  there : slice_get os file ≡ Some outline
-  among : Among outline.decls decl
+pub record Found (os : List FileOutline) : Type 0 where
+  pub file : ℕ
+  pub outline : FileOutline
+  pub decl : TopDeclTree
+  pub there : slice_get os file ≡ Some outline
+  pub among : Among outline.decls decl
 
-found_in : {A : Type 0} (os : List FileOutline) (f : ℕ → FileOutline → TopDeclTree → List A) (x : A) → Among (flat_map (λ p. flat_map (f p.0 p.1) p.1.decls) (enumerate_from 0 os)) x → (d : Found os) × Among (f d.file d.outline d.decl) x
+pub found_in : {A : Type 0} (os : List FileOutline) (f : ℕ → FileOutline → TopDeclTree → List A) (x : A) → Among (flat_map (λ p. flat_map (f p.0 p.1) p.1.decls) (enumerate_from 0 os)) x → (d : Found os) × Among (f d.file d.outline d.decl) x
 found_in os f x h =
     let p = among_flat (λ p. flat_map (f p.0 p.1) p.1.decls) (enumerate_from 0 os) x h in
     let n = among_numbered 0 os p.0 p.1 in
@@ -51,7 +53,7 @@ found_in os f x h =
     let d = among_flat (f p.0.0 p.0.1) p.0.1.decls x p.2 in
     (record { file = p.0.0; outline = p.0.1; decl = d.0; there = ap (slice_get os) (sym same) ∙ n.2; among = d.1 }, d.2)
 
-put_in : {A : Type 0} (os : List FileOutline) (f : ℕ → FileOutline → TopDeclTree → List A) (x : A) (d : Found os) → Among (f d.file d.outline d.decl) x → Among (flat_map (λ p. flat_map (f p.0 p.1) p.1.decls) (enumerate_from 0 os)) x
+pub put_in : {A : Type 0} (os : List FileOutline) (f : ℕ → FileOutline → TopDeclTree → List A) (x : A) (d : Found os) → Among (f d.file d.outline d.decl) x → Among (flat_map (λ p. flat_map (f p.0 p.1) p.1.decls) (enumerate_from 0 os)) x
 put_in os f x d h =
     let at : 0 + d.file ≡ d.file = omega arith in
     let numbered = subst (λ (m : ℕ). Among (enumerate_from 0 os) (m, d.outline)) at (numbered_among 0 os d.file d.outline d.there) in
@@ -63,37 +65,46 @@ put_in os f x d h =
 abbrev entry_at : Meanings → List ℕ → List Received → ℕ → FileOutline → TopDeclTree → List Entry
 entry_at means path rs n o d = entry_of (means n) (file_at path n o) rs d d.form
 
-entry_is : (mean : Meaning) (f : InFile) (rs : List Received) (d : TopDeclTree) (form : FormTree) (e : Entry) → Among (entry_of mean f rs d form) e → (t : TypeSpecTree) × (form ≡ TypeForm t) × (spec_entry mean f rs d t ≡ e)
+-- what counts is no alias
+listed_is : (mark : Option Span) (s e : Entry) → Among (listed_entry (is_listed false mark) s) e → (mark ≡ None) × (s ≡ e)
+listed_is None s e h = elim h [ inl q ↦ (refl, q) | inr none ↦ absurd none ]
+listed_is (Some m) s e h = absurd h
+
+listed_there : (mark : Option Span) (s : Entry) → mark ≡ None → Among (listed_entry (is_listed false mark) s) s
+listed_there mark s h = subst (λ (m : Option Span). Among (listed_entry (is_listed false m) s) s) (sym h) (inl refl)
+
+entry_is : (mean : Meaning) (f : InFile) (rs : List Received) (d : TopDeclTree) (form : FormTree) (e : Entry) → Among (entry_of mean f rs d form) e → (t : TypeSpecTree) × (form ≡ TypeForm t) × (alias_mark t ≡ None) × (spec_entry mean f rs d t ≡ e)
 entry_is mean f rs d (ValueForm k v i) e h = absurd h
-entry_is mean f rs d (TypeForm t) e h = elim h [ inl s ↦ (t, refl, s) | inr none ↦ absurd none ]
+entry_is mean f rs d (TypeForm t) e h = (let l = listed_is (alias_mark t) (spec_entry mean f rs d t) e h in (t, refl, l.0, l.1))
 entry_is mean f rs d (FuncForm g) e h = absurd h
 
-entry_there : (mean : Meaning) (f : InFile) (rs : List Received) (d : TopDeclTree) (form : FormTree) (t : TypeSpecTree) → form ≡ TypeForm t → Among (entry_of mean f rs d form) (spec_entry mean f rs d t)
-entry_there mean f rs d form t h = subst (λ (g : FormTree). Among (entry_of mean f rs d g) (spec_entry mean f rs d t)) (sym h) (inl refl)
+entry_there : (mean : Meaning) (f : InFile) (rs : List Received) (d : TopDeclTree) (form : FormTree) (t : TypeSpecTree) → form ≡ TypeForm t → alias_mark t ≡ None → Among (entry_of mean f rs d form) (spec_entry mean f rs d t)
+entry_there mean f rs d form t h defined = subst (λ (g : FormTree). Among (entry_of mean f rs d g) (spec_entry mean f rs d t)) (sym h) (listed_there (alias_mark t) (spec_entry mean f rs d t) defined)
 
 entry_methods : (means : Meanings) (path : List ℕ) (rs : List Received) (os : List FileOutline) (e : Entry) → Among (entries_with means path rs os) e → e.methods ≡ methods_received e.key rs
 entry_methods means path rs os e h =
     let d = found_in os (entry_at means path rs) e h in
     let t = entry_is (means d.0.file) (file_at path d.0.file d.0.outline) rs d.0.decl d.0.decl.form e d.1 in
-    subst (λ (x : Entry). x.methods ≡ methods_received x.key rs) t.2 refl
+    subst (λ (x : Entry). x.methods ≡ methods_received x.key rs) t.3 refl
 
 -- the key of a type declaration that is found
-found_key : (path : List ℕ) (os : List FileOutline) (d : Found os) (t : TypeSpecTree) (k : DeclKey) → d.decl.form ≡ TypeForm t → k ≡ type_key (file_at path d.file d.outline) d.decl.number → IsTypeKey path os k
-found_key path os d t k form key = record {
+found_key : (path : List ℕ) (os : List FileOutline) (d : Found os) (t : TypeSpecTree) (k : DeclKey) → d.decl.form ≡ TypeForm t → alias_mark t ≡ None → k ≡ type_key (file_at path d.file d.outline) d.decl.number → IsTypeKey path os k
+found_key path os d t k form defined key = record {
   file = d.file;
   outline = d.outline;
   decl = d.decl;
   there = (d.there, among_to d.outline.decls d.decl d.among);
   spec = t;
   form = form;
+  defined = defined;
   key = key;
 }
 
 entry_key : (means : Meanings) (path : List ℕ) (rs : List Received) (os : List FileOutline) (k : DeclKey) (e : Entry) → e.key ≡ k → (d : Found os) → Among (entry_at means path rs d.file d.outline d.decl) e → IsTypeKey path os k
 entry_key means path rs os k e key d h =
     let t = entry_is (means d.file) (file_at path d.file d.outline) rs d.decl d.decl.form e h in
-    let own : e.key ≡ type_key (file_at path d.file d.outline) d.decl.number = sym (ap (λ (x : Entry). x.key) t.2) in
-    found_key path os d t.0 k t.1 (sym key ∙ own)
+    let own : e.key ≡ type_key (file_at path d.file d.outline) d.decl.number = sym (ap (λ (x : Entry). x.key) t.3) in
+    found_key path os d t.0 k t.1 t.2 (sym key ∙ own)
 
 key_there : (means : Meanings) (path : List ℕ) (rs : List Received) (os : List FileOutline) (k : DeclKey) → Contains (map (λ e. e.key) (entries_with means path rs os)) k → IsTypeKey path os k
 key_there means path rs os k h =
@@ -108,7 +119,7 @@ there_key means path rs os k h =
     let f = file_at path h.file h.outline in
     among_to (map (λ e. e.key) (entries_with means path rs os)) k
     (map_among (λ (e : Entry). e.key) (entries_with means path rs os) k (spec_entry mean f rs h.decl h.spec)
-    (put_in os (entry_at means path rs) (spec_entry mean f rs h.decl h.spec) d (entry_there mean f rs h.decl h.decl.form h.spec h.form))
+    (put_in os (entry_at means path rs) (spec_entry mean f rs h.decl h.spec) d (entry_there mean f rs h.decl h.decl.form h.spec h.form h.defined))
     (sym h.key))
 
 keys_apart : (es : List Entry) → KeysRise es → AllPairs (λ (e f : Entry). e.key ≡ f.key → ⊥) es

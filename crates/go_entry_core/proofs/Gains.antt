@@ -13,7 +13,8 @@ use Rattle.go_written_core.specs.decl_core.TopDecls.{TopDeclTree, FormTree, Valu
 use Rattle.go_table_core.specs.Entries.{Entry}
 use Rattle.go_table_core.specs.Tables.{KeysRise}
 use Rattle.go_written_core.specs.Written.{InFile, Meaning}
-use Rattle.go_entry_core.specs.Entries.{Received, Meanings, is_type_of, methods_received, decl_methods, entry_of, file_at, file_entries, file_methods, entries_with, package_methods}
+use Rattle.go_entry_core.specs.Entries.{Received, Meanings, is_type_of, methods_received, decl_methods, spec_entry, is_listed, listed_entry, entry_by, entries_by, file_entries_by, entry_of, file_at, file_entries, file_methods, entries_with, package_methods}
+use Rattle.go_entry_core.specs.Marks.{alias_mark}
 use Rattle.go_entry_core.specs.Outlines.{FileOutline, outline_shown}
 use Rattle.go_entry_core.specs.mirrors.Gaining.{gaining, all_gaining, IsMeantAt}
 use Rattle.go_entry_core.proofs.Numbered.{map-flat_map, flat_more, flat_item}
@@ -43,9 +44,13 @@ all_gaining_both rs ss (e ∷ es) = λ i. gaining_both rs ss e i ∷ all_gaining
 
 -- entries without methods that are given all
 
+listed_gains : (rs : List Received) (e : Entry) (b : Bool) → map (gaining rs) (listed_entry b e) ≡ listed_entry b (gaining rs e)
+listed_gains rs e true = refl
+listed_gains rs e false = refl
+
 entry_gains : (mean : Meaning) (f : InFile) (rs : List Received) (d : TopDeclTree) (form : FormTree) → map (gaining rs) (entry_of mean f [] d form) ≡ entry_of mean f rs d form
 entry_gains mean f rs d (ValueForm k v i) = refl
-entry_gains mean f rs d (TypeForm t) = refl
+entry_gains mean f rs d (TypeForm t) = listed_gains rs (spec_entry mean f [] d t) (is_listed false (alias_mark t))
 entry_gains mean f rs d (FuncForm g) = refl
 
 file_gains : (mean : Meaning) (f : InFile) (rs : List Received) (ds : List TopDeclTree) → map (gaining rs) (file_entries mean f [] ds) ≡ file_entries mean f rs ds
@@ -103,13 +108,13 @@ gain_at r (x ∷ es) (suc n) e at one =
 
 -- loops
 
-pub types_step : (mean : Meaning) (f : InFile) (ds : List TopDecl) (i : ℕ) (d : TopDecl) (first old new : List Entry) → i < length ds → d ≡ get_or ds i d → old ≡ first ++ file_entries mean f [] (map decl_shown (take i ds))
-    → new ≡ old ++ entry_of mean f [] (decl_shown d) (decl_shown d).form → new ≡ first ++ file_entries mean f [] (map decl_shown (take (i + 1) ds))
-types_step mean f ds i d first old new lt is was e =
+pub types_step : (also : Bool) (mean : Meaning) (f : InFile) (ds : List TopDecl) (i : ℕ) (d : TopDecl) (first old new : List Entry) → i < length ds → d ≡ get_or ds i d → old ≡ first ++ file_entries_by also mean f [] (map decl_shown (take i ds))
+    → new ≡ old ++ entry_by also mean f [] (decl_shown d) (decl_shown d).form → new ≡ first ++ file_entries_by also mean f [] (map decl_shown (take (i + 1) ds))
+types_step also mean f ds i d first old new lt is was e =
     e
-    ∙ (ap (λ l. l ++ entry_of mean f [] (decl_shown d) (decl_shown d).form) was
-    ∙ (append_assoc first (file_entries mean f [] (map decl_shown (take i ds))) (entry_of mean f [] (decl_shown d) (decl_shown d).form)
-    ∙ ap (λ l. first ++ l) (sym (flat_item decl_shown (λ t. entry_of mean f [] t t.form) ds i d lt is))))
+    ∙ (ap (λ l. l ++ entry_by also mean f [] (decl_shown d) (decl_shown d).form) was
+    ∙ (append_assoc first (file_entries_by also mean f [] (map decl_shown (take i ds))) (entry_by also mean f [] (decl_shown d) (decl_shown d).form)
+    ∙ ap (λ l. first ++ l) (sym (flat_item decl_shown (λ t. entry_by also mean f [] t t.form) ds i d lt is))))
 
 pub methods_step : (mean : Meaning) (f : InFile) (ds : List TopDecl) (i : ℕ) (d : TopDecl) (first old new : List Entry) → i < length ds → d ≡ get_or ds i d → old ≡ all_gaining (file_methods mean f (map decl_shown (take i ds))) first
     → new ≡ all_gaining (decl_methods mean f (decl_shown d) (decl_shown d).form) old → new ≡ all_gaining (file_methods mean f (map decl_shown (take (i + 1) ds))) first
@@ -120,12 +125,17 @@ methods_step mean f ds i d first old new lt is was e =
     ∙ (sym (all_gaining_both (file_methods mean f (map decl_shown (take i ds))) rs first)
     ∙ ap (λ l. all_gaining l first) (sym (flat_item decl_shown (λ t. decl_methods mean f t t.form) ds i d lt is))))
 
-pub entries_step : (means : Meanings) (path : List ℕ) (os : List Outline) (i : ℕ) (o : Outline) (old new : List Entry) → i < length os → o ≡ get_or os i o → old ≡ entries_with means path [] (map outline_shown (take i os))
-    → new ≡ old ++ file_entries (means i) (file_at path i (outline_shown o)) [] (outline_shown o).decls → new ≡ entries_with means path [] (map outline_shown (take (i + 1) os))
-entries_step means path os i o old new lt is was e =
+pub entries_step : (also : Bool) (means : Meanings) (path : List ℕ) (os : List Outline) (i : ℕ) (o : Outline) (old new : List Entry) → i < length os → o ≡ get_or os i o → old ≡ entries_by also means path [] (map outline_shown (take i os))
+    → new ≡ old ++ file_entries_by also (means i) (file_at path i (outline_shown o)) [] (outline_shown o).decls → new ≡ entries_by also means path [] (map outline_shown (take (i + 1) os))
+entries_step also means path os i o old new lt is was e =
     e
-    ∙ (ap (λ l. l ++ file_entries (means i) (file_at path i (outline_shown o)) [] (outline_shown o).decls) was
-    ∙ sym (flat_more outline_shown (λ p. file_entries (means p.0) (file_at path p.0 p.1) [] p.1.decls) os i o lt is))
+    ∙ (ap (λ l. l ++ file_entries_by also (means i) (file_at path i (outline_shown o)) [] (outline_shown o).decls) was
+    ∙ sym (flat_more outline_shown (λ p. file_entries_by also (means p.0) (file_at path p.0 p.1) [] p.1.decls) os i o lt is))
+
+pub entries_read : (also : Bool) (means : Meanings) (path : List ℕ) (os : List Outline) (i : ℕ) (o : Outline) (ds : List TopDecl) (old new : List Entry) → i < length os → o ≡ get_or os i o → old ≡ entries_by also means path [] (map outline_shown (take i os))
+    → new ≡ old ++ file_entries_by also (means i) (file_at path i (outline_shown o)) [] (map decl_shown ds) → ds ≡ o.decls.items → new ≡ entries_by also means path [] (map outline_shown (take (i + 1) os))
+entries_read also means path os i o ds old new lt is was e same =
+    entries_step also means path os i o old new lt is was (e ∙ ap (λ l. old ++ file_entries_by also (means i) (file_at path i (outline_shown o)) [] (map decl_shown l)) same)
 
 pub package_step : (means : Meanings) (path : List ℕ) (os : List Outline) (i : ℕ) (o : Outline) (bare old new : List Entry) → i < length os → o ≡ get_or os i o → old ≡ all_gaining (package_methods means path (map outline_shown (take i os))) bare
     → new ≡ all_gaining (file_methods (means i) (file_at path i (outline_shown o)) (outline_shown o).decls) old → new ≡ all_gaining (package_methods means path (map outline_shown (take (i + 1) os))) bare
@@ -144,3 +154,7 @@ entries_done means path os i bare all end is e =
     ∙ (ap (λ l. all_gaining (package_methods means path (map outline_shown l)) bare) (take_all i os end)
     ∙ (ap (all_gaining (package_methods means path (map outline_shown os))) is
     ∙ entries_gain means path (package_methods means path (map outline_shown os)) (map outline_shown os)))
+
+-- all types and aliases
+pub all_done : (also : Bool) (means : Meanings) (path : List ℕ) (os : List Outline) (n : ℕ) (now : List Entry) → length os ≤ n → now ≡ entries_by also means path [] (map outline_shown (take n os)) → now ≡ entries_by also means path [] (map outline_shown os)
+all_done also means path os n now le h = h ∙ ap (λ l. entries_by also means path [] (map outline_shown l)) (take_all n os le)

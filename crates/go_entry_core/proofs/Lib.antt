@@ -10,3 +10,4 @@ pub mod Receiving
 pub mod Scoping
 pub mod Shown
 pub mod Worked
+pub mod Targeting

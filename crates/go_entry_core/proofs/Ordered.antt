@@ -1,9 +1,10 @@
 -- The keys of a package's entries rise.
-use Rattle.std.proofs.Common.{◌≡◌, ℕ, ◌+◌, ◌<◌, ◌≤◌, ◌⊎◌, inl, inr, true, ◌&&◌, ◌||◌, List, [], ◌∷◌, ◌++◌, map, All, refl, sym, ap, ◌∙◌, subst, arith}
+use Rattle.std.proofs.Common.{◌≡◌, ℕ, ◌+◌, ◌<◌, ◌≤◌, ◌⊎◌, inl, inr, Bool, true, false, ◌&&◌, ◌||◌, List, [], ◌∷◌, ◌++◌, map, All, refl, sym, ap, ◌∙◌, subst, arith}
 use Rattle.std.specs.Prelude.{nat_eq, nat_lt, ⊤}
 use Rattle.std.specs.List.{flat_map, enumerate_from}
 use Rattle.std.proofs.lemmas.Bool.{and_from, or_left, or_right, eq-eqb, lt-ltb}
 use Rattle.std.proofs.lemmas.List.Elements.{All-head, All-tail}
+use Rattle.go_tree_nodes.specs.Trees.{TypeSpecTree}
 use Rattle.go_written_core.specs.decl_core.declared.keys.DeclRef.{DeclRef}
 use Rattle.go_written_core.specs.decl_core.TopDecls.{TopDeclTree, FormTree, ValueForm, TypeForm, FuncForm, top_decls}
 use Rattle.go_written_core.specs.decl_core.Outer.{Outer, Manner, Whole, Part, Embedded, outer_names}
@@ -12,7 +13,8 @@ use Rattle.go_written_core.specs.decl_core.Numbers.{numbers_are_places}
 use Rattle.go_table_core.specs.Entries.{Entry}
 use Rattle.go_table_core.specs.Tables.{AreOf, KeysRise}
 use Rattle.go_written_core.specs.Written.{InFile, Meaning}
-use Rattle.go_entry_core.specs.Entries.{Received, Meanings, entry_of, file_at, file_entries, entries_with}
+use Rattle.go_entry_core.specs.Entries.{Received, Meanings, spec_entry, is_listed, listed_entry, entry_by, file_entries_by, entries_by, file_at, entries_with}
+use Rattle.go_entry_core.specs.Marks.{alias_mark}
 use Rattle.go_entry_core.specs.Outlines.{FileOutline, IsOutline}
 
 -- numbers that rise from one on
@@ -66,23 +68,29 @@ keys_next_file : (file n : ℕ) (es : List Entry) → KeysFrom (file + 1) 0 es �
 keys_next_file file n [] h = tt
 keys_next_file file n (e ∷ es) h = (from_next_file file n e.key.decl h.0, h.1)
 
-decl_keys : (mean : Meaning) (f : InFile) (rs : List Received) (d : TopDeclTree) (form : FormTree) (ds : List TopDeclTree) (n : ℕ) (rest : List Entry) → n ≤ d.number → KeysFrom f.file (d.number + 1) (file_entries mean f rs ds ++ rest) → KeysFrom f.file n (entry_of mean f rs d form ++ file_entries mean f rs ds ++ rest)
-decl_keys mean f rs d (ValueForm k v i) ds n rest le h = keys_earlier f.file (d.number + 1) n (file_entries mean f rs ds ++ rest) (omega (arith, le)) h
-decl_keys mean f rs d (TypeForm t) ds n rest le h = (inr (refl, le), h)
-decl_keys mean f rs d (FuncForm g) ds n rest le h = keys_earlier f.file (d.number + 1) n (file_entries mean f rs ds ++ rest) (omega (arith, le)) h
+module _ (also : Bool) where
+  listed_keys : (mean : Meaning) (f : InFile) (rs : List Received) (d : TopDeclTree) (t : TypeSpecTree) (b : Bool) (ds : List TopDeclTree) (n : ℕ) (rest : List Entry) → n ≤ d.number → KeysFrom f.file (d.number + 1) (file_entries_by also mean f rs ds ++ rest)
+      → KeysFrom f.file n (listed_entry b (spec_entry mean f rs d t) ++ file_entries_by also mean f rs ds ++ rest)
+  listed_keys mean f rs d t true ds n rest le h = (inr (refl, le), h)
+  listed_keys mean f rs d t false ds n rest le h = keys_earlier f.file (d.number + 1) n (file_entries_by also mean f rs ds ++ rest) (omega (arith, le)) h
 
-file_keys : (mean : Meaning) (f : InFile) (rs : List Received) (ds : List TopDeclTree) (n : ℕ) (rest : List Entry) → NumbersFrom n ds → KeysFrom (f.file + 1) 0 rest → KeysFrom f.file n (file_entries mean f rs ds ++ rest)
-file_keys mean f rs [] n rest h g = keys_next_file f.file n rest g
-file_keys mean f rs (d ∷ ds) n rest h g = decl_keys mean f rs d d.form ds n rest h.0 (file_keys mean f rs ds (d.number + 1) rest h.1 g)
+  decl_keys : (mean : Meaning) (f : InFile) (rs : List Received) (d : TopDeclTree) (form : FormTree) (ds : List TopDeclTree) (n : ℕ) (rest : List Entry) → n ≤ d.number → KeysFrom f.file (d.number + 1) (file_entries_by also mean f rs ds ++ rest) → KeysFrom f.file n (entry_by also mean f rs d form ++ file_entries_by also mean f rs ds ++ rest)
+  decl_keys mean f rs d (ValueForm k v i) ds n rest le h = keys_earlier f.file (d.number + 1) n (file_entries_by also mean f rs ds ++ rest) (omega (arith, le)) h
+  decl_keys mean f rs d (TypeForm t) ds n rest le h = listed_keys mean f rs d t (is_listed also (alias_mark t)) ds n rest le h
+  decl_keys mean f rs d (FuncForm g) ds n rest le h = keys_earlier f.file (d.number + 1) n (file_entries_by also mean f rs ds ++ rest) (omega (arith, le)) h
 
-files_keys : (means : Meanings) (path : List ℕ) (rs : List Received) (k : ℕ) (os : List FileOutline) → All IsOutline os → KeysFrom k 0 (flat_map (λ p. file_entries (means p.0) (file_at path p.0 p.1) rs p.1.decls) (enumerate_from k os))
-files_keys means path rs k [] all = tt
-files_keys means path rs k (o ∷ os) all =
-    file_keys (means k) (file_at path k o) rs o.decls 0 (flat_map (λ p. file_entries (means p.0) (file_at path p.0 p.1) rs p.1.decls) (enumerate_from (k + 1) os))
-    (outline_rises o (All-head IsOutline o os all)) (files_keys means path rs (k + 1) os (All-tail IsOutline o os all))
+  file_keys : (mean : Meaning) (f : InFile) (rs : List Received) (ds : List TopDeclTree) (n : ℕ) (rest : List Entry) → NumbersFrom n ds → KeysFrom (f.file + 1) 0 rest → KeysFrom f.file n (file_entries_by also mean f rs ds ++ rest)
+  file_keys mean f rs [] n rest h g = keys_next_file f.file n rest g
+  file_keys mean f rs (d ∷ ds) n rest h g = decl_keys mean f rs d d.form ds n rest h.0 (file_keys mean f rs ds (d.number + 1) rest h.1 g)
+
+  files_keys : (means : Meanings) (path : List ℕ) (rs : List Received) (k : ℕ) (os : List FileOutline) → All IsOutline os → KeysFrom k 0 (flat_map (λ p. file_entries_by also (means p.0) (file_at path p.0 p.1) rs p.1.decls) (enumerate_from k os))
+  files_keys means path rs k [] all = tt
+  files_keys means path rs k (o ∷ os) all =
+      file_keys (means k) (file_at path k o) rs o.decls 0 (flat_map (λ p. file_entries_by also (means p.0) (file_at path p.0 p.1) rs p.1.decls) (enumerate_from (k + 1) os))
+      (outline_rises o (All-head IsOutline o os all)) (files_keys means path rs (k + 1) os (All-tail IsOutline o os all))
 
 pub entries_keys : (means : Meanings) (path : List ℕ) (rs : List Received) (os : List FileOutline) → All IsOutline os → KeysFrom 0 0 (entries_with means path rs os)
-entries_keys means path rs os all = files_keys means path rs 0 os all
+entries_keys means path rs os all = files_keys false means path rs 0 os all
 
 pub before_next : (a b : DeclRef) → IsFrom a.file (a.number + 1) b → (nat_lt a.file b.file || (nat_eq a.file b.file && nat_lt a.number b.number)) ≡ true
 before_next a b h = elim h [
@@ -103,20 +111,33 @@ keys_rise file n (e ∷ f ∷ es) h = (before_next e.key.decl f.key.decl h.1.0, 
 pub entries_rise : (means : Meanings) (path : List ℕ) (rs : List Received) (os : List FileOutline) → All IsOutline os → KeysRise (entries_with means path rs os)
 entries_rise means path rs os all = keys_rise 0 0 (entries_with means path rs os) (entries_keys means path rs os all)
 
--- and have its path
+-- and where aliases count also
+pub all_rise : (means : Meanings) (path : List ℕ) (rs : List Received) (os : List FileOutline) → All IsOutline os → KeysRise (entries_by true means path rs os)
+all_rise means path rs os all = keys_rise 0 0 (entries_by true means path rs os) (files_keys true means path rs 0 os all)
 
-decl_own : (mean : Meaning) (f : InFile) (rs : List Received) (d : TopDeclTree) (form : FormTree) (ds : List TopDeclTree) (rest : List Entry) → AreOf f.path (file_entries mean f rs ds ++ rest) → AreOf f.path (entry_of mean f rs d form ++ file_entries mean f rs ds ++ rest)
-decl_own mean f rs d (ValueForm k v i) ds rest h = h
-decl_own mean f rs d (TypeForm t) ds rest h = (refl, h)
-decl_own mean f rs d (FuncForm g) ds rest h = h
+-- they have its path
 
-file_own : (mean : Meaning) (f : InFile) (rs : List Received) (ds : List TopDeclTree) (rest : List Entry) → AreOf f.path rest → AreOf f.path (file_entries mean f rs ds ++ rest)
-file_own mean f rs [] rest g = g
-file_own mean f rs (d ∷ ds) rest g = decl_own mean f rs d d.form ds rest (file_own mean f rs ds rest g)
+module _ (also : Bool) where
+  listed_own : (mean : Meaning) (f : InFile) (rs : List Received) (d : TopDeclTree) (t : TypeSpecTree) (b : Bool) (ds : List TopDeclTree) (rest : List Entry) → AreOf f.path (file_entries_by also mean f rs ds ++ rest)
+      → AreOf f.path (listed_entry b (spec_entry mean f rs d t) ++ file_entries_by also mean f rs ds ++ rest)
+  listed_own mean f rs d t true ds rest h = (refl, h)
+  listed_own mean f rs d t false ds rest h = h
 
-files_own : (means : Meanings) (path : List ℕ) (rs : List Received) (k : ℕ) (os : List FileOutline) → AreOf path (flat_map (λ p. file_entries (means p.0) (file_at path p.0 p.1) rs p.1.decls) (enumerate_from k os))
-files_own means path rs k [] = tt
-files_own means path rs k (o ∷ os) = file_own (means k) (file_at path k o) rs o.decls (flat_map (λ p. file_entries (means p.0) (file_at path p.0 p.1) rs p.1.decls) (enumerate_from (k + 1) os)) (files_own means path rs (k + 1) os)
+  decl_own : (mean : Meaning) (f : InFile) (rs : List Received) (d : TopDeclTree) (form : FormTree) (ds : List TopDeclTree) (rest : List Entry) → AreOf f.path (file_entries_by also mean f rs ds ++ rest) → AreOf f.path (entry_by also mean f rs d form ++ file_entries_by also mean f rs ds ++ rest)
+  decl_own mean f rs d (ValueForm k v i) ds rest h = h
+  decl_own mean f rs d (TypeForm t) ds rest h = listed_own mean f rs d t (is_listed also (alias_mark t)) ds rest h
+  decl_own mean f rs d (FuncForm g) ds rest h = h
+
+  file_own : (mean : Meaning) (f : InFile) (rs : List Received) (ds : List TopDeclTree) (rest : List Entry) → AreOf f.path rest → AreOf f.path (file_entries_by also mean f rs ds ++ rest)
+  file_own mean f rs [] rest g = g
+  file_own mean f rs (d ∷ ds) rest g = decl_own mean f rs d d.form ds rest (file_own mean f rs ds rest g)
+
+  files_own : (means : Meanings) (path : List ℕ) (rs : List Received) (k : ℕ) (os : List FileOutline) → AreOf path (flat_map (λ p. file_entries_by also (means p.0) (file_at path p.0 p.1) rs p.1.decls) (enumerate_from k os))
+  files_own means path rs k [] = tt
+  files_own means path rs k (o ∷ os) = file_own (means k) (file_at path k o) rs o.decls (flat_map (λ p. file_entries_by also (means p.0) (file_at path p.0 p.1) rs p.1.decls) (enumerate_from (k + 1) os)) (files_own means path rs (k + 1) os)
 
 pub entries_own : (means : Meanings) (path : List ℕ) (rs : List Received) (os : List FileOutline) → AreOf path (entries_with means path rs os)
-entries_own means path rs os = files_own means path rs 0 os
+entries_own means path rs os = files_own false means path rs 0 os
+
+pub all_own : (means : Meanings) (path : List ℕ) (rs : List Received) (os : List FileOutline) → AreOf path (entries_by true means path rs os)
+all_own means path rs os = files_own true means path rs 0 os

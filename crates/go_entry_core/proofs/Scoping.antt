@@ -10,16 +10,16 @@ use Rattle.go_scope_core.specs.block_core.Tables.{in_block}
 use Rattle.go_scope_core.specs.Models.{scopes_model}
 use Rattle.go_scope_core.specs.Scopes.{Universe}
 use Rattle.go_scope_core.proofs.Lookups.{by_parts, in_scope}
-use Rattle.go_entry_core.specs.Meanings.{Shows, outside_meaning, plain_meaning, qualified_meaning, type_in_binding, type_of_universe}
+use Rattle.go_entry_core.specs.Meanings.{Shown, outside_meaning, plain_meaning, qualified_meaning, type_in_binding, type_of_universe, through}
 use Rattle.go_entry_core.specs.Scoped.{type_denoted, type_behind, NamesAreInScope}
 
 universe_case : (path : List ℕ) (u : Option Predeclared) → type_of_universe path u ≡ type_denoted path (option_map Universe u)
 universe_case path None = refl
 universe_case path (Some p) = refl
 
-behind_universe : (shows : Shows) (name : List ℕ) (u : Option Predeclared) → type_in_binding shows name None ≡ type_behind shows name (option_map Universe u)
-behind_universe shows name None = refl
-behind_universe shows name (Some p) = refl
+behind_universe : (shown : Shown) (name : List ℕ) (u : Option Predeclared) → type_in_binding shown name None ≡ type_behind shown name (option_map Universe u)
+behind_universe shown name None = refl
+behind_universe shown name (Some p) = refl
 
 -- a name that the package block has is none of the file's
 no_binding : (b : BlocksModel) (file : ℕ) (name : List ℕ) (d : DeclRef) → in_block b.names name ≡ Some d → file_binding b file name ≡ None
@@ -31,18 +31,18 @@ plain_case path b file name (Some d) (Some x) h k = (let no : None ≡ Some x = 
 plain_case path b file name None (Some x) h k = ap (outside_meaning path name) k
 plain_case path b file name None None h k = ap (outside_meaning path name) k ∙ universe_case path (found name)
 
-qualified_case : (shows : Shows) (b : BlocksModel) (file : ℕ) (qualifier name : List ℕ) (p : Option DeclRef) (f : Option Binding) → in_block b.names qualifier ≡ p → file_binding b file qualifier ≡ f → qualified_meaning shows b file qualifier name p ≡ type_behind shows name (by_parts None f p (found qualifier))
-qualified_case shows b file qualifier name (Some d) None h k = refl
-qualified_case shows b file qualifier name (Some d) (Some x) h k = (let no : None ≡ Some x = sym (no_binding b file qualifier d h) ∙ k in cc)
-qualified_case shows b file qualifier name None (Some x) h k = ap (type_in_binding shows name) k
-qualified_case shows b file qualifier name None None h k = ap (type_in_binding shows name) k ∙ behind_universe shows name (found qualifier)
+qualified_case : (shown : Shown) (b : BlocksModel) (file : ℕ) (qualifier name : List ℕ) (p : Option DeclRef) (f : Option Binding) → in_block b.names qualifier ≡ p → file_binding b file qualifier ≡ f → qualified_meaning shown b file qualifier name p ≡ type_behind shown name (by_parts None f p (found qualifier))
+qualified_case shown b file qualifier name (Some d) None h k = refl
+qualified_case shown b file qualifier name (Some d) (Some x) h k = (let no : None ≡ Some x = sym (no_binding b file qualifier d h) ∙ k in cc)
+qualified_case shown b file qualifier name None (Some x) h k = ap (type_in_binding shown name) k
+qualified_case shown b file qualifier name None None h k = ap (type_in_binding shown name) k ∙ behind_universe shown name (found qualifier)
 
 pub names_are_in_scope : NamesAreInScope
 names_are_in_scope = record {
   plain = λ shows path b file x.
-      plain_case path b file x.name (in_block b.names x.name) (file_binding b file x.name) refl refl
-      ∙ sym (ap (type_denoted path) (in_scope (scopes_model b file []) x.name));
+      ap (through shows.target) (plain_case path b file x.name (in_block b.names x.name) (file_binding b file x.name) refl refl
+      ∙ sym (ap (type_denoted path) (in_scope (scopes_model b file []) x.name)));
   qualified = λ shows path b file q dot x.
-      qualified_case shows b file q.name x.name (in_block b.names q.name) (file_binding b file q.name) refl refl
-      ∙ sym (ap (type_behind shows x.name) (in_scope (scopes_model b file []) q.name));
+      ap (through shows.target) (qualified_case shows.shown b file q.name x.name (in_block b.names q.name) (file_binding b file q.name) refl refl
+      ∙ sym (ap (type_behind shows.shown x.name) (in_scope (scopes_model b file []) q.name)));
 }

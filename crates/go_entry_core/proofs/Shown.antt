@@ -1,21 +1,19 @@
 -- Tables of what packages show.
 use Rattle.std.proofs.Common.{◌≡◌, ℕ, suc, ◌+◌, ◌<◌, Bool, true, false, List, [], ◌∷◌, ◌++◌, map, length, get_or, set, Option, Some, None, cond, refl, sym, ap, ◌∙◌, arith}
-use Rattle.std.specs.Prelude.{string_bytes, if◌then◌else◌}
+use Rattle.std.specs.Prelude.{if◌then◌else◌}
 use Rattle.std.specs.Str.{bytes_eq, chars}
-use Rattle.std.specs.String.{string_eq}
-use Rattle.std.specs.HashMap.{HashMap, get_by_text, Updates}
 use Rattle.std.specs.List.{position_from}
-use Rattle.std.specs.declared.string.String.{String}
 use Rattle.std.proofs.lemmas.Bool.{true≢false, false_from_ne_true}
 use Rattle.std.proofs.lemmas.Slice.Eq.{bytes_eq-Decides}
-use Rattle.std.proofs.lemmas.Map.Text.{hash_map_updates_text}
+use Rattle.std.proofs.lemmas.List.{map-append, length-map}
 use Rattle.go_text_core.specs.Text.{exported}
+use Rattle.go_named_core.specs.Named.{value_at}
 use Rattle.go_written_core.specs.decl_core.declared.keys.DeclRef.{DeclRef}
 use Rattle.go_scope_core.specs.block_core.Blocks.{exports_of}
 use Rattle.go_scope_core.specs.block_core.Exports.{ExportsModel, exports_model, exported_names}
 use Rattle.go_scope_core.specs.block_core.Tables.{in_block}
 use Rattle.go_entry_core.specs.Showing.{names_shown, shown_in, with_shown, ShowsItsBlock, KeepsOthers}
-use Rattle.go_entry_core.specs.mirrors.Indexing.{AreNumbered, number_of}
+use Rattle.go_entry_core.specs.mirrors.Indexing.{AreNumbered, number_of, numbered}
 
 -- equal texts
 
@@ -73,14 +71,22 @@ found (p ∷ ps) path k n d h = by (bytes_eq path p.path) refl h (found ps path 
 pub number_within : (ps : List ExportsModel) (path : List ℕ) (n : ℕ) → number_of ps path ≡ Some n → n < length ps
 number_within ps path n h = let f = found ps path 0 n (exports_model [] [] []) h in omega (arith, f.is, f.within)
 
+value_numbered : (k : ℕ) (paths : List (List ℕ)) (path : List ℕ) → value_at (numbered k paths) path ≡ position_from (bytes_eq path) k paths
+value_numbered k [] path = refl
+value_numbered k (p ∷ paths) path = ap (λ o. cond (bytes_eq path p) (Some k) o) (value_numbered (k + 1) paths path)
+
+-- the number of a path is what the table has
+pub number_found : (numbers : List (List ℕ × ℕ)) (ps : List ExportsModel) (path : List ℕ) → AreNumbered numbers ps → value_at numbers path ≡ number_of ps path
+number_found numbers ps path are = ap (λ l. value_at l path) are ∙ value_numbered 0 (paths_of ps) path
+
 -- another package takes its place
-pub numbered_again : {Y S : Type 0} (numbers : HashMap (String Y) ℕ S) (ps : List ExportsModel) (path : List ℕ) (n : ℕ) (e : ExportsModel) → AreNumbered numbers ps → number_of ps path ≡ Some n → path ≡ e.path
+pub numbered_again : (numbers : List (List ℕ × ℕ)) (ps : List ExportsModel) (path : List ℕ) (n : ℕ) (e : ExportsModel) → AreNumbered numbers ps → number_of ps path ≡ Some n → path ≡ e.path
     → (set ps n e ≡ with_shown ps e) × AreNumbered numbers (set ps n e)
 numbered_again numbers ps path n e before h is =
     let f = found ps path 0 n e h in
     let same : f.place ≡ n = omega (arith, f.is) in (
       sym (f.put e is ∙ ap (λ (m : ℕ). set ps m e) same),
-      (λ q. before q ∙ ap (position_from (bytes_eq q) 0) (sym (f.paths e is) ∙ ap (λ (m : ℕ). paths_of (set ps m e)) same)),
+      before ∙ ap (numbered 0) (sym (f.paths e is) ∙ ap (λ (m : ℕ). paths_of (set ps m e)) same),
     )
 
 -- a package whose path has none goes last
@@ -94,34 +100,20 @@ last_shown (p ∷ ps) e k h = by (bytes_eq e.path p.path) refl h (last_shown ps 
     by true t none rest = cc
     by false t none rest = ap (λ (l : List ExportsModel). p ∷ l) (rest none) ∙ sym (ap (λ b. if b then e ∷ ps else p ∷ with_shown ps e) t)
 
-last_numbered : (ps : List ExportsModel) (e : ExportsModel) (q : List ℕ) (k : ℕ) → position_from (bytes_eq e.path) k (paths_of ps) ≡ None
-    → position_from (bytes_eq q) k (paths_of (ps ++ e ∷ [])) ≡ cond (bytes_eq e.path q) (Some (k + length ps)) (position_from (bytes_eq q) k (paths_of ps))
-last_numbered [] e q k h =
-    let none : k ≡ k + 0 = omega arith in
-    ap (λ b. cond b (Some k) None) (text_turned q e.path) ∙ ap (λ (n : ℕ). cond (bytes_eq e.path q) (Some n) None) none
-last_numbered (p ∷ ps) e q k h = by (bytes_eq e.path p.path) (bytes_eq q p.path) refl refl h (last_numbered ps e q (k + 1))
-  where
-    by : (a b : Bool) → bytes_eq e.path p.path ≡ a → bytes_eq q p.path ≡ b → cond a (Some k) (position_from (bytes_eq e.path) (k + 1) (paths_of ps)) ≡ None
-        → (position_from (bytes_eq e.path) (k + 1) (paths_of ps) ≡ None → position_from (bytes_eq q) (k + 1) (paths_of (ps ++ e ∷ [])) ≡ cond (bytes_eq e.path q) (Some (k + 1 + length ps)) (position_from (bytes_eq q) (k + 1) (paths_of ps)))
-        → cond b (Some k) (position_from (bytes_eq q) (k + 1) (paths_of (ps ++ e ∷ []))) ≡ cond (bytes_eq e.path q) (Some (k + suc (length ps))) (cond b (Some k) (position_from (bytes_eq q) (k + 1) (paths_of ps)))
-    by true b s t none rest = cc
-    by false true s t none rest =
-        let other : bytes_eq e.path q ≡ false = text_apart e.path q (λ same. true≢false (sym t ∙ (ap (λ (r : List ℕ). bytes_eq r p.path) (sym same) ∙ s))) in
-        sym (ap (λ c. cond c (Some (k + suc (length ps))) (Some k)) other)
-    by false false s t none rest =
-        let one : k + 1 + length ps ≡ k + suc (length ps) = omega arith in
-        rest none ∙ ap (λ (n : ℕ). cond (bytes_eq e.path q) (Some n) (position_from (bytes_eq q) (k + 1) (paths_of ps))) one
+numbered_more : (k : ℕ) (paths : List (List ℕ)) (last : List ℕ) (n : ℕ) → n ≡ k + length paths → numbered k paths ++ (last, n) ∷ [] ≡ numbered k (paths ++ last ∷ [])
+numbered_more k [] last n at = let same : n ≡ k = omega (arith, at) in ap (λ (m : ℕ). (last, m) ∷ []) same
+numbered_more k (p ∷ paths) last n at = let at' : n ≡ k + 1 + length paths = omega (arith, at) in ap (λ (l : List (List ℕ × ℕ)). (p, k) ∷ l) (numbered_more (k + 1) paths last n at')
 
-pub numbered_last : {Y S : Type 0} (old new : HashMap (String Y) ℕ S) (ps : List ExportsModel) (key : String Y) (n : ℕ) (e : ExportsModel) → AreNumbered old ps → string_bytes key ≡ e.path → n ≡ length ps → number_of ps e.path ≡ None
-    → Updates string_eq old new key (Some n) → (ps ++ e ∷ [] ≡ with_shown ps e) × AreNumbered new (ps ++ e ∷ [])
-numbered_last old new ps key n e before is count none adds = (
+pub numbered_last : (old new : List (List ℕ × ℕ)) (ps : List ExportsModel) (path : List ℕ) (n : ℕ) (e : ExportsModel) → AreNumbered old ps → path ≡ e.path → n ≡ length ps → number_of ps e.path ≡ None → new ≡ old ++ (path, n) ∷ []
+    → (ps ++ e ∷ [] ≡ with_shown ps e) × AreNumbered new (ps ++ e ∷ [])
+numbered_last old new ps path n e before is count none more = (
   last_shown ps e 0 none,
-  (λ q.
-      let first : n ≡ 0 + length ps = omega (arith, count) in
-      hash_map_updates_text (string_bytes key) old new (Some n) adds q
-      ∙ (ap (λ (k : List ℕ). cond (bytes_eq k q) (Some n) (get_by_text old q)) is
-      ∙ (ap (λ (o : Option ℕ). cond (bytes_eq e.path q) (Some n) o) (before q)
-      ∙ (ap (λ (m : ℕ). cond (bytes_eq e.path q) (Some m) (number_of ps q)) first ∙ sym (last_numbered ps e q 0 none))))),
+  (let size : length (paths_of ps) ≡ length ps = length-map ps (λ p. p.path) in
+      let first : n ≡ 0 + length (paths_of ps) = omega (arith, count, size) in
+      more
+      ∙ (ap (λ (l : List (List ℕ × ℕ)). l ++ (path, n) ∷ []) before
+      ∙ (ap (λ (q : List ℕ). numbered 0 (paths_of ps) ++ (q, n) ∷ []) is
+      ∙ (numbered_more 0 (paths_of ps) e.path n first ∙ ap (numbered 0) (sym (map-append (λ (p : ExportsModel). p.path) ps (e ∷ []))))))),
 )
 
 -- what the package of a path shows

@@ -1,9 +1,9 @@
 -- The types that a package declares, as they are written.
-use Rattle.std.specs.Prelude.{ℕ, Bool, false, List, [], ◌∷◌, Option, Some, None, is_some, map}
+use Rattle.std.specs.Prelude.{ℕ, Bool, true, false, not, ◌||◌, List, [], ◌∷◌, Option, Some, None, is_some, map}
 use Rattle.std.specs.List.{filter, flat_map, enumerate_from}
+use Rattle.go_text_core.specs.declared.span.Span.{Span}
 use Rattle.go_tree_nodes.specs.declared.files.Receiver.{Receiver}
 use Rattle.go_tree_nodes.specs.Trees.{FuncTree, TypeSpecTree}
-use Rattle.go_written_core.specs.decl_core.declared.places.DeclKind.{DeclKind}
 use Rattle.go_written_core.specs.decl_core.declared.places.DeclKind.TheVariants as kinds
 use Rattle.go_written_core.specs.decl_core.declared.keys.DeclKey.{DeclKey}
 use Rattle.go_written_core.specs.decl_core.TopDecls.{TopDeclTree, FormTree, ValueForm, TypeForm, FuncForm}
@@ -13,7 +13,8 @@ use Rattle.go_term_core.specs.declared.term.MemberPlace.TheVariants as places
 use Rattle.go_term_core.specs.Terms.{Term, Defined}
 use Rattle.go_table_core.specs.Entries.{Entry, Member, same_key}
 use Rattle.go_written_core.specs.Written.{InFile, Meaning, term_of, signature_of}
-use Rattle.go_entry_core.specs.Meanings.{Shows, file_meaning}
+use Rattle.go_entry_core.specs.Marks.{alias_mark}
+use Rattle.go_entry_core.specs.Meanings.{Shown, Shows, declared_alone, file_meaning}
 use Rattle.go_entry_core.specs.Outlines.{FileOutline}
 use Rattle.go_scope_core.specs.block_core.Declarations.{decl_ref}
 
@@ -81,18 +82,37 @@ methods_received k rs = map (λ r. r.member) (filter (λ r. is_type_of k r.base)
 abbrev pub spec_entry : Meaning → InFile → List Received → TopDeclTree → TypeSpecTree → Entry
 spec_entry mean f rs d t = record { key = type_key f d.number; name = d.ident.name; term = term_of mean f t.type_expr; methods = methods_received (type_key f d.number) rs }
 
+-- whether a type declaration counts: an alias where aliases count also
+abbrev pub is_listed : Bool → Option Span → Bool
+is_listed also mark = also || not (is_some mark)
+
+abbrev pub listed_entry : Bool → Entry → List Entry
+listed_entry true e = e ∷ []
+listed_entry false e = []
+
+-- what a declaration declares, where types count alone or aliases also
+abbrev pub entry_by : Bool → Meaning → InFile → List Received → TopDeclTree → FormTree → List Entry
+entry_by also mean f rs d (ValueForm k v i) = []
+entry_by also mean f rs d (TypeForm t) = listed_entry (is_listed also (alias_mark t)) (spec_entry mean f rs d t)
+entry_by also mean f rs d (FuncForm g) = []
+
+abbrev pub file_entries_by : Bool → Meaning → InFile → List Received → List TopDeclTree → List Entry
+file_entries_by also mean f rs ds = flat_map (λ d. entry_by also mean f rs d d.form) ds
+
+abbrev pub entries_by : Bool → Meanings → List ℕ → List Received → List FileOutline → List Entry
+entries_by also means path rs os = flat_map (λ p. file_entries_by also (means p.0) (file_at path p.0 p.1) rs p.1.decls) (enumerate_from 0 os)
+
+-- a type that is declared; an alias declares none
 abbrev pub entry_of : Meaning → InFile → List Received → TopDeclTree → FormTree → List Entry
-entry_of mean f rs d (ValueForm k v i) = []
-entry_of mean f rs d (TypeForm t) = spec_entry mean f rs d t ∷ []
-entry_of mean f rs d (FuncForm g) = []
+entry_of mean f rs d form = entry_by false mean f rs d form
 
 -- the types of a file, in order of number
 abbrev pub file_entries : Meaning → InFile → List Received → List TopDeclTree → List Entry
-file_entries mean f rs ds = flat_map (λ d. entry_of mean f rs d d.form) ds
+file_entries mean f rs ds = file_entries_by false mean f rs ds
 
 -- the types of the files of a package, in order of file and number, with their methods among these
 abbrev pub entries_with : Meanings → List ℕ → List Received → List FileOutline → List Entry
-entries_with means path rs os = flat_map (λ p. file_entries (means p.0) (file_at path p.0 p.1) rs p.1.decls) (enumerate_from 0 os)
+entries_with means path rs os = entries_by false means path rs os
 
 -- what names of types mean at the top of the files of the package of a path with these blocks
 abbrev pub package_meanings : Shows → List ℕ → BlocksModel → Meanings
@@ -104,3 +124,8 @@ abbrev pub declared_entries : Shows → List ℕ → BlocksModel → List FileOu
 declared_entries shows path b os =
     let means : Meanings = package_meanings shows path b in
     entries_with means path (package_methods means path os) os
+
+-- all types and aliases that the package of a path declares, in order of file and number, without methods, where each name means the declaration
+-- that it denotes
+abbrev pub all_entries : Shown → List ℕ → BlocksModel → List FileOutline → List Entry
+all_entries shown path b os = entries_by true (package_meanings (declared_alone shown) path b) path [] os

@@ -1,5 +1,5 @@
 -- Laws of the types that a package declares.
-use Rattle.std.specs.Prelude.{◌≡◌, ◌↔◌, ◌&&◌, ◌||◌, ℕ, List, Some, nat_eq, nat_lt, slice_get, map, true, All, AllPairs, Contains}
+use Rattle.std.specs.Prelude.{◌≡◌, ◌↔◌, ◌&&◌, ◌||◌, ℕ, List, Some, None, nat_eq, nat_lt, slice_get, map, true, All, AllPairs, Contains}
 use Rattle.go_tree_nodes.specs.declared.files.Receiver.{Receiver}
 use Rattle.go_tree_nodes.specs.declared.types.TypeName.{TypeName}
 use Rattle.go_tree_nodes.specs.Trees.{FuncTree, TypeSpecTree}
@@ -11,6 +11,7 @@ use Rattle.go_term_core.specs.declared.term.MemberPlace.TheVariants as places
 use Rattle.go_term_core.specs.Terms.{Term, Defined}
 use Rattle.go_table_core.specs.Entries.{Entry, Member}
 use Rattle.go_table_core.specs.Tables.{AreOf, KeysRise}
+use Rattle.go_entry_core.specs.Marks.{alias_mark}
 use Rattle.go_entry_core.specs.Meanings.{Shows, file_meaning}
 use Rattle.go_entry_core.specs.Outlines.{FileOutline, IsOutline}
 use Rattle.go_entry_core.specs.Entries.{declared_entries, type_key, method_of, file_at}
@@ -22,7 +23,7 @@ IsDeclaredInFile os n o d = (slice_get os n ≡ Some o) × Contains o.decls d
 
 -- keys
 
--- the key of a type that is declared in a file of the package
+-- the key of a type that is declared in a file of the package, and is no alias
 pub record IsTypeKey (path : List ℕ) (os : List FileOutline) (k : DeclKey) : Type 0 where
   pub file : ℕ
   pub outline : FileOutline
@@ -30,6 +31,7 @@ pub record IsTypeKey (path : List ℕ) (os : List FileOutline) (k : DeclKey) : T
   pub there : IsDeclaredInFile os file outline decl
   pub spec : TypeSpecTree
   pub form : decl.form ≡ TypeForm spec
+  pub defined : alias_mark spec ≡ None
   pub key : k ≡ type_key (file_at path file outline) decl.number
 
 -- the keys of the entries are those of the package's type declarations, in order of file and number, and no two are the same

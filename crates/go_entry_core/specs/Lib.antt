@@ -1,5 +1,6 @@
 pub mod Entries
 pub mod Laws
+pub mod Marks
 pub mod Meanings
 pub mod Names
 pub mod Outlines

@@ -3,7 +3,7 @@ use Rattle.std.specs.Prelude.{◌≡◌, ℕ, Bool, true, false, List, [], ◌�
 use Rattle.go_tree_nodes.specs.declared.names.Ident.{Ident}
 use Rattle.go_tree_nodes.specs.declared.types.TypeName.TheVariants as type_names
 use Rattle.go_tree_nodes.specs.Trees.{One, TypeTree, Struct, NoFields, NamedFields, EmbeddedField, NoLines, Types, Func, Single, TopTree, FileTree}
-use Rattle.go_tree_nodes.specs.Samples.{at, int_at, called}
+use Rattle.go_tree_nodes.specs.Samples.{at, int_at, called, type_spec_of}
 use Rattle.go_written_core.specs.decl_core.declared.keys.DeclKey.{DeclKey}
 use Rattle.go_written_core.specs.decl_core.declared.places.DeclKind.{DeclKind}
 use Rattle.go_written_core.specs.decl_core.declared.places.DeclKind.TheVariants as kinds
@@ -16,7 +16,7 @@ use Rattle.go_term_core.specs.declared.term.MemberPlace.TheVariants as places
 use Rattle.go_term_core.specs.Terms.{Predeclared, Defined, StructOf, NoField, AField, Sign, SignOf, NoTerm, ATerm}
 use Rattle.go_table_core.specs.Entries.{Entry, Member}
 use Rattle.go_entry_core.specs.Entries.{declared_entries}
-use Rattle.go_entry_core.specs.Meanings.{Shows}
+use Rattle.go_entry_core.specs.Meanings.{Shows, declared_alone}
 use Rattle.go_entry_core.specs.Outlines.{outline_of}
 use Rattle.go_scope_core.specs.block_core.Declarations.{decl_ref}
 
@@ -25,7 +25,7 @@ sample_file decls = record { clause = at 0; name = called (codes "p") 1; semicol
 
 -- a declaration of one type
 abbrev pub type_top : ℕ → Ident → TypeTree → ℕ → TopTree
-type_top keyword name t semicolon = top (Types (record { keyword = at keyword; specs = Single (record { name = name; type_expr = t }) })) semicolon
+type_top keyword name t semicolon = top (Types (record { keyword = at keyword; specs = Single (type_spec_of name t) })) semicolon
 
 -- type T struct { U; a int }
 abbrev pub entry_sample_struct : TopTree
@@ -53,7 +53,7 @@ entry_sample_blocks = blocks_model ((codes "T", decl_ref 0 0 kinds.«Type») ∷
 
 -- the key of that type differs from the first type's by its path alone
 abbrev pub entry_sample_shows : Shows
-entry_sample_shows = λ path name. Some (decl_ref 0 0 kinds.«Type»)
+entry_sample_shows = declared_alone (λ path name. Some (decl_ref 0 0 kinds.«Type»))
 
 abbrev pub entry_sample_key : ℕ → ℕ → DeclKey
 entry_sample_key file number = record { path = codes "p"; decl = decl_ref file number kinds.«Type» }

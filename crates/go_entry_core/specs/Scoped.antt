@@ -8,7 +8,7 @@ use Rattle.go_scope_core.specs.Laws.{denotes}
 use Rattle.go_scope_core.specs.Models.{scopes_model}
 use Rattle.go_scope_core.specs.Scopes.{Denoted, Universe, Package, File, Local}
 use Rattle.go_term_core.specs.Terms.{Term, NoType}
-use Rattle.go_entry_core.specs.Meanings.{Shows, file_meaning, type_in_target, type_of_key, type_of_predeclared, type_of_target}
+use Rattle.go_entry_core.specs.Meanings.{Shown, Shows, file_meaning, through, type_in_target, type_of_key, type_of_predeclared, type_of_target}
 use Rattle.go_scope_core.specs.block_core.Bindings.{key_of}
 
 -- what a name denotes in a file outside functions: the declaration of it in the innermost of the universe block, the package block and the
@@ -25,14 +25,14 @@ type_denoted path (Some (File b)) = type_of_target b.target
 type_denoted path (Some (Local id)) = NoType
 
 -- the type that a name is behind a dot, where what stands before the dot denotes this: only a package shows names
-abbrev pub type_behind : Shows → List ℕ → Option Denoted → Term
-type_behind shows name None = NoType
-type_behind shows name (Some (Universe p)) = NoType
-type_behind shows name (Some (Package d)) = NoType
-type_behind shows name (Some (File b)) = type_in_target shows name b.target
-type_behind shows name (Some (Local id)) = NoType
+abbrev pub type_behind : Shown → List ℕ → Option Denoted → Term
+type_behind shown name None = NoType
+type_behind shown name (Some (Universe p)) = NoType
+type_behind shown name (Some (Package d)) = NoType
+type_behind shown name (Some (File b)) = type_in_target shown name b.target
+type_behind shown name (Some (Local id)) = NoType
 
--- a name of a type means what it denotes
+-- a name of a type means what it denotes, and where that is an alias, its target
 pub record NamesAreInScope : Type 0 where
-  pub plain : (shows : Shows) (path : List ℕ) (b : BlocksModel) (file : ℕ) (x : Ident) → file_meaning shows path b file (type_names.Plain x) ≡ type_denoted path (denoted_at_top b file x.name)
-  pub qualified : (shows : Shows) (path : List ℕ) (b : BlocksModel) (file : ℕ) (q : Ident) (dot : Span) (x : Ident) → file_meaning shows path b file (type_names.Qualified q dot x) ≡ type_behind shows x.name (denoted_at_top b file q.name)
+  pub plain : (shows : Shows) (path : List ℕ) (b : BlocksModel) (file : ℕ) (x : Ident) → file_meaning shows path b file (type_names.Plain x) ≡ through shows.target (type_denoted path (denoted_at_top b file x.name))
+  pub qualified : (shows : Shows) (path : List ℕ) (b : BlocksModel) (file : ℕ) (q : Ident) (dot : Span) (x : Ident) → file_meaning shows path b file (type_names.Qualified q dot x) ≡ through shows.target (type_behind shows.shown x.name (denoted_at_top b file q.name))

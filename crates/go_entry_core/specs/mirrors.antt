@@ -1,2 +1,3 @@
 pub mod Gaining
 pub mod Indexing
+pub mod Targeted

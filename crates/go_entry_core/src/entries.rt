@@ -5,10 +5,12 @@ ghost use Rattle.go_tree_nodes.specs.Shapes.{shape_type_spec};
 ghost use Rattle.go_table_core.specs.Shown.{entry_shown};
 ghost use Rattle.go_table_core.specs.Tables.{AreOf, KeysRise};
 ghost use Rattle.go_written_core.specs.Written.{in_file};
-ghost use Rattle.go_entry_core.specs.Entries.{declared_entries, entries_with, entry_of, file_entries, package_meanings, spec_entry};
+ghost use Rattle.go_entry_core.specs.Entries.{all_entries, declared_entries, entries_with, entry_by, file_entries_by, is_listed, listed_entry, package_meanings, spec_entry};
+ghost use Rattle.go_entry_core.specs.Marks.{alias_mark};
 ghost use Rattle.go_entry_core.specs.Outlines.{IsOutline, outline_shown};
 
-use crate::file_names::{FileNames, ImportedNames};
+use crate::file_names::{DeclaredNames, FileNames, ImportedNames};
+use crate::marks::is_listed;
 use crate::methods::add_methods;
 use go_scope_core::block_core::Blocks;
 use go_table_core::TypeEntry;
@@ -45,38 +47,56 @@ fn write_entry<N: TypeNames>(
     })
 }
 
-// Adds what a declaration declares, where that is a type.
+// Adds a type, or an alias where aliases count also.
+fn add_spec<N: TypeNames>(
+    alloc: Global,
+    names: &N,
+    at: &WrittenIn<'_>,
+    decl: &TopDecl<'_>,
+    spec: &TypeSpec,
+    also: bool,
+    entries: &mut Vec<TypeEntry>,
+) -> Result<(), AllocError>
+    ensures { OnOk result (map entry_shown entries.new.items ≡ map entry_shown entries.old.items ++ listed_entry (is_listed also (alias_mark (shape_type_spec spec.now))) (spec_entry (N.meaning names.now) (in_file at.now) [] (decl_shown decl.now) (shape_type_spec spec.now))) }
+{
+    if !is_listed(also, spec) {
+        return Ok(());
+    }
+    let entry = write_entry(alloc, names, at, decl, spec)?;
+    add(entries, entry)
+}
+
+// Adds what a declaration declares, where that is a type, or an alias where aliases count also.
 fn add_type<N: TypeNames>(
     alloc: Global,
     names: &N,
     at: &WrittenIn<'_>,
     decl: &TopDecl<'_>,
+    also: bool,
     entries: &mut Vec<TypeEntry>,
 ) -> Result<(), AllocError>
-    ensures { OnOk result (map entry_shown entries.new.items ≡ map entry_shown entries.old.items ++ entry_of (N.meaning names.now) (in_file at.now) [] (decl_shown decl.now) (decl_shown decl.now).form) }
+    ensures { OnOk result (map entry_shown entries.new.items ≡ map entry_shown entries.old.items ++ entry_by also (N.meaning names.now) (in_file at.now) [] (decl_shown decl.now) (decl_shown decl.now).form) }
 {
     match decl.form {
-        DeclForm::Type(spec) => {
-            let entry = write_entry(alloc, names, at, decl, spec)?;
-            add(entries, entry)
-        }
+        DeclForm::Type(spec) => add_spec(alloc, names, at, decl, spec, also, entries),
         DeclForm::Value(_, _, _) => Ok(()),
         DeclForm::Func(_) => Ok(()),
     }
 }
 
-// Adds the types that a file declares.
+// Adds the types that a file declares, and its aliases where they count also.
 fn add_types<N: TypeNames>(
     alloc: Global,
     names: &N,
     at: &WrittenIn<'_>,
     decls: &[TopDecl<'_>],
+    also: bool,
     entries: &mut Vec<TypeEntry>,
 ) -> Result<(), AllocError>
-    ensures { OnOk result (map entry_shown entries.new.items ≡ map entry_shown entries.old.items ++ file_entries (N.meaning names.now) (in_file at.now) [] (map decl_shown decls.now)) }
+    ensures { OnOk result (map entry_shown entries.new.items ≡ map entry_shown entries.old.items ++ file_entries_by also (N.meaning names.now) (in_file at.now) [] (map decl_shown decls.now)) }
 {
     for decl in decls {
-        add_type(alloc, names, at, decl, entries)?;
+        add_type(alloc, names, at, decl, also, entries)?;
     }
     Ok(())
 }
@@ -101,7 +121,41 @@ fn bare_entries<P: ImportedNames>(
         };
         let places = &outline.places;
         let at = WrittenIn { path, file, places };
-        add_types(alloc, &names, &at, &outline.decls, &mut entries)?;
+        add_types(alloc, &names, &at, &outline.decls, false, &mut entries)?;
+    }
+    Ok(entries)
+}
+
+/// The types and the aliases that the package of a path declares outside functions, in order of file and number, each with what is written of
+/// it and without methods, where each name means the declaration that it denotes: one that denotes an alias means the alias. `outlines` has one
+/// for each file of the package in order of name, as `outlines` of this crate makes them. The Go specification, "Type declarations".
+///
+/// # Errors
+///
+/// `AllocError` where memory is wanting.
+pub fn all_types<P: ImportedNames>(
+    alloc: Global,
+    path: &ImportPath,
+    blocks: &Blocks,
+    imported: &P,
+    outlines: &[Outline<'_>],
+) -> Result<Vec<TypeEntry>, AllocError>
+    requires { All IsOutline (map outline_shown outlines.now) }
+    ensures entries { IfOk result (λ es. map entry_shown es.items ≡ all_entries (P.shows imported.now).shown path.now blocks.now (map outline_shown outlines.now)) }
+    ensures own { IfOk result (λ es. AreOf path.now (map entry_shown es.items)) }
+    ensures rising { IfOk result (λ es. KeysRise (map entry_shown es.items)) }
+{
+    let mut entries = Vec::new(alloc);
+    for (file, outline) in outlines.iter().enumerate() {
+        let names = DeclaredNames {
+            path,
+            blocks,
+            file,
+            imported,
+        };
+        let places = &outline.places;
+        let at = WrittenIn { path, file, places };
+        add_types(alloc, &names, &at, &outline.decls, true, &mut entries)?;
     }
     Ok(entries)
 }

@@ -7,16 +7,18 @@ mod entries;
 mod file_names;
 mod files;
 mod laws;
+mod marks;
 mod methods;
 mod shown_packages;
 
-pub use entries::type_entries;
-pub use file_names::{FileNames, ImportedNames};
+pub use entries::{all_types, type_entries};
+pub use file_names::{DeclaredNames, FileNames, ImportedNames};
 pub use files::outlines;
 pub use laws::{
     entries_are_local, entry_keys_differ, methods_are_of_the_type, names_are_in_scope,
     packages_show_their_blocks, worked_entries,
 };
+pub use marks::is_alias;
 pub use shown_packages::ShownPackages;
 
 /// What the crates above name of `go_block_core`.

@@ -4,11 +4,12 @@ ghost use Rattle.go_entry_core.specs.Showing.{shown_in, with_shown};
 ghost use Rattle.go_entry_core.specs.mirrors.Indexing.{number_of};
 
 use crate::file_names::ImportedNames;
-use go_scope_core::block_core::{DeclRef, Exports};
+use go_named_core::NameTable;
+use go_scope_core::block_core::{DeclKey, DeclRef, Exports};
+use go_term_core::TypeTerm;
 use go_text_core::is_exported;
 use go_written_core::path_core::ImportPath;
 use std::alloc::{AllocError, Global};
-use std::collections::HashMap;
 use std::marker::Model;
 
 /// What packages show, by their paths. For each package it holds one handle of what the package shows, and copies no name. Contracts see what
@@ -16,7 +17,7 @@ use std::marker::Model;
 pub struct ShownPackages {
     packages: Vec<Exports>,
     /// The number of the package of each path.
-    numbers: HashMap<String, usize>,
+    numbers: NameTable<usize>,
 }
 
 impl Drop for ShownPackages {
@@ -40,7 +41,7 @@ impl Model for ShownPackages {
 
     ghost view = { λ s. s.packages.items };
 
-    ghost invariant = { λ s. AreNumbered s.numbers s.packages.items };
+    ghost invariant = { λ s. AreNumbered s.numbers.names s.packages.items };
 }
 
 impl ShownPackages {
@@ -50,7 +51,7 @@ impl ShownPackages {
     {
         ShownPackages {
             packages: Vec::new(alloc),
-            numbers: HashMap::new(alloc),
+            numbers: NameTable::new(alloc),
         }
     }
 
@@ -58,7 +59,7 @@ impl ShownPackages {
     fn number(&self, path: &ImportPath) -> Option<usize>
         ensures { result ≡ number_of self.now path.now }
     {
-        self.numbers.get(path.as_str()).copied()
+        self.numbers.find(path.as_str()).copied()
     }
 
     /// Adds what a package shows, behind the other packages or in place of what was there under the package's path. The time that it takes does not
@@ -76,18 +77,19 @@ impl ShownPackages {
             self.packages[number] = exports;
             return Ok(());
         }
-        let path = String::from_str(alloc, exports.path().as_str())?;
         self.packages.reserve(1)?;
-        self.numbers.insert(path, self.packages.len())?;
+        let number = self.packages.len();
+        self.numbers.add(alloc, exports.path().as_str(), number)?;
         self.packages.push(exports)?;
         Ok(())
     }
 }
 
 impl ImportedNames for ShownPackages {
+    ghost use Rattle.go_entry_core.specs.Meanings.{declared_alone};
     ghost use Rattle.go_entry_core.specs.Showing.{shown_in};
 
-    ghost shows = { shown_in };
+    ghost shows = { λ s. declared_alone (shown_in s) };
 
     /// The declaration of a name that the package of a path shows: an exported one. It takes no memory.
     fn shown(&self, path: &ImportPath, name: &str) -> Option<DeclRef> {
@@ -98,5 +100,10 @@ impl ImportedNames for ShownPackages {
             Some(number) => self.packages[number].decl(name),
             None => None,
         }
+    }
+
+    /// The type of the declaration itself, also where it is an alias.
+    fn target(&self, _alloc: Global, key: &DeclKey) -> Result<TypeTerm, AllocError> {
+        Ok(TypeTerm::Defined(key.share()?))
     }
 }

@@ -48,7 +48,7 @@ pub mod denote_core {
 /// What the crates above name of `go_entry_core`.
 pub mod entry_core {
     pub use go_face_core::entry_core::{
-        FileNames, ImportedNames, ShownPackages, outlines, type_entries,
+        FileNames, ImportedNames, ShownPackages, all_types, outlines, type_entries,
     };
 }
 
@@ -59,7 +59,9 @@ pub mod expr_core {
 
 /// What the crates above name of `go_face_core`.
 pub mod face_core {
-    pub use go_face_core::{Face, FaceTable, ShownFace, WrittenFaces, hold, lend, written_faces};
+    pub use go_face_core::{
+        Face, FaceTable, ShownFace, TypesHere, WrittenFaces, hold, lend, written_faces,
+    };
 }
 
 /// What the crates above name of `go_handle_core`.

@@ -16,7 +16,7 @@ use go_term_core::TypeTerm;
 use go_text_core::Rule;
 use go_top_core::denote_core::Selection;
 use std::alloc::Global;
-use std::collections::HashMap;
+use std::collections::BTreeMap;
 use std::marker::PhantomData;
 
 /// A survey may go over so many times what the selections before it went over.
@@ -48,7 +48,7 @@ struct Asked<'p, K: TypesOf> {
 /// What is known of the selections from the types of a table.
 #[derive(Drop)]
 pub(crate) struct AskedTypes<'p, K: TypesOf> {
-    types: HashMap<Place<'p>, Asked<'p, K>>,
+    types: BTreeMap<Place<'p>, Asked<'p, K>>,
     // How much all surveys went over at most.
     held: usize,
 }
@@ -197,7 +197,7 @@ impl<'p, K: TypesOf> AskedTypes<'p, K> {
     /// No selection is known.
     pub(crate) fn new(alloc: Global) -> AskedTypes<'p, K> {
         AskedTypes {
-            types: HashMap::new(alloc),
+            types: BTreeMap::new(alloc),
             held: 0,
         }
     }

@@ -9,7 +9,7 @@ use go_term_core::TypeTerm;
 const STEPS: usize = 8;
 
 /// How many only embedded fields lead to a type, with the last of them; of none, all is 0.
-#[derive(Clone, Copy, PartialEq, Eq, Hash)]
+#[derive(Clone, Copy, PartialEq, Eq, PartialOrd, Ord)]
 struct Way {
     steps: usize,
     position: usize,
@@ -18,7 +18,7 @@ struct Way {
 
 /// Where selections are looked up: by a declared type to which only embedded fields lead, with the path of its package and the place of its
 /// declaration there, and the way to it.
-#[derive(Clone, Copy, PartialEq, Eq, Hash)]
+#[derive(Clone, Copy, PartialEq, Eq, PartialOrd, Ord)]
 pub(crate) struct Place<'p> {
     path: &'p str,
     file: usize,

@@ -13,6 +13,7 @@ use Rattle.go_face_core.specs.Packages.{DeclaredOf, PackageFacesModel, as_seen, 
 use Rattle.go_face_core.specs.Showing.{FacesAreFound, FacesShowTheirBlock, TablesShowTheirPackages}
 use Rattle.go_face_core.specs.Written.{same_decl_place}
 use Rattle.go_face_core.proofs.Placed.{same_itself}
+use Rattle.go_face_core.proofs.Placing.{in_both}
 use Rattle.go_face_core.proofs.Places.{at_among}
 use Rattle.go_face_core.proofs.Searching.{held_by, held_at, number_at}
 
@@ -40,14 +41,6 @@ or_first None b c = refl
 or_first (Some x) b c = refl
 
 module _ {X : Type 0} where
-  in_both : (xs ys : List (List ℕ × X)) (name : List ℕ) → in_block (xs ++ ys) name ≡ or_else (in_block xs name) (in_block ys name)
-  in_both [] ys name = refl
-  in_both (x ∷ xs) ys name = by (bytes_eq name x.0) (in_both xs ys name)
-    where
-      by : (b : Bool) → in_block (xs ++ ys) name ≡ or_else (in_block xs name) (in_block ys name) → cond b (Some x.1) (in_block (xs ++ ys) name) ≡ or_else (cond b (Some x.1) (in_block xs name)) (in_block ys name)
-      by true rest = refl
-      by false rest = rest
-
   in_first : (seen : List (List ℕ × X)) (n : List ℕ) (x : X) (name : List ℕ) → in_block (with_first seen n x) name ≡ or_else (in_block seen name) (in_block ((n, x) ∷ []) name)
   in_first seen n x name = by (has seen n) refl
     where

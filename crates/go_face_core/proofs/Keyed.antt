@@ -1,12 +1,9 @@
 -- Tables of what packages show.
 use Rattle.std.proofs.Common.{◌≡◌, ℕ, suc, ◌+◌, ◌<◌, Bool, true, false, List, [], ◌∷◌, ◌++◌, length, get_or, set, Option, Some, None, cond, refl, sym, ap, ◌∙◌, arith}
-use Rattle.std.specs.Prelude.{string_bytes, if◌then◌else◌}
+use Rattle.std.specs.Prelude.{if◌then◌else◌}
 use Rattle.std.specs.Str.{bytes_eq}
-use Rattle.std.specs.String.{string_eq}
-use Rattle.std.specs.HashMap.{HashMap, Updates}
 use Rattle.std.specs.List.{position_from}
 use Rattle.std.specs.Map.{keys_of}
-use Rattle.std.specs.declared.string.String.{String}
 use Rattle.std.proofs.lemmas.List.{length-map, map-append, map-set, set-get_or, get_or-map}
 use Rattle.go_face_core.specs.Packages.{PackageFacesModel, package_faces, package_in, with_faces}
 use Rattle.go_face_core.specs.mirrors.Tables.{ArePlaced, keyed, place_of}
@@ -60,7 +57,7 @@ put (p ∷ ps) q k n h = by (bytes_eq q.path p.path) refl h (put ps q (k + 1) n)
       ap (λ (l : List PackageFacesModel). p ∷ l) behind.2 ∙ sym (ap (λ b. if b then q ∷ ps else p ∷ with_faces ps q) t),
     ))
 
-pub placed_again : {Y S : Type 0} (places : HashMap (String Y) ℕ S) (ps : List PackageFacesModel) (n : ℕ) (q : PackageFacesModel) → ArePlaced places (keyed ps) → place_of (keyed ps) q.path ≡ Some n
+pub placed_again : (places : List (List ℕ × ℕ)) (ps : List PackageFacesModel) (n : ℕ) (q : PackageFacesModel) → ArePlaced places (keyed ps) → place_of (keyed ps) q.path ≡ Some n
     → (set ps n q ≡ with_faces ps q) × ArePlaced places (keyed (set ps n q))
 placed_again places ps n q before h =
     let p = put ps q 0 n h in
@@ -86,11 +83,11 @@ last (p ∷ ps) q k h = by (bytes_eq q.path p.path) refl h (last ps q (k + 1))
     by true t none rest = cc
     by false t none rest = ap (λ (l : List PackageFacesModel). p ∷ l) (rest none) ∙ sym (ap (λ b. if b then q ∷ ps else p ∷ with_faces ps q) t)
 
-pub placed_more : {Y S : Type 0} (old new : HashMap (String Y) ℕ S) (ps : List PackageFacesModel) (key : String Y) (n : ℕ) (q : PackageFacesModel) → ArePlaced old (keyed ps) → string_bytes key ≡ q.path → n ≡ length ps → place_of (keyed ps) q.path ≡ None
-    → Updates string_eq old new key (Some n) → (ps ++ q ∷ [] ≡ with_faces ps q) × ArePlaced new (keyed (ps ++ q ∷ []))
-placed_more old new ps key n q before is count none adds =
+pub placed_more : (old new : List (List ℕ × ℕ)) (ps : List PackageFacesModel) (path : List ℕ) (n : ℕ) (q : PackageFacesModel) → ArePlaced old (keyed ps) → path ≡ q.path → n ≡ length ps → place_of (keyed ps) q.path ≡ None
+    → new ≡ old ++ (path, n) ∷ [] → (ps ++ q ∷ [] ≡ with_faces ps q) × ArePlaced new (keyed (ps ++ q ∷ []))
+placed_more old new ps path n q before is count none adds =
     let size = length-map ps entry in
-    let more = placed_last old new (keyed ps) key n (q.path, q) before is (omega (arith, count, size)) none adds in (
+    let more = placed_last old new (keyed ps) path n (q.path, q) before is (omega (arith, count, size)) adds in (
       last ps q 0 none,
-      (λ path. more path ∙ ap (λ (es : List (List ℕ × PackageFacesModel)). place_of es path) (sym (map-append entry ps (q ∷ [])))),
+      (λ other. more other ∙ ap (λ (es : List (List ℕ × PackageFacesModel)). place_of es other) (sym (map-append entry ps (q ∷ [])))),
     )

@@ -3,6 +3,7 @@ pub mod Displaying
 pub mod Keyed
 pub mod Listing
 pub mod Locality
+pub mod OwnTypes
 pub mod Placed
 pub mod Places
 pub mod Placing

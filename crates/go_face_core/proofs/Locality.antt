@@ -3,6 +3,7 @@ use Rattle.std.proofs.Common.{◌≡◌, ℕ, inl, inr, not, List, [], ◌∷◌
 use Rattle.std.specs.Prelude.{slice_get, Contains}
 use Rattle.std.specs.List.{flat_map, enumerate_from}
 use Rattle.std.proofs.lemmas.List.Elements.{Contains-push}
+use Rattle.go_text_core.specs.declared.span.Span.{Span}
 use Rattle.go_tree_nodes.specs.declared.decls.ValueKind.{ValueKind}
 use Rattle.go_tree_nodes.specs.declared.decls.ValueKind.TheVariants as value_kinds
 use Rattle.go_tree_nodes.specs.declared.types.TypeName.{TypeName}
@@ -19,14 +20,15 @@ use Rattle.go_entry_core.specs.written_core.Written.{InFile, Meaning, term_of, s
 use Rattle.go_entry_core.specs.written_core.ByNames.{written_by_names}
 use Rattle.go_handle_core.specs.decide_core.Rules.{typed}
 use Rattle.go_entry_core.specs.Entries.{file_at, type_key}
+use Rattle.go_entry_core.specs.Marks.{alias_mark}
 use Rattle.go_entry_core.specs.Meanings.{Shows, file_meaning}
 use Rattle.go_entry_core.specs.Outlines.{FileOutline}
 use Rattle.go_entry_core.proofs.Among.{Among, among_from, among_to, flat_among, among_numbered}
 use Rattle.go_face_core.specs.declared.face.Face.TheVariants as faces
 use Rattle.go_face_core.specs.Faces.{variable_face}
 use Rattle.go_face_core.specs.Laws.{LookAlike, MeanAlikeInFaces, WrittenAreLocal}
-use Rattle.go_face_core.specs.Names.{value_names, face_names, names_faced}
-use Rattle.go_face_core.specs.Written.{type_written, value_as_written, form_as_written, written_of, file_written, package_written}
+use Rattle.go_face_core.specs.Names.{value_names, alias_names, face_names, names_faced}
+use Rattle.go_face_core.specs.Written.{type_written, value_as_written, declared_face, form_as_written, written_of, file_written, package_written}
 use Rattle.go_entry_core.specs.block_core.Declarations.{decl_ref}
 use Rattle.go_handle_core.specs.table_core.Entries.{kinds_in}
 use Rattle.go_tree_nodes.specs.TypeNames.{type_names_in, signature_names_in}
@@ -93,11 +95,15 @@ module _ (es fs : List Entry) where
     value_alike value_kinds.Var None m l = refl
     value_alike value_kinds.Const t m l = refl
 
+    declared_alike : (n : ℕ) (mark : Option Span) (t : TypeTree) → find_entry es (type_key f n) ≡ find_entry fs (type_key f n) → Means (alias_names mark t) → Looks (alias_names mark t)
+        → declared_face mark mean f es n t ≡ declared_face mark other f fs n t
+    declared_alike n None t own m l = ap (λ (o : Option Entry). faces.«Type» (if not (is_no_type (term_in o)) then Some (Defined (type_key f n)) else None)) own
+    declared_alike n (Some mark) t own m l = ap (λ (u : Option Term). faces.«Type» u) (type_alike t m l)
+
     form_alike : (n : ℕ) (form : FormTree) → ((t : TypeSpecTree) → form ≡ TypeForm t → find_entry es (type_key f n) ≡ find_entry fs (type_key f n)) → Means (face_names form) → Looks (face_names form)
         → form_as_written mean f es n form ≡ form_as_written other f fs n form
     form_alike n (ValueForm k v i) own m l = value_alike k v.type_expr m l
-    form_alike n (TypeForm t) own m l =
-        ap (λ (o : Option Entry). Some (faces.«Type» (if not (is_no_type (term_in o)) then Some (Defined (type_key f n)) else None))) (own t refl)
+    form_alike n (TypeForm t) own m l = ap Some (declared_alike n (alias_mark t) t.type_expr (own t refl) m l)
     form_alike n (FuncForm g) own m l = ap (λ s. Some (faces.Func s)) (signature_alike g.signature m l)
 
     decl_alike : (d : TopDeclTree) → ((t : TypeSpecTree) → d.form ≡ TypeForm t → find_entry es (type_key f d.number) ≡ find_entry fs (type_key f d.number)) → Means (face_names d.form) → Looks (face_names d.form)

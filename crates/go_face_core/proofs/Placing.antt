@@ -1,31 +1,16 @@
 -- Tables that have things by their names: the places of names in a list.
-use Rattle.std.proofs.Common.{◌≡◌, ℕ, suc, ◌+◌, ◌<◌, Bool, true, false, List, [], ◌∷◌, ◌++◌, length, get_or, Option, Some, None, is_some, cond, refl, sym, ap, ◌∙◌, arith}
-use Rattle.std.specs.Prelude.{string_bytes, if◌then◌else◌}
+use Rattle.std.proofs.Common.{◌≡◌, ℕ, suc, ◌+◌, ◌<◌, Bool, true, false, List, [], ◌∷◌, ◌++◌, length, get_or, Option, Some, None, cond, refl, sym, ap, ◌∙◌, arith}
 use Rattle.std.specs.Str.{bytes_eq}
-use Rattle.std.specs.String.{string_eq}
-use Rattle.std.specs.HashMap.{HashMap, get_by_text, Updates}
 use Rattle.std.specs.List.{position_from}
 use Rattle.std.specs.Map.{keys_of}
-use Rattle.std.specs.declared.string.String.{String}
-use Rattle.std.proofs.lemmas.Bool.{true≢false, false_from_ne_true}
 use Rattle.std.proofs.lemmas.List.{length-map, map-append}
 use Rattle.std.proofs.lemmas.Slice.Eq.{bytes_eq-Decides}
-use Rattle.std.proofs.lemmas.Map.Text.{hash_map_updates_text}
-use Rattle.go_entry_core.specs.block_core.Tables.{in_block, with_first}
+use Rattle.go_open_core.specs.Blocks.{or_else}
+use Rattle.go_entry_core.specs.block_core.Tables.{in_block}
 use Rattle.go_face_core.specs.mirrors.Tables.{place_of, ArePlaced}
 
-pub same_text : (a b : List ℕ) → bytes_eq a b ≡ true → a ≡ b
+same_text : (a b : List ℕ) → bytes_eq a b ≡ true → a ≡ b
 same_text a b h = (bytes_eq-Decides a b).0 h
-
-text_apart : (a b : List ℕ) → (a ≡ b → ⊥) → bytes_eq a b ≡ false
-text_apart a b h = false_from_ne_true (bytes_eq a b) (λ yes. h (same_text a b yes))
-
-text_turned : (a b : List ℕ) → bytes_eq a b ≡ bytes_eq b a
-text_turned a b = by (bytes_eq a b) refl
-  where
-    by : (c : Bool) → bytes_eq a b ≡ c → c ≡ bytes_eq b a
-    by true h = sym ((bytes_eq-Decides b a).1 (sym (same_text a b h)))
-    by false h = sym (text_apart b a (λ same. true≢false (sym ((bytes_eq-Decides a b).1 (sym same)) ∙ h)))
 
 -- a name that is there, by its place
 
@@ -69,49 +54,34 @@ place_within es name n d h = let f = found es name 0 n d h in omega (arith, f.is
 
 -- a name more goes last
 
-last_place : (ks : List (List ℕ)) (name q : List ℕ) (k : ℕ) → position_from (bytes_eq name) k ks ≡ None → position_from (bytes_eq q) k (ks ++ name ∷ []) ≡ cond (bytes_eq name q) (Some (k + length ks)) (position_from (bytes_eq q) k ks)
-last_place [] name q k h =
-    let none : k ≡ k + 0 = omega arith in
-    ap (λ b. cond b (Some k) None) (text_turned q name) ∙ ap (λ (n : ℕ). cond (bytes_eq name q) (Some n) None) none
-last_place (x ∷ ks) name q k h = by (bytes_eq name x) (bytes_eq q x) refl refl h (last_place ks name q (k + 1))
+pub in_both : {X : Type 0} (xs ys : List (List ℕ × X)) (name : List ℕ) → in_block (xs ++ ys) name ≡ or_else (in_block xs name) (in_block ys name)
+in_both [] ys name = refl
+in_both {X} (x ∷ xs) ys name = by (bytes_eq name x.0) (in_both xs ys name)
   where
-    by : (a b : Bool) → bytes_eq name x ≡ a → bytes_eq q x ≡ b → cond a (Some k) (position_from (bytes_eq name) (k + 1) ks) ≡ None
-        → (position_from (bytes_eq name) (k + 1) ks ≡ None → position_from (bytes_eq q) (k + 1) (ks ++ name ∷ []) ≡ cond (bytes_eq name q) (Some (k + 1 + length ks)) (position_from (bytes_eq q) (k + 1) ks))
-        → cond b (Some k) (position_from (bytes_eq q) (k + 1) (ks ++ name ∷ [])) ≡ cond (bytes_eq name q) (Some (k + suc (length ks))) (cond b (Some k) (position_from (bytes_eq q) (k + 1) ks))
-    by true b s t none rest = cc
-    by false true s t none rest =
-        let other : bytes_eq name q ≡ false = text_apart name q (λ same. true≢false (sym t ∙ (ap (λ (r : List ℕ). bytes_eq r x) (sym same) ∙ s))) in
-        sym (ap (λ c. cond c (Some (k + suc (length ks))) (Some k)) other)
-    by false false s t none rest =
-        let one : k + 1 + length ks ≡ k + suc (length ks) = omega arith in
-        rest none ∙ ap (λ (n : ℕ). cond (bytes_eq name q) (Some n) (position_from (bytes_eq q) (k + 1) ks)) one
+    by : (b : Bool) → in_block (xs ++ ys) name ≡ or_else (in_block xs name) (in_block ys name) → cond b (Some x.1) (in_block (xs ++ ys) name) ≡ or_else (cond b (Some x.1) (in_block xs name)) (in_block ys name)
+    by true rest = refl
+    by false rest = rest
 
-pub placed_last : {X Y S : Type 0} (old new : HashMap (String Y) ℕ S) (es : List (List ℕ × X)) (key : String Y) (n : ℕ) (x : List ℕ × X) → ArePlaced old es → string_bytes key ≡ x.0 → n ≡ length es → place_of es x.0 ≡ None
-    → Updates string_eq old new key (Some n) → ArePlaced new (es ++ x ∷ [])
-placed_last {X} old new es key n x before is count none adds q =
+last_place : (ks : List (List ℕ)) (name q : List ℕ) (k : ℕ) → position_from (bytes_eq q) k (ks ++ name ∷ []) ≡ or_else (position_from (bytes_eq q) k ks) (cond (bytes_eq q name) (Some (k + length ks)) None)
+last_place [] name q k =
+    let none : k ≡ k + 0 = omega arith in
+    ap (λ (n : ℕ). cond (bytes_eq q name) (Some n) None) none
+last_place (x ∷ ks) name q k = by (bytes_eq q x) (last_place ks name q (k + 1))
+  where
+    by : (b : Bool) → position_from (bytes_eq q) (k + 1) (ks ++ name ∷ []) ≡ or_else (position_from (bytes_eq q) (k + 1) ks) (cond (bytes_eq q name) (Some (k + 1 + length ks)) None)
+        → cond b (Some k) (position_from (bytes_eq q) (k + 1) (ks ++ name ∷ [])) ≡ or_else (cond b (Some k) (position_from (bytes_eq q) (k + 1) ks)) (cond (bytes_eq q name) (Some (k + suc (length ks))) None)
+    by true rest = refl
+    by false rest =
+        let one : k + 1 + length ks ≡ k + suc (length ks) = omega arith in
+        rest ∙ ap (λ (n : ℕ). or_else (position_from (bytes_eq q) (k + 1) ks) (cond (bytes_eq q name) (Some n) None)) one
+
+pub placed_last : {X : Type 0} (old new : List (List ℕ × ℕ)) (es : List (List ℕ × X)) (name : List ℕ) (n : ℕ) (x : List ℕ × X) → ArePlaced old es → name ≡ x.0 → n ≡ length es → new ≡ old ++ (name, n) ∷ [] → ArePlaced new (es ++ x ∷ [])
+placed_last {X} old new es name n x before is count more q =
     let size = length-map es (λ (e : List ℕ × X). e.0) in
     let first : n ≡ 0 + length (keys_of es) = omega (arith, count, size) in
-    hash_map_updates_text (string_bytes key) old new (Some n) adds q
-    ∙ (ap (λ (k : List ℕ). cond (bytes_eq k q) (Some n) (get_by_text old q)) is
-    ∙ (ap (λ (o : Option ℕ). cond (bytes_eq x.0 q) (Some n) o) (before q)
-    ∙ (ap (λ (m : ℕ). cond (bytes_eq x.0 q) (Some m) (place_of es q)) first
-    ∙ (sym (last_place (keys_of es) x.0 q 0 none) ∙ ap (position_from (bytes_eq q) 0) (sym (map-append (λ (e : List ℕ × X). e.0) es (x ∷ [])))))))
-
--- a block with one more name
-
-pub not_there : {X : Type 0} (es : List (List ℕ × X)) (name : List ℕ) → is_some (place_of es name) ≡ false → place_of es name ≡ None
-not_there es name = by (place_of es name)
-  where
-    by : (o : Option ℕ) → is_some o ≡ false → o ≡ None
-    by None h = refl
-    by (Some n) h = absurd (true≢false h)
-
-pub name_there : {X : Type 0} (es : List (List ℕ × X)) (name : List ℕ) (x : X) → is_some (place_of es name) ≡ true → es ≡ with_first es name x
-name_there {X} es name x h = by (place_of es name) refl h
-  where
-    by : (o : Option ℕ) → place_of es name ≡ o → is_some o ≡ true → es ≡ with_first es name x
-    by None at h = absurd (true≢false (sym h))
-    by (Some n) at h = let f = found es name 0 n (name, x) at in sym (ap (λ (o : Option X). if is_some o then es else es ++ (name, x) ∷ []) f.has)
-
-pub name_last : {X : Type 0} (es : List (List ℕ × X)) (name : List ℕ) (x : X) → place_of es name ≡ None → es ++ (name, x) ∷ [] ≡ with_first es name x
-name_last {X} es name x h = sym (ap (λ (o : Option X). if is_some o then es else es ++ (name, x) ∷ []) (missing es name 0 h))
+    ap (λ (l : List (List ℕ × ℕ)). in_block l q) more
+    ∙ (in_both old ((name, n) ∷ []) q
+    ∙ (ap (λ (o : Option ℕ). or_else o (cond (bytes_eq q name) (Some n) None)) (before q)
+    ∙ (ap (λ (k : List ℕ). or_else (place_of es q) (cond (bytes_eq q k) (Some n) None)) is
+    ∙ (ap (λ (m : ℕ). or_else (place_of es q) (cond (bytes_eq q x.0) (Some m) None)) first
+    ∙ (sym (last_place (keys_of es) x.0 q 0) ∙ ap (position_from (bytes_eq q) 0) (sym (map-append (λ (e : List ℕ × X). e.0) es (x ∷ []))))))))

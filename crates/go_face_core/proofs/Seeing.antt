@@ -1,16 +1,33 @@
 -- The names of a package block as other packages see them.
-use Rattle.std.proofs.Common.{◌≡◌, ℕ, ◌<◌, List, [], ◌∷◌, ◌++◌, length, get_or, map, Option, Some, None, refl, sym, ap, ◌∙◌, arith}
-use Rattle.std.proofs.lemmas.List.{length-map, map-append, get_or-map}
+use Rattle.std.proofs.Common.{◌≡◌, ℕ, true, false, List, [], ◌∷◌, ◌++◌, map, Option, Some, None, is_some, refl, sym, ap, ◌∙◌}
+use Rattle.std.specs.Prelude.{if◌then◌else◌}
+use Rattle.std.proofs.lemmas.Bool.{true≢false}
+use Rattle.std.proofs.lemmas.List.{map-append}
 use Rattle.go_entry_core.specs.decl_core.declared.keys.DeclRef.{DeclRef}
 use Rattle.go_entry_core.specs.block_core.declared.exports.NamedDecl.{NamedDecl}
 use Rattle.go_entry_core.specs.block_core.Exports.{name_and_decl}
-use Rattle.go_entry_core.specs.block_core.Tables.{in_block, with_first}
+use Rattle.go_entry_core.specs.block_core.Tables.{has, in_block, with_first}
 use Rattle.go_face_core.specs.Packages.{as_seen, seen_after}
-use Rattle.go_face_core.specs.mirrors.Tables.{named_seen, place_of}
-use Rattle.go_face_core.proofs.Placing.{found, place_within}
 
 abbrev Seen : Type 0
 Seen = List (List ℕ × Option DeclRef)
+
+-- one name more
+
+pub seen_before : (seen : Seen) (name : List ℕ) (x : Option DeclRef) → has seen name ≡ true → seen ≡ with_first seen name x
+seen_before seen name x there = sym (ap (λ b. if b then seen else seen ++ (name, x) ∷ []) there)
+
+pub seen_last : (seen : Seen) (name : List ℕ) (x : Option DeclRef) → has seen name ≡ false → seen ++ (name, x) ∷ [] ≡ with_first seen name x
+seen_last seen name x absent = sym (ap (λ b. if b then seen else seen ++ (name, x) ∷ []) absent)
+
+pub not_seen : (seen : Seen) (name : List ℕ) → has seen name ≡ false → in_block seen name ≡ None
+not_seen seen name = by (in_block seen name)
+  where
+    by : (o : Option (Option DeclRef)) → is_some o ≡ false → o ≡ None
+    by None h = refl
+    by (Some d) h = absurd (true≢false h)
+
+-- the names of a block
 
 seen-push : (seen : Seen) (es : List (List ℕ × DeclRef)) (e : List ℕ × DeclRef) → seen_after seen (es ++ e ∷ []) ≡ with_first (seen_after seen es) e.0 (as_seen e.0 e.1)
 seen-push seen [] e = refl
@@ -21,19 +38,3 @@ seen_step ns n old new was e =
     e
     ∙ (ap (λ (s : Seen). with_first s n.name (as_seen n.name n.decl)) was
     ∙ (sym (seen-push [] (map name_and_decl ns) (name_and_decl n)) ∙ ap (seen_after []) (sym (map-append name_and_decl ns (n ∷ [])))))
-
--- a name by its place
-
-pub seen_within : (ns : List NamedDecl) (name : List ℕ) (n : ℕ) → place_of (map named_seen ns) name ≡ Some n → n < length ns
-seen_within ns name n h =
-    let l = place_within (map named_seen ns) name n ([], None) h in
-    let size = length-map ns named_seen in
-    omega (arith, l, size)
-
-pub seen_there : (ns : List NamedDecl) (name : List ℕ) (n : ℕ) (read : NamedDecl) → place_of (map named_seen ns) name ≡ Some n → read ≡ get_or ns n read → Some (as_seen read.name read.decl) ≡ in_block (map named_seen ns) name
-seen_there ns name n read h is =
-    let f = found (map named_seen ns) name 0 n (named_seen read) h in
-    let same : n ≡ f.place = omega (arith, f.is) in
-    let size = length-map ns named_seen in
-    let at = get_or-map named_seen ns f.place read (named_seen read) (omega (arith, f.within, size)) in
-    ap (λ (x : NamedDecl). Some (as_seen x.name x.decl)) (is ∙ ap (λ (m : ℕ). get_or ns m read) same) ∙ sym (f.has ∙ ap (λ (e : List ℕ × Option DeclRef). Some e.1) at)

@@ -1,5 +1,7 @@
+pub mod AliasSample
 pub mod Faces
 pub mod Held
+pub mod Here
 pub mod Laws
 pub mod Names
 pub mod Packages
@@ -8,6 +10,7 @@ pub mod Showing
 pub mod Written
 pub mod codes
 pub mod mirrors
+pub mod alias_core
 pub mod block_core
 pub mod decide_core
 pub mod embed_core

@@ -4,8 +4,10 @@ use Rattle.std.specs.List.{flat_map}
 use Rattle.go_tree_nodes.specs.declared.decls.ValueKind.{ValueKind}
 use Rattle.go_tree_nodes.specs.declared.decls.ValueKind.TheVariants as value_kinds
 use Rattle.go_tree_nodes.specs.declared.types.TypeName.{TypeName}
+use Rattle.go_text_core.specs.declared.span.Span.{Span}
 use Rattle.go_tree_nodes.specs.Trees.{TypeTree}
 use Rattle.go_entry_core.specs.decl_core.TopDecls.{FormTree, ValueForm, TypeForm, FuncForm}
+use Rattle.go_entry_core.specs.Marks.{alias_mark}
 use Rattle.go_entry_core.specs.Outlines.{FileOutline}
 use Rattle.go_tree_nodes.specs.TypeNames.{type_names_in, signature_names_in}
 
@@ -15,10 +17,15 @@ value_names value_kinds.Var (Some t) = type_names_in t
 value_names value_kinds.Var None = []
 value_names value_kinds.Const t = []
 
+-- an alias writes the name of its type
+abbrev pub alias_names : Option Span → TypeTree → List TypeName
+alias_names None t = []
+alias_names (Some mark) t = type_names_in t
+
 -- a function and a method write their signature
 abbrev pub face_names : FormTree → List TypeName
 face_names (ValueForm k v i) = value_names k v.type_expr
-face_names (TypeForm t) = []
+face_names (TypeForm t) = alias_names (alias_mark t) t.type_expr
 face_names (FuncForm g) = signature_names_in g.signature
 
 -- the names of types that the declarations of a file write

@@ -12,7 +12,7 @@ use Rattle.go_entry_core.specs.block_core.Blocks.{BlocksModel, blocks_model}
 use Rattle.go_term_core.specs.declared.term.Basic.TheVariants as basics
 use Rattle.go_term_core.specs.Terms.{Term, Predeclared, Defined, PointerTo, SignOf, NoTerm, ATerm}
 use Rattle.go_handle_core.specs.table_core.Entries.{Entry}
-use Rattle.go_entry_core.specs.Meanings.{Shows}
+use Rattle.go_entry_core.specs.Meanings.{Shows, declared_alone}
 use Rattle.go_entry_core.specs.Outlines.{outline_of}
 use Rattle.go_entry_core.specs.Sample.{sample_file, type_top}
 use Rattle.go_handle_core.specs.operand_core.declared.types.ValueType.TheVariants as value_types
@@ -57,7 +57,7 @@ abbrev pub face_sample_blocks : BlocksModel
 face_sample_blocks = blocks_model ((codes "T", decl_ref 0 0 kinds.«Type») ∷ ((codes "N", decl_ref 1 5 kinds.«Type») ∷ [])) ([] ∷ ([] ∷ [])) []
 
 abbrev pub face_sample_shows : Shows
-face_sample_shows = λ path name. None
+face_sample_shows = declared_alone (λ path name. None)
 
 abbrev pub face_sample_key : DeclKey
 face_sample_key = record { path = codes "p"; decl = decl_ref 0 0 kinds.«Type» }

@@ -1,12 +1,13 @@
 -- The declarations of a package outside functions, as far as they are written.
 --
--- docs/RULES.md, "Faces of declarations". The Go specification, "Type declarations", "Function declarations", "Method declarations",
--- "Variable declarations", "Constant declarations".
+-- docs/RULES.md, "Faces of declarations". The Go specification, "Type declarations", "Alias declarations", "Function declarations",
+-- "Method declarations", "Variable declarations", "Constant declarations".
 use Rattle.std.specs.Prelude.{◌≡◌, ℕ, suc, Bool, true, List, [], ◌∷◌, ◌&&◌, ◌||◌, Option, Some, None, nat_eq, nat_lt, map, slice_get, ⊤, if◌then◌else◌}
 use Rattle.std.specs.List.{flat_map, enumerate_from}
 use Rattle.std.specs.Option.{option_map}
 use Rattle.go_tree_nodes.specs.declared.decls.ValueKind.{ValueKind}
 use Rattle.go_tree_nodes.specs.declared.decls.ValueKind.TheVariants as value_kinds
+use Rattle.go_text_core.specs.declared.span.Span.{Span}
 use Rattle.go_tree_nodes.specs.Trees.{TypeTree}
 use Rattle.go_entry_core.specs.decl_core.declared.keys.DeclRef.{DeclRef}
 use Rattle.go_entry_core.specs.decl_core.TopDecls.{TopDeclTree, FormTree, ValueForm, TypeForm, FuncForm, kind_of_form}
@@ -17,6 +18,7 @@ use Rattle.go_handle_core.specs.table_core.Entries.{Entry, find_entry}
 use Rattle.go_entry_core.specs.written_core.Written.{InFile, Meaning, term_of, signature_of}
 use Rattle.go_entry_core.specs.Outlines.{FileOutline}
 use Rattle.go_entry_core.specs.Entries.{Meanings, file_at, package_meanings, type_key}
+use Rattle.go_entry_core.specs.Marks.{alias_mark}
 use Rattle.go_entry_core.specs.Meanings.{Shows}
 use Rattle.go_handle_core.specs.decide_core.Rules.{typed}
 use Rattle.go_face_core.specs.declared.face.Face.TheVariants as faces
@@ -76,10 +78,15 @@ value_as_written mean f es value_kinds.Const t = None
 abbrev pub type_face : InFile → List Entry → ℕ → TheFace
 type_face f es n = faces.«Type» (typed (find_entry es) (Defined (type_key f n)))
 
+-- a type declaration: an alias is the type that its name means, settled, and what is no alias is its key's type
+abbrev pub declared_face : Option Span → Meaning → InFile → List Entry → ℕ → TypeTree → TheFace
+declared_face None mean f es n t = type_face f es n
+declared_face (Some mark) mean f es n t = faces.«Type» (type_written mean f es t)
+
 -- what a declaration is as it is written: a function and a method have the settled signature
 abbrev pub form_as_written : Meaning → InFile → List Entry → ℕ → FormTree → Option TheFace
 form_as_written mean f es n (ValueForm k v i) = value_as_written mean f es k v.type_expr
-form_as_written mean f es n (TypeForm t) = Some (type_face f es n)
+form_as_written mean f es n (TypeForm t) = Some (declared_face (alias_mark t) mean f es n t.type_expr)
 form_as_written mean f es n (FuncForm g) = Some (faces.Func (settled_sign (kinds_in es) (signature_of mean f g.signature)))
 
 abbrev pub written_of : Meaning → InFile → List Entry → TopDeclTree → WrittenOf

@@ -31,8 +31,8 @@ fn under_stars(alloc: Global, stars: usize, term: TypeTerm) -> Result<TypeTerm, 
     Ok(starred)
 }
 
-// A type, as a term of its own.
-fn hold_type(alloc: Global, lent: &TypeRef<'_>) -> Result<TypeTerm, AllocError>
+/// A type, as a term of its own.
+pub(crate) fn hold_type(alloc: Global, lent: &TypeRef<'_>) -> Result<TypeTerm, AllocError>
     ensures { IfOk result (λ t. shape t ≡ lent.now) }
 {
     let parts = lent.parts();

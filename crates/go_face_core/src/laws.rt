@@ -1,4 +1,5 @@
 //! Laws of the declarations of a package as they are written, and of what packages show.
+ghost use Rattle.go_face_core.specs.AliasSample.{AliasFacesAreRight};
 ghost use Rattle.go_face_core.specs.Laws.{PositionsAreExact, WrittenAreLocal};
 ghost use Rattle.go_face_core.specs.Sample.{FaceSampleIsRight};
 ghost use Rattle.go_face_core.specs.Showing.{FacesAreFound, FacesShowTheirBlock, TablesShowTheirPackages};
@@ -18,6 +19,12 @@ pub fn written_are_local()
 /// A law, with nothing to run: the declarations of a package of two files that is worked out by hand.
 pub fn worked_faces()
     ensures { FaceSampleIsRight }
+{}
+
+/// A law, with nothing to run: an alias has the face of its target, also where that is an alias or another package's, and an alias of a name
+/// that is refused has no type. A package of seven declarations is worked out by hand.
+pub fn worked_alias_faces()
+    ensures { AliasFacesAreRight }
 {}
 
 /// A law, with nothing to run: behind the name of a package and a dot each exported name of its package block is seen, with its declaration

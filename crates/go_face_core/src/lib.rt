@@ -1,8 +1,8 @@
 //! Faces: what the declarations of a package are to those that name them.
 //!
-//! A type is its type, a function its signature, a constant or a variable an operand. A package's faces as they are written, and those of
-//! other packages, which show some names and hide the others.
-//! The Go specification, "Declarations and scope", "Exported identifiers".
+//! A type is its type, an alias its target, a function its signature, a constant or a variable an operand. A package's faces as they are
+//! written, those of other packages, which show some names and hide the others, and what names of types mean where packages have aliases.
+//! The Go specification, "Declarations and scope", "Alias declarations", "Exported identifiers".
 #![tactic(auto)]
 
 mod face;
@@ -14,19 +14,26 @@ mod seen;
 mod settling;
 mod shown;
 mod table;
+mod types_here;
 mod written;
 
 pub use face::Face;
 pub use holding::hold;
 pub use laws::{
-    packages_show_their_faces, positions_are_exact, tables_show_their_packages, worked_faces,
-    written_are_local,
+    packages_show_their_faces, positions_are_exact, tables_show_their_packages, worked_alias_faces,
+    worked_faces, written_are_local,
 };
 pub use lending::lend;
 pub use making::written_faces;
 pub use shown::{DeclaredFace, PackageFaces, ShownFace};
 pub use table::FaceTable;
+pub use types_here::TypesHere;
 pub use written::WrittenFaces;
+
+/// What the crates above name of `go_alias_core`.
+pub mod alias_core {
+    pub use go_alias_core::{Aliases, alias_loops, aliases_of, written_aliases};
+}
 
 /// What the crates above name of `go_block_core`.
 pub mod block_core {
@@ -51,7 +58,10 @@ pub mod embed_core {
 
 /// What the crates above name of `go_entry_core`.
 pub mod entry_core {
-    pub use go_entry_core::{FileNames, ImportedNames, ShownPackages, outlines, type_entries};
+    pub use go_entry_core::{
+        DeclaredNames, FileNames, ImportedNames, ShownPackages, all_types, is_alias, outlines,
+        type_entries,
+    };
 }
 
 /// What the crates above name of `go_graph_core`.

@@ -1,15 +1,16 @@
 //! What the declarations of a package are, as far as they are written.
 ghost use Rattle.std.specs.Prelude.{◌≡◌, ◌++◌, ◌∷◌, [], All, IfOk, OnOk, map};
-ghost use Rattle.go_tree_nodes.specs.Shapes.{func_of, shape_value_spec};
+ghost use Rattle.go_tree_nodes.specs.Shapes.{func_of, shape_type_spec, shape_value_spec};
 ghost use Rattle.go_tree_nodes.specs.declared.decls.ValueKind.TheVariants as value_kinds;
 ghost use Rattle.go_tree_nodes.specs.TypeShapes.{shape_signature};
 ghost use Rattle.go_entry_core.specs.decl_core.Shown.{decl_shown, form_shown};
 ghost use Rattle.go_entry_core.specs.decl_core.TopDecls.{FuncForm, TypeForm, ValueForm};
 ghost use Rattle.go_entry_core.specs.written_core.Written.{in_file};
 ghost use Rattle.go_entry_core.specs.Entries.{package_meanings};
+ghost use Rattle.go_entry_core.specs.Marks.{alias_mark};
 ghost use Rattle.go_entry_core.specs.Outlines.{IsOutline, outline_shown};
 ghost use Rattle.go_face_core.specs.Held.{form_held, written_shown};
-ghost use Rattle.go_face_core.specs.Written.{DeclsRise, decls_of, file_written, form_as_written, package_written, type_face, value_as_written, written_of, written_with};
+ghost use Rattle.go_face_core.specs.Written.{DeclsRise, declared_face, decls_of, file_written, form_as_written, package_written, type_face, value_as_written, written_of, written_with};
 
 use crate::settling::{settled_signature, settled_type, typed};
 use crate::written::{WrittenDecl, WrittenFaces, WrittenForm};
@@ -21,7 +22,7 @@ use go_handle_core::table_core::TypeTable;
 use go_path_core::ImportPath;
 use go_term_core::TypeTerm;
 use go_text_core::add;
-use go_tree_nodes::{ValueKind, ValueSpec};
+use go_tree_nodes::{TypeSpec, ValueKind, ValueSpec};
 use std::alloc::{AllocError, Global};
 
 // What a constant or a variable is, by its specification.
@@ -62,6 +63,26 @@ fn type_form(
     Ok(WrittenForm::Type(typed(types, own)))
 }
 
+// What a type declaration is, by its number in its file: an alias is the type that its name means.
+fn declared_form<N: TypeNames>(
+    alloc: Global,
+    names: &N,
+    at: &WrittenIn<'_>,
+    types: &TypeTable,
+    number: usize,
+    spec: &TypeSpec,
+) -> Result<WrittenForm, AllocError>
+    ensures { IfOk result (λ w. form_held w ≡ Some (declared_face (alias_mark (shape_type_spec spec.now)) (N.meaning names.now) (in_file at.now) types.now number (shape_type_spec spec.now).type_expr)) }
+{
+    match &spec.alias {
+        Some(_) => {
+            let target = settled_type(alloc, names, at, types, &spec.type_expr)?;
+            Ok(WrittenForm::Type(target))
+        }
+        None => type_form(at, types, number),
+    }
+}
+
 // What a declaration is.
 fn form_of<N: TypeNames>(
     alloc: Global,
@@ -74,7 +95,7 @@ fn form_of<N: TypeNames>(
 {
     match decl.form {
         DeclForm::Value(kind, spec, _) => value_form(alloc, names, at, types, kind, spec),
-        DeclForm::Type(_) => type_form(at, types, decl.number),
+        DeclForm::Type(spec) => declared_form(alloc, names, at, types, decl.number, spec),
         DeclForm::Func(func) => Ok(WrittenForm::Func(settled_signature(
             alloc,
             names,
@@ -150,11 +171,12 @@ fn write_decls<P: ImportedNames>(
 
 /// The declarations of the package of a path outside functions, in order of file and number, each with what it is as far as it is written.
 /// `outlines` has one for each file of the package in order of name, as `outlines` of `go_entry_core` makes them, `blocks` are the package's,
-/// `imported` is what other packages show, and `types` has the types of the package and of those that it reaches. A type is its own key's, where
-/// that is a type; a function and a method have their settled signature; a variable with a written type has that type, settled, where it is one.
-/// The time that it takes is linear in what is written, times what a look-up among types takes.
+/// `imported` is what other packages show and what declarations mean, and `types` has the types of the package and of those that it reaches. A
+/// type is its own key's, where that is a type, and an alias is the type that its name means, settled, where it is one; a function and a method
+/// have their settled signature; a variable with a written type has that type, settled, where it is one. The time that it takes is linear in what
+/// is written, times what a look-up among types takes.
 ///
-/// The Go specification, "Type declarations", "Function declarations", "Method declarations", "Variable declarations".
+/// The Go specification, "Type declarations", "Alias declarations", "Function declarations", "Method declarations", "Variable declarations".
 ///
 /// # Errors
 ///

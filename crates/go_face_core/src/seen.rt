@@ -2,46 +2,37 @@
 ghost use Rattle.std.specs.Prelude.{◌≡◌, ◌↔◌, [], IfOk, IsTrue, OnOk, map, slice_get};
 ghost use Rattle.std.specs.Option.{option_map};
 ghost use Rattle.go_entry_core.specs.block_core.Exports.{name_and_decl};
-ghost use Rattle.go_entry_core.specs.block_core.Tables.{in_block, with_first};
+ghost use Rattle.go_entry_core.specs.block_core.Tables.{has, in_block, with_first};
 ghost use Rattle.go_face_core.specs.Packages.{as_seen, names_seen};
-ghost use Rattle.go_face_core.specs.mirrors.Tables.{named_seen, place_of};
 
 use go_entry_core::block_core::{DeclRef, NamedDecl};
+use go_named_core::NameTable;
 use go_text_core::is_exported;
 use std::alloc::{AllocError, Global};
-use std::collections::HashMap;
 use std::marker::Model;
 
 /// The names of a package block as other packages see them, each once and with its declaration where it is exported. Contracts see the list of
 /// both.
 pub(crate) struct SeenNames {
-    names: Vec<NamedDecl>,
-    /// The place of each name.
-    places: HashMap<String, usize>,
+    names: NameTable<Option<DeclRef>>,
 }
 
 impl Drop for SeenNames {
     fn drop(self) {
-        let SeenNames {
-            names: _,
-            places: _,
-        } = self;
+        let SeenNames { names: _ } = self;
     }
 }
 
 impl Model for SeenNames {
-    ghost use Rattle.std.specs.Prelude.{ℕ, List, Option, map};
+    ghost use Rattle.std.specs.Prelude.{ℕ, List, Option};
     ghost use Rattle.go_entry_core.specs.decl_core.declared.keys.DeclRef.{DeclRef as TheDeclRef};
     ghost use Rattle.go_face_core.specs.codes.FaceCodes.{coded_names};
-    ghost use Rattle.go_face_core.specs.mirrors.Tables.{ArePlaced, named_seen};
 
     ghost Value = { List (List ℕ × Option TheDeclRef) };
 
     ghost coded = { coded_names };
 
-    ghost view = { λ s. map named_seen s.names.items };
-
-    ghost invariant = { λ s. ArePlaced s.places (map named_seen s.names.items) };
+    ghost view = { λ s. s.names.names };
 }
 
 // A name as other packages see it: with its declaration where it is exported.
@@ -61,33 +52,30 @@ impl SeenNames {
         ensures { result ≡ [] }
     {
         SeenNames {
-            names: Vec::new(alloc),
-            places: HashMap::new(alloc),
+            names: NameTable::new(alloc),
         }
     }
 
-    // The place of a name.
-    fn place(&self, name: &str) -> Option<usize>
-        ensures { result ≡ place_of self.now name.now }
+    // Whether a name is there.
+    fn has(&self, name: &str) -> bool
+        ensures { result ≡ has self.now name.now }
     {
-        self.places.get(name).copied()
+        self.names.find(name).is_some()
     }
 
     // Adds a name, unless it is there.
-    fn add(&mut self, alloc: Global, named: NamedDecl) -> Result<(), AllocError>
-        ensures { OnOk result (self.new ≡ with_first self.old named.name (as_seen named.name named.decl)) }
+    fn add(&mut self, alloc: Global, named: &NamedDecl) -> Result<(), AllocError>
+        ensures { OnOk result (self.new ≡ with_first self.old named.now.name (as_seen named.now.name named.now.decl)) }
     {
-        if self.place(named.name.as_str()).is_some() {
+        let name = named.name.as_str();
+        if self.has(name) {
             return Ok(());
         }
-        let name = String::from_str(alloc, named.name.as_str())?;
-        self.names.reserve(1)?;
-        self.places.insert(name, self.names.len())?;
-        self.names.push(named)?;
+        self.names.add(alloc, name, as_seen(named))?;
         Ok(())
     }
 
-    /// The names of a package block. The time that it takes is linear in them.
+    /// The names of a package block. The time that it takes is linear in them, but for look-ups.
     ///
     /// # Errors
     ///
@@ -97,7 +85,7 @@ impl SeenNames {
     {
         let mut names = SeenNames::new(alloc);
         for named in block {
-            names.add(alloc, named)?;
+            names.add(alloc, &named)?;
         }
         Ok(names)
     }
@@ -106,18 +94,15 @@ impl SeenNames {
     pub(crate) fn find(&self, name: &str) -> Option<Option<DeclRef>>
         ensures { result ≡ in_block self.now name.now }
     {
-        match self.place(name) {
-            Some(place) => Some(as_seen(&self.names[place])),
-            None => None,
-        }
+        self.names.find(name).copied()
     }
 
     // The name at a place with what it is seen as, and none past the end.
     fn name_at(&self, place: usize) -> Option<(&str, Option<DeclRef>)>
         ensures { option_map (λ e. (e.0.now, e.1)) result ≡ slice_get self.now place }
     {
-        match self.names.get(place) {
-            Some(named) => Some((named.name.as_str(), as_seen(named))),
+        match self.names.entries().get(place) {
+            Some((name, decl)) => Some((name.as_str(), *decl)),
             None => None,
         }
     }

@@ -4,9 +4,9 @@ ghost use Rattle.go_face_core.specs.Packages.{package_in, with_faces};
 ghost use Rattle.go_face_core.specs.mirrors.Tables.{keyed, place_of};
 
 use crate::shown::PackageFaces;
+use go_named_core::NameTable;
 use go_path_core::ImportPath;
 use std::alloc::{AllocError, Global};
-use std::collections::HashMap;
 use std::marker::Model;
 
 /// What packages show to those that import them, by their paths. It holds one handle for each package, and copies no name and no face.
@@ -14,7 +14,7 @@ use std::marker::Model;
 pub struct FaceTable {
     packages: Vec<PackageFaces>,
     /// The place of the package of each path.
-    places: HashMap<String, usize>,
+    places: NameTable<usize>,
 }
 
 impl Drop for FaceTable {
@@ -39,7 +39,7 @@ impl Model for FaceTable {
 
     ghost view = { λ t. t.packages.items };
 
-    ghost invariant = { λ t. ArePlaced t.places (keyed t.packages.items) };
+    ghost invariant = { λ t. ArePlaced t.places.names (keyed t.packages.items) };
 }
 
 impl FaceTable {
@@ -49,7 +49,7 @@ impl FaceTable {
     {
         FaceTable {
             packages: Vec::new(alloc),
-            places: HashMap::new(alloc),
+            places: NameTable::new(alloc),
         }
     }
 
@@ -57,7 +57,7 @@ impl FaceTable {
     fn place(&self, path: &ImportPath) -> Option<usize>
         ensures { result ≡ place_of (keyed self.now) path.now }
     {
-        self.places.get(path.as_str()).copied()
+        self.places.find(path.as_str()).copied()
     }
 
     /// Adds what a package shows, behind the other packages or in place of what was there under the package's path.
@@ -74,9 +74,9 @@ impl FaceTable {
             return Ok(());
         }
         let alloc = *self.packages.allocator();
-        let path = String::from_str(alloc, faces.path().as_str())?;
         self.packages.reserve(1)?;
-        self.places.insert(path, self.packages.len())?;
+        self.places
+            .add(alloc, faces.path().as_str(), self.packages.len())?;
         self.packages.push(faces)?;
         Ok(())
     }

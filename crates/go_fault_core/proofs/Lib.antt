@@ -1,1 +1,3 @@
 mod Adding
+pub mod Loops
+pub mod Reaching

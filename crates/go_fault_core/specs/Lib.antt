@@ -1,5 +1,6 @@
 pub mod Places
 pub mod TypeFaults
+pub mod alias_core
 pub mod alike_core
 pub mod block_core
 pub mod decide_core

@@ -2,6 +2,7 @@
 pub use Rattle.go_summary_core.specs.face_core.Displaying as Displaying
 pub use Rattle.go_summary_core.specs.face_core.Faces as Faces
 pub use Rattle.go_summary_core.specs.face_core.Held as Held
+pub use Rattle.go_summary_core.specs.face_core.Here as Here
 pub use Rattle.go_summary_core.specs.face_core.Laws as Laws
 pub use Rattle.go_summary_core.specs.face_core.Locality as Locality
 pub use Rattle.go_summary_core.specs.face_core.Packages as Packages

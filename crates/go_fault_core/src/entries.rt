@@ -2,8 +2,9 @@
 ghost use Rattle.std.specs.Prelude.{◌≡◌, ◌++◌, IfOk, OnOk, map, slice_get};
 ghost use Rattle.go_summary_core.specs.table_core.Shown.{entry_shown};
 ghost use Rattle.go_summary_core.specs.entry_core.Entries.{package_meanings};
+ghost use Rattle.go_summary_core.specs.entry_core.Meanings.{raw};
 ghost use Rattle.go_summary_core.specs.entry_core.Outlines.{outline_shown};
-ghost use Rattle.go_fault_core.specs.TypeFaults.{entries_faults, entry_faults, faults_of_types, type_loop_fault, loops_faults, met_in};
+ghost use Rattle.go_fault_core.specs.TypeFaults.{alias_faults, entries_faults, entry_faults, faults_of_types, type_loop_fault, loops_faults, met_in};
 
 use crate::places::{PackageFault, add_fault, add_faults};
 use crate::receivers::add_receivers;
@@ -13,8 +14,9 @@ use go_summary_core::embed_core::{check_hidden_fields, check_methods, check_stru
 use go_summary_core::entry_core::ImportedNames;
 use go_summary_core::table_core::{FieldTable, TypeEntry, TypeTable};
 use go_summary_core::type_core::TypeFault;
-use go_term_core::decl_core::Outline;
+use go_term_core::decl_core::{DeclRef, Outline};
 use go_term_core::{MemberPlace, TypeTerm};
+use go_text_core::Rule;
 use std::alloc::{AllocError, Global};
 
 /// The types of a package as they are written, beside its files. All is lent.
@@ -30,6 +32,8 @@ pub struct WrittenTypes<'a, 'o> {
     pub entries: &'a [TypeEntry],
     /// Those of them that reach themselves outside pointers and interfaces.
     pub loops: &'a [TypeFault],
+    /// The aliases that reach themselves so.
+    pub looped: &'a [DeclRef],
 }
 
 // The fields that the methods of a defined type may meet.
@@ -119,10 +123,25 @@ fn add_loops(
     Ok(())
 }
 
+// Adds the faults of aliases that reach themselves.
+fn add_looped(
+    outlines: &[Outline<'_>],
+    looped: &[DeclRef],
+    faults: &mut Vec<PackageFault>,
+) -> Result<(), AllocError>
+    ensures { OnOk result (faults.new.items ≡ faults.old.items ++ alias_faults (map outline_shown outlines.now) looped.now) }
+{
+    for alias in looped {
+        add_fault(faults, outlines, MemberPlace::Declared(*alias), Rule::Y1)?;
+    }
+    Ok(())
+}
+
 /// The faults of the types that a package declares, where `types` has them and those of the packages that it reaches, and `imported` says what
-/// other packages show: of types that reach themselves (Y1, at the type's name), of fields, methods of interface types and methods that repeat a name of
-/// their type or stand behind a member of it (B5), of embedded fields that may not be embedded (Y2), and of receivers (B6, at the first byte
-/// of the base's name). A field of another declaration may stand behind methods of several types: then it is listed several times.
+/// other packages show and what declarations of types mean: of types and aliases that reach themselves (Y1, at the name that is declared), of
+/// fields, methods of interface types and methods that repeat a name of their type or stand behind a member of it (B5), of embedded fields that
+/// may not be embedded (Y2), and of receivers (B6, at the first byte of the base's name). A field of another declaration may stand behind
+/// methods of several types: then it is listed several times.
 ///
 /// # Errors
 ///
@@ -133,7 +152,7 @@ pub fn type_faults<P: ImportedNames>(
     imported: &P,
     written: &WrittenTypes<'_, '_>,
 ) -> Result<Vec<PackageFault>, AllocError>
-    ensures { IfOk result (λ faults. faults.items ≡ faults_of_types types.now (package_meanings (P.shows imported.now) written.now.path.now written.now.blocks.now) written.now.path.now (map outline_shown written.now.outlines.now) (map entry_shown written.now.entries.now) written.now.loops.now) }
+    ensures { IfOk result (λ faults. faults.items ≡ faults_of_types types.now (package_meanings (raw (P.shows imported.now)) written.now.path.now written.now.blocks.now) (package_meanings (P.shows imported.now) written.now.path.now written.now.blocks.now) written.now.path.now (map outline_shown written.now.outlines.now) (map entry_shown written.now.entries.now) written.now.looped.now written.now.loops.now) }
 {
     let mut faults = Vec::new(alloc);
     add_loops(
@@ -142,6 +161,7 @@ pub fn type_faults<P: ImportedNames>(
         written.loops,
         &mut faults,
     )?;
+    add_looped(written.outlines, written.looped, &mut faults)?;
     add_entries(
         alloc,
         types,

@@ -11,6 +11,11 @@ mod receivers;
 pub use entries::{WrittenTypes, type_faults};
 pub use places::PackageFault;
 
+/// What the crates above name of `go_alias_core`.
+pub mod alias_core {
+    pub use go_summary_core::alias_core::{Aliases, alias_loops, aliases_of, written_aliases};
+}
+
 /// What the crates above name of `go_alike_core`.
 pub mod alike_core {
     pub use go_summary_core::alike_core::same_exports;
@@ -37,7 +42,8 @@ pub mod embed_core {
 /// What the crates above name of `go_face_core`.
 pub mod face_core {
     pub use go_summary_core::face_core::{
-        DeclaredFace, Face, FaceTable, PackageFaces, WrittenFaces, hold, lend, written_faces,
+        DeclaredFace, Face, FaceTable, PackageFaces, TypesHere, WrittenFaces, hold, lend,
+        written_faces,
     };
 }
 

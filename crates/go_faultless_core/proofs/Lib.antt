@@ -1,6 +1,8 @@
 pub mod Scenes
 pub mod Alike
 pub mod Dotted
+pub mod Aliased
+pub mod Faced
 pub mod Shows
 pub mod Selected
 pub mod Methods

@@ -5,6 +5,7 @@ use Rattle.std.specs.List.{enumerate_from, filter}
 use Rattle.go_tree_nodes.specs.declared.files.Receiver.{Receiver}
 use Rattle.go_tree_nodes.specs.Trees.{FuncTree}
 use Rattle.go_called_core.specs.text_core.Text.{is_blank}
+use Rattle.go_called_core.specs.text_core.declared.span.Span.{Span}
 use Rattle.go_called_core.specs.decl_core.declared.keys.DeclKey.{DeclKey}
 use Rattle.go_called_core.specs.decl_core.declared.keys.DeclRef.{DeclRef}
 use Rattle.go_called_core.specs.decl_core.TopDecls.{FormTree, FuncForm, TopDeclTree, TypeForm, ValueForm}
@@ -19,7 +20,7 @@ use Rattle.go_called_core.specs.table_core.Methods.{has_field_before}
 use Rattle.go_type_core.specs.Built.{AreEntries, IsBuilt, IsEntry, kept_over, settled_member, unrepeated_methods}
 use Rattle.go_type_core.specs.declared.build.TypeFault.{TypeFault}
 use Rattle.go_written_core.specs.Written.{InFile, Meaning}
-use Rattle.go_typed_core.specs.entry_core.Entries.{Meanings, Received, decl_methods, entries_with, entry_of, file_at, file_entries, file_methods, func_methods, is_type_of, method_place, methods_received, package_methods, type_key}
+use Rattle.go_typed_core.specs.entry_core.Entries.{Meanings, Received, decl_methods, entries_with, entry_of, file_at, file_entries, file_methods, func_methods, is_listed, is_type_of, listed_entry, method_place, methods_received, package_methods, spec_entry, type_key}
 use Rattle.go_typed_core.specs.entry_core.Outlines.{FileOutline, IsOutline}
 use Rattle.go_typed_core.specs.entry_core.Among.{Among, among_filter, among_flat, among_map, among_numbered}
 use Rattle.go_typed_core.specs.entry_core.Ordered.{NumbersFrom, outline_rises}
@@ -31,7 +32,7 @@ from_least n [] h d a = absurd a
 from_least n (x ∷ ds) h d (inl e) = subst (λ (y : TopDeclTree). n ≤ y.number) e h.0
 from_least n (x ∷ ds) h d (inr a) = (let low = h.0 in let more = from_least (x.number + 1) ds h.1 d a in omega (arith, low, more))
 
-one_number : (n : ℕ) (ds : List TopDeclTree) → NumbersFrom n ds → (a b : TopDeclTree) → Among ds a → Among ds b → a.number ≡ b.number → a ≡ b
+pub one_number : (n : ℕ) (ds : List TopDeclTree) → NumbersFrom n ds → (a b : TopDeclTree) → Among ds a → Among ds b → a.number ≡ b.number → a ≡ b
 one_number n [] h a b x y e = absurd x
 one_number n (d ∷ ds) h a b (inl x) (inl y) e = sym x ∙ y
 one_number n (d ∷ ds) h a b (inl x) (inr y) e =
@@ -138,12 +139,18 @@ module _ (means : Meanings) (path : List ℕ) (os : List FileOutline) (outlines 
         let s = among_filter (λ (r : Received). is_type_of key r.base) rs r.0 r.1 in
         (r.0, s.0, r.2, s.1)
 
+    -- a type counts where it is no alias
+    listed_in : (mark : Option Span) (s e : Entry) → Among (listed_entry (is_listed false mark) s) e → s ≡ e
+    listed_in None s e (inl same) = same
+    listed_in None s e (inr none) = absurd none
+    listed_in (Some m) s e a = absurd a
+
     form_in : (mean : Meaning) (f : InFile) (d : TopDeclTree) (form : FormTree) (e : Entry) → Among (entry_of mean f rs d form) e → (m : Member) → Among e.methods m → IsReceived e.key m
     form_in mean f d (ValueForm k v i) e a m b = absurd a
-    form_in mean f d (TypeForm t) e (inl same) m b =
+    form_in mean f d (TypeForm t) e a m b =
+        let same : spec_entry mean f rs d t ≡ e = listed_in t.alias (spec_entry mean f rs d t) e a in
         let r = received_in (type_key f d.number) m (subst (λ (x : Entry). Among x.methods m) (sym same) b) in
         subst (λ (x : Entry). IsReceived x.key m) same r
-    form_in mean f d (TypeForm t) e (inr a) m b = absurd a
     form_in mean f d (FuncForm g) e a m b = absurd a
 
     entry_in : (e : Entry) → Among (entries_with means path rs os) e → (m : Member) → Among e.methods m → IsReceived e.key m

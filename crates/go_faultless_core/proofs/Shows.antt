@@ -1,17 +1,18 @@
 -- What the packages of a workspace show as a type is what its name means where a type is written.
-use Rattle.std.proofs.Common.{◌≡◌, inl, inr, ◌⊎◌, ℕ, suc, ◌<◌, ◌&&◌, Bool, true, false, List, [], ◌∷◌, ◌++◌, map, not, Option, Some, None, refl, sym, ap, subst, ◌∙◌, append-nil, arith, if◌then◌else◌, All}
+use Rattle.std.proofs.Common.{◌≡◌, inl, inr, ◌⊎◌, ℕ, zero, suc, ◌<◌, ◌&&◌, Bool, true, false, List, [], ◌∷◌, ◌++◌, map, not, Option, Some, None, refl, sym, ap, subst, ◌∙◌, append-nil, arith, if◌then◌else◌, All}
 use Rattle.std.specs.Prelude.{Contains, nat_eq, nat_lt, slice_get}
 use Rattle.std.specs.Option.{option_map}
 use Rattle.std.specs.Str.{bytes_eq, chars}
 use Rattle.std.proofs.lemmas.Bool.{and_parts, eqb-true, false_from_ne_true, ltb-true, or_cases}
 use Rattle.std.proofs.lemmas.Grind.{flat_map-append}
-use Rattle.std.proofs.lemmas.List.Elements.{All-cons}
+use Rattle.std.proofs.lemmas.List.Elements.{Contains-push}
 use Rattle.std.proofs.lemmas.Slice.Eq.{bytes_eq-Decides}
 use Rattle.go_called_core.specs.text_core.Text.{exported}
+use Rattle.go_called_core.specs.text_core.declared.span.Span.{Span}
+use Rattle.go_tree_nodes.specs.declared.types.TypeName.{TypeName}
+use Rattle.go_tree_nodes.specs.Rules.{Wf_file, Wf_type_spec}
 use Rattle.go_called_core.specs.decl_core.declared.keys.DeclKey.{DeclKey}
 use Rattle.go_called_core.specs.decl_core.declared.keys.DeclRef.{DeclRef}
-use Rattle.go_called_core.specs.decl_core.declared.places.DeclKind.{DeclKind}
-use Rattle.go_called_core.specs.decl_core.declared.places.DeclKind.TheVariants as kinds
 use Rattle.go_typed_core.specs.graph_core.Packages.{trees_of}
 use Rattle.go_called_core.specs.block_core.declared.binding.Binding.{Binding}
 use Rattle.go_called_core.specs.block_core.declared.binding.Target.TheVariants as targets
@@ -21,21 +22,28 @@ use Rattle.go_called_core.specs.block_core.Blocks.{exports_of, file_binding}
 use Rattle.go_called_core.specs.block_core.Declarations.{package_declared}
 use Rattle.go_called_core.specs.block_core.Exports.{ExportsModel}
 use Rattle.go_called_core.specs.block_core.Tables.{in_block}
-use Rattle.go_term_core.specs.Terms.{Term, NoType, Predeclared as Basic, ErrorType, Defined, PointerTo, StructOf, InterfaceOf, is_no_type}
-use Rattle.go_typed_core.specs.settle_core.Settled.{defined_unless, kind_of_term}
-use Rattle.go_called_core.specs.table_core.Entries.{Entry, find_entry, term_in}
+use Rattle.go_term_core.specs.Terms.{Term, NoType, Predeclared as Basic, ErrorType, Defined, PointerTo, StructOf, InterfaceOf, is_no_type, term_keys}
+use Rattle.go_typed_core.specs.settle_core.Again.{term_again}
+use Rattle.go_typed_core.specs.settle_core.Local.{settling_is_local}
+use Rattle.go_typed_core.specs.settle_core.Settled.{defined_unless, kind_of_term, settled}
+use Rattle.go_called_core.specs.table_core.Entries.{Entry, EntryLook, find_entry, kinds_in, term_in}
+use Rattle.go_called_core.specs.decide_core.Conversion.{is_type_term}
 use Rattle.go_called_core.specs.decide_core.Rules.{typed}
-use Rattle.go_typed_core.specs.entry_core.Meanings.{shown_type, type_of_key, type_of_kind}
+use Rattle.go_written_core.specs.Written.{InFile, term_of}
+use Rattle.go_typed_core.specs.entry_core.Meanings.{declared_alone, file_meaning, named_meaning, shown_type, through, type_of_key, type_of_kind}
 use Rattle.go_typed_core.specs.entry_core.Showing.{shown_in}
 use Rattle.go_typed_core.specs.entry_core.Shown.{shows_its_block}
 use Rattle.go_tree_nodes.specs.Trees.{FileTree}
-use Rattle.go_typed_core.specs.entry_core.Entries.{package_meanings}
-use Rattle.go_typed_core.specs.entry_core.Outlines.{IsOutline, outline_of}
+use Rattle.go_typed_core.specs.entry_core.Entries.{file_at, package_meanings, type_key}
+use Rattle.go_typed_core.specs.entry_core.Outlines.{FileOutline, IsOutline, outline_of}
+use Rattle.go_typed_core.specs.entry_core.Targeting.{through_itself}
+use Rattle.go_typed_core.specs.alias_core.Outlined.{written_aliases}
 use Rattle.go_typed_core.specs.face_core.declared.face.Face.TheVariants as faces
 use Rattle.go_typed_core.specs.face_core.declared.shown.ShownFace.TheVariants as shown_faces
 use Rattle.go_typed_core.specs.face_core.Faces.{TheFace}
+use Rattle.go_typed_core.specs.face_core.Here.{face_type, far_type, type_or_none}
 use Rattle.go_typed_core.specs.face_core.Packages.{DeclaredOf, PackageFacesModel, exported_in, face_among, face_by, face_in, names_seen, package_faces, package_in, shown_by, shown_in_some}
-use Rattle.go_typed_core.specs.face_core.Written.{DeclsRise, IsDeclBefore, WrittenOf, decls_of, position_of, same_decl_place}
+use Rattle.go_typed_core.specs.face_core.Written.{DeclsRise, IsDeclBefore, WrittenOf, declared_face, decls_of, position_of, same_decl_place, type_written}
 use Rattle.go_typed_core.specs.face_core.Ascending.{written_rises}
 use Rattle.go_typed_core.specs.face_core.Placed.{same_parts}
 use Rattle.go_typed_core.specs.face_core.Displaying.{shows_its_block as faces_show}
@@ -46,7 +54,8 @@ use Rattle.go_typed_core.specs.summary_core.Laws.{TellsWhatItDoes}
 use Rattle.go_typed_core.specs.summary_core.Summaries.{IsOfOne, SummaryModel, path_of}
 use Rattle.go_typed_core.specs.summary_core.Views.{exports_told, faces_told, types_told}
 use Rattle.go_typed_core.specs.summary_core.Telling.{views_tell}
-use Rattle.go_called_core.specs.ready_core.Packages.{PackageIn, scene_in, trees_in}
+use Rattle.govisd_core.specs.summary_core.Viewed.{text_apart}
+use Rattle.go_called_core.specs.ready_core.Packages.{PackageIn, outlines_in, scene_in, shows_in, trees_in}
 use Rattle.go_called_core.specs.ready_core.Values.{AreDeclared}
 use Rattle.go_typed_core.specs.part_core.Inputs.{InputModel, path_in}
 use Rattle.go_typed_core.specs.part_core.Parts.{ContentOf, IsPart, PartModel, package_seen, seen_by}
@@ -57,7 +66,7 @@ use Rattle.go_typed_core.specs.entry_core.Among.{Among, among_cases, among_from,
 use Rattle.go_typed_core.specs.graph_core.PlanLaws.{has_plan}
 use Rattle.go_typed_core.specs.graph_core.Plans.{IsPlan, PlanModel}
 use Rattle.go_typed_core.specs.whole_core.Inputs.{ComesTo, ReachesPackage, Shown}
-use Rattle.go_typed_core.specs.whole_core.Known.{KnownAlike}
+use Rattle.go_typed_core.specs.whole_core.Known.{KnownAlike, type_keys}
 use Rattle.go_typed_core.specs.whole_core.Lists.{all_from_among, among_all}
 use Rattle.go_typed_core.specs.whole_core.LocalLaws.{CheckIsLocal, ImportsBindTheirs}
 use Rattle.go_typed_core.specs.whole_core.Order.{reaches_next, reaches_on}
@@ -66,12 +75,18 @@ use Rattle.go_typed_core.specs.whole_core.PartsWhole.{all_right}
 use Rattle.go_typed_core.specs.whole_core.Theirs.{passes}
 use Rattle.go_typed_core.specs.whole_core.Told.{AreWell, NoneIsOf, known_alike, known_by}
 use Rattle.go_typed_core.specs.whole_core.mirrors.Steps.{AreRight}
-use Rattle.go_typed_core.specs.type_doc_core.mirrors.Named.{is_type}
-use Rattle.go_typed_core.specs.type_doc_core.Known.{IsNoType, face_plain, face_typed}
+use Rattle.go_typed_core.specs.type_doc_core.mirrors.Named.{IsNoType, is_type}
+use Rattle.go_typed_core.specs.type_doc_core.Known.{face_plain}
 use Rattle.go_typed_core.specs.Functions.{known_types}
-use Rattle.go_typed_core.specs.Written.{ShowTheirTypes, typed_in}
+use Rattle.go_typed_core.specs.Written.{ShowTheirTypes, meant_in, seen_in, typed_in}
+use Rattle.go_called_core.specs.Integers.{PartsAreRead}
+use Rattle.go_called_core.specs.laws_core.ConstantLists.{has_get, has_of_all}
+use Rattle.go_called_core.specs.laws_core.Grammar.{all_keep_rules}
+use Rattle.go_called_core.specs.laws_core.Ruled.{file_ruled}
 use Rattle.go_faultless_core.specs.Parts.{PartsShowTheirTypes}
 use Rattle.go_faultless_core.proofs.Alike.{apart_more, numbered_in}
+use Rattle.go_faultless_core.proofs.Aliased.{alias_is, is_no_alias, mean_far, mean_itself, mean_step, named_alone}
+use Rattle.go_faultless_core.proofs.Faced.{IsTypeOf, outlines_all, type_kind, type_of_name}
 use Rattle.go_faultless_core.proofs.Dotted.{block_unique, bound_shown, exported_among, import_stands}
 
 -- settled types
@@ -88,9 +103,36 @@ settled_same es k = by (term_in (find_entry es k)) refl
     by (StructOf path fs) e = refl
     by (InterfaceOf path ms) e = refl
 
-type_kind : (k : DeclKind) → is_type k ≡ true → k ≡ kinds.«Type»
-type_kind kinds.«Type» h = refl
-type_kind _ h = absurd (cc h)
+-- what is a type of a table is a type of it as it is
+typed_is : (look : EntryLook) (x u : Term) → typed look x ≡ Some u → x ≡ u
+typed_is look x u h = by (is_type_term look x) h
+  where
+    by : (b : Bool) → (if b then Some x else None) ≡ Some u → x ≡ u
+    by true e = (let same : Some x ≡ Some u = e in cc same)
+    by false e = absurd (let no : None ≡ Some u = e in cc no)
+
+typed_again : (es : List Entry) (y : Term) (t : Option Term) → typed_in es y ≡ t → typed_in es (type_or_none t) ≡ t
+typed_again es y None h = refl
+typed_again es y (Some u) h =
+    let same : settled (kinds_in es) y ≡ u = typed_is (find_entry es) (settled (kinds_in es) y) u h in
+    ap (typed_in es) (sym same) ∙ (ap (typed (find_entry es)) (term_again (kinds_in es) y) ∙ h)
+
+-- so it is of another that has the same under the keys in it
+typed_alike : (look other : EntryLook) (u : Term) → ((k : DeclKey) → Contains (term_keys u) k → look k ≡ other k) → typed look u ≡ typed other u
+typed_alike look other NoType h = refl
+typed_alike look other (Basic b) h = refl
+typed_alike look other ErrorType h = refl
+typed_alike look other (Defined k) h = ap (λ (o : Option Entry). if not (is_no_type (term_in o)) then Some (Defined k) else None) (h k (Contains-push [] k))
+typed_alike look other (PointerTo t) h = refl
+typed_alike look other (StructOf path fs) h = refl
+typed_alike look other (InterfaceOf path ms) h = refl
+
+typed_elsewhere : (es fs : List Entry) (t : Option Term) → ((k : DeclKey) → Contains (type_keys t) k → find_entry es k ≡ find_entry fs k) → typed_in es (type_or_none t) ≡ t → typed_in fs (type_or_none t) ≡ t
+typed_elsewhere es fs None alike h = refl
+typed_elsewhere es fs (Some u) alike h =
+    let kept : settled (kinds_in es) u ≡ u = typed_is (find_entry es) (settled (kinds_in es) u) u h in
+    let same : settled (kinds_in es) u ≡ settled (kinds_in fs) u = settling_is_local (kinds_in es) (kinds_in fs) u (λ k c. ap (λ (o : Option Entry). kind_of_term (term_in o)) (alike k c)) in
+    ap (typed (find_entry fs)) (sym same ∙ kept) ∙ (sym (typed_alike (find_entry es) (find_entry fs) u alike) ∙ (ap (typed (find_entry es)) (sym kept) ∙ h))
 
 -- declarations that rise have one place each
 
@@ -163,9 +205,10 @@ module _ (these : List DeclRef) (d : DeclRef) where
         by true e rest = first_known (is_decl_listed these w.decl) w.decl k (shown_among these (decls_of ws) known) e (behind_none w.decl (decls_of ws) known (rise_all w.decl (decls_of ws) rise) e) h
         by false e rest = onward k known (position_of ws d) (rest (sym (passed (is_decl_listed these w.decl) w.decl k (shown_among these (decls_of ws) known) e) ∙ h))
 
-outlines_all : (fs : List FileTree) → All IsOutline (map outline_of fs)
-outlines_all [] = λ k d lt. absurd (omega (arith, lt))
-outlines_all (f ∷ fs) = All-cons IsOutline (outline_of f) (map outline_of fs) (f, refl) (outlines_all fs)
+outline_at : (fs : List FileTree) (n : ℕ) (o : FileOutline) → slice_get (map outline_of fs) n ≡ Some o → IsOutline o
+outline_at [] n o e = absurd (let no : None ≡ Some o = e in cc no)
+outline_at (f ∷ fs) zero o e = (let some : Some (outline_of f) ≡ Some o = e in let same : outline_of f ≡ o = cc some in (f, sym same))
+outline_at (f ∷ fs) (suc n) o e = outline_at fs n o e
 
 -- a package
 
@@ -194,30 +237,92 @@ module _ (i : InputModel) (c : ContentOf) (part : IsPart i c) where
       ∙ (ap (λ ts. package_shown (path_in i) c.blocks (decls_of (scene_in seen ts).written) part.checked.declared) (sym types_are) ∙ ap (λ ks. package_shown (path_in i) c.blocks (decls_of scene.written) ks) (sym part.declared)))
 
   pub rises : DeclsRise (decls_of scene.written)
-  rises = written_rises (package_meanings seen.shows seen.path seen.blocks) seen.path es (map outline_of (trees_in i.source)) (outlines_all (trees_in i.source))
+  rises = written_rises (package_meanings (shows_in seen) seen.path seen.blocks) seen.path es (map outline_of (trees_in i.source)) (outlines_all (trees_in i.source))
 
   pub unique : (e : List ℕ × DeclRef) → Among c.blocks.names e → in_block c.blocks.names e.0 ≡ Some e.1
   unique = subst (λ (ns : List (List ℕ × DeclRef)). (e : List ℕ × DeclRef) → Among ns e → in_block ns e.0 ≡ Some e.1) (sym part.blocks.package_names) (block_unique [] (package_declared (trees_of i.source.1)) (λ e a. absurd a))
 
-  -- what it shows as a type under a name of its block is the type of its key
+  abbrev own_path : List ℕ
+  own_path = path_in i
+
+  abbrev target : DeclKey → Term
+  target = (shows_in seen).target
+
+  abbrev aliases : List (DeclRef × Term)
+  aliases = written_aliases seen.shows own_path c.blocks (outlines_in seen)
+
+  abbrev far : DeclKey → Term
+  far = far_type (faces_told i.reached)
+
+  path_same : bytes_eq own_path own_path ≡ true
+  path_same = (bytes_eq-Decides own_path own_path).1 refl
+
+  -- what is no declaration of its own means what its package shows
+  pub target_far : (k : DeclKey) → (own_path ≡ k.path → ⊥) → target k ≡ far k
+  target_far k apart = mean_far aliases own_path far k (text_apart own_path k.path apart)
+
+  module _ (rules : All Wf_file (trees_in i.source)) (name : List ℕ) (d : DeclRef) (t : Option Term) (at : in_block c.blocks.names name ≡ Some d) (known : own_face scene c.declared d ≡ Some (faces.«Type» t)) where
+    module _ (is : is_type d.kind ≡ true) where
+      own : IsTypeOf seen es c.declared d
+      own = type_of_name seen (trees_of i.source.1) refl part.blocks.package_names es c.declared declared name d at is
+
+      abbrev mean : TypeName → Term
+      mean = file_meaning (shows_in seen) own_path c.blocks own.found.file
+
+      abbrev file : InFile
+      file = file_at own_path own.found.file own.found.outline
+
+      abbrev key : DeclKey
+      key = type_key file own.found.decl.number
+
+      -- by what it means where it stands
+      moved_key : (u : Term) → target key ≡ u → typed_in es u ≡ t → typed_in es (target (key_of own_path d)) ≡ t
+      moved_key u means same = ap (λ (k : DeclKey). typed_in es (target k)) (sym own.key) ∙ (ap (typed_in es) means ∙ same)
+
+      ruled : Wf_type_spec own.spec
+      ruled = file_ruled own.tree own.found.decl own.spec (has_of_all Wf_file (trees_in i.source) own.tree rules (has_get (trees_in i.source) own.found.file own.tree own.in_package)) own.among own.form
+
+      known_by_mark : (mark : Option Span) → own.spec.alias ≡ mark → Some (declared_face mark mean file es own.found.decl.number own.spec.type_expr) ≡ Some (faces.«Type» t) → typed_in es (target (key_of own_path d)) ≡ t
+      known_by_mark None e both =
+          let faces_same : Some (faces.«Type» (typed (find_entry es) (Defined key))) ≡ Some (faces.«Type» t) = both in
+          let same : typed (find_entry es) (Defined key) ≡ t = cc faces_same in
+          moved_key (Defined key) (mean_itself aliases own_path far key path_same (is_no_alias seen.shows own_path c.blocks (outlines_in seen) (outline_at seen.trees) own.found own.spec own.form e)) (settled_same es key ∙ same)
+      known_by_mark (Some m) e both =
+          let faces_same : Some (faces.«Type» (type_written mean file es own.spec.type_expr)) ≡ Some (faces.«Type» t) = both in
+          let same : type_written mean file es own.spec.type_expr ≡ t = cc faces_same in
+          let n = named_alone own.spec.alias m own.spec.type_expr e ruled.1 in
+          let named : Term = named_meaning seen.shows own_path c.blocks own.found.file n.0 in
+          let raw : term_of (package_meanings (declared_alone seen.shows) own_path c.blocks own.found.file) file own.spec.type_expr ≡ named =
+          ap (term_of (package_meanings (declared_alone seen.shows) own_path c.blocks own.found.file) file) n.1 ∙ sym (through_itself named) in
+          let alias = alias_is seen.shows own_path c.blocks (outlines_in seen) (outline_at seen.trees) own.found own.spec m own.form e ∙ ap (λ (u : Term). Some u) raw in
+          moved_key (through target named) (mean_step aliases own_path far key named alias) (sym (ap (type_written mean file es) n.1) ∙ same)
+
+      -- what a declaration of its own means that is known as a type
+      known_type : typed_in es (target (key_of own_path d)) ≡ t
+      known_type = known_by_mark own.spec.alias refl (sym own.face ∙ known)
+
+    -- it is a declaration of a type, and means that type
+    pub own_type : (is_type d.kind ≡ true) × (meant_in i c (type_of_key (key_of own_path d)) ≡ t)
+    own_type = by (is_type d.kind) refl
+      where
+        by : (b : Bool) → is_type d.kind ≡ b → (is_type d.kind ≡ true) × (meant_in i c (type_of_key (key_of own_path d)) ≡ t)
+        by true e = (e, ap (λ k. meant_in i c (type_of_kind (key_of own_path d) k)) (type_kind d.kind e) ∙ known_type e)
+        by false e =
+            let plain : IsNoType (own_face scene c.declared d) = face_plain seen (trees_of i.source.1) refl part.blocks.package_names es c.declared declared name d at e in
+            absurd (subst IsNoType known plain)
+
+  -- what it shows as a type under a name of its block is a type of it
   pub record IsTypeShown (d : DeclRef) (t : Option Term) : Type 0 where
     pub kind : is_type d.kind ≡ true
-    pub same : typed (find_entry es) (Defined (key_of (path_in i) d)) ≡ t
+    pub same : typed_in es (type_or_none t) ≡ t
+    pub face : face_by c.summary.faces d ≡ Some (faces.«Type» t)
 
-  pub type_shown : (name : List ℕ) (d : DeclRef) (t : Option Term) → in_block c.blocks.names name ≡ Some d → face_by c.summary.faces d ≡ Some (faces.«Type» t) → IsTypeShown d t
-  type_shown name d t at h = by (is_type d.kind) refl
-    where
-      known : own_face scene c.declared d ≡ Some (faces.«Type» t)
-      known = shown_known (exported_decls c.blocks.names) d (faces.«Type» t) scene.written c.declared rises (sym (ap (λ (m : PackageFacesModel). face_by m d) faces_are) ∙ h)
-
-      by : (b : Bool) → is_type d.kind ≡ b → IsTypeShown d t
-      by true e =
-          let face = face_typed seen (trees_of i.source.1) refl part.blocks.package_names es c.declared declared name d at e in
-          let both : Some (faces.«Type» (typed (find_entry es) (Defined (key_of (path_in i) d)))) ≡ Some (faces.«Type» t) = sym face ∙ known in
-          record { kind = e; same = cc both }
-      by false e =
-          let plain : IsNoType (own_face scene c.declared d) = face_plain seen (trees_of i.source.1) refl part.blocks.package_names es c.declared declared name d at e in
-          absurd (subst IsNoType known plain)
+  pub type_shown : All Wf_file (trees_in i.source) → (name : List ℕ) (d : DeclRef) (t : Option Term) → in_block c.blocks.names name ≡ Some d → face_by c.summary.faces d ≡ Some (faces.«Type» t) → IsTypeShown d t
+  type_shown rules name d t at h =
+      let known : own_face scene c.declared d ≡ Some (faces.«Type» t) =
+      shown_known (exported_decls c.blocks.names) d (faces.«Type» t) scene.written c.declared rises (sym (ap (λ (m : PackageFacesModel). face_by m d) faces_are) ∙ h) in
+      let own = own_type rules name d t at known in
+      record { kind = own.0; same = typed_again es (through target (type_of_key (key_of own_path d))) t own.1; face = h }
 
   -- a name that is seen behind a dot
   pub record IsSeen (name : List ℕ) (d : DeclRef) (f : TheFace) : Type 0 where
@@ -308,16 +413,13 @@ module _ (local : CheckIsLocal) (bind : ImportsBindTheirs) (ps : List PackageMod
         known_alike (told q) (told part) (well_told m q at) (well_told n part there) (Contains (reach_paths q.input))
         (λ path h. (let t = told_both path (among_from (reach_paths q.input) path h) in inl (record { summary = t.summary; one = among_to (told q) t.summary t.one; other = among_to (told part) t.summary t.other; is = t.is })))
 
-    -- a type that it shows is among the types that are told to the package which reaches it
-    moved : (d : DeclRef) (t : Option Term) → IsTypeShown q.input q.content (right m q at).made d t → typed_in (known_types part.input part.content) (type_of_key (key_of (path_in q.input) d)) ≡ t
+    -- a type that it shows is the same to the package which reaches it
+    moved : (d : DeclRef) (t : Option Term) → IsTypeShown q.input q.content (right m q at).made d t → typed_in (known_types part.input part.content) (type_or_none t) ≡ t
     moved d t h =
-        let k : DeclKey = key_of (path_in q.input) d in
-        let table = known_types part.input part.content in
-        let inside : Contains (reach_paths q.input) (path_in q.input) = among_to (reach_paths q.input) (path_in q.input) (inl refl) in
-        ap (λ y. typed_in table (type_of_kind k y)) (type_kind d.kind h.kind)
-        ∙ (settled_same table k ∙ (sym (ap (λ (o : Option Entry). if not (is_no_type (term_in o)) then Some (Defined k) else None) (alike.types k inside)) ∙ h.same))
+        let stays = all_inside ps parts well right local bind plan planned m q at in
+        typed_elsewhere (known_types q.input q.content) (known_types part.input part.content) t (λ k c. alike.types k (stays.faces d (faces.«Type» t) k h.face c)) h.same
 
-  module _ (n : ℕ) (part : PartModel) (there : slice_get parts n ≡ Some (Some part)) where
+  module _ (rules : (m : ℕ) (part : PartModel) → slice_get parts m ≡ Some (Some part) → All Wf_file (trees_in part.input.source)) (n : ℕ) (part : PartModel) (there : slice_get parts n ≡ Some (Some part)) where
     abbrev i : InputModel
     i = part.input
 
@@ -330,8 +432,23 @@ module _ (local : CheckIsLocal) (bind : ImportsBindTheirs) (ps : List PackageMod
     exports_are : (m : ℕ) (q : PartModel) → slice_get parts m ≡ Some (Some q) → q.content.summary.exports ≡ exports_of q.input.source q.content.blocks
     exports_are m q at = ap (λ (s : SummaryModel). s.exports) (right m q at).made.summary
 
+    -- a summary that is told is of another package
+    apart_from : (s : SummaryModel) → Among i.reached s → (path : List ℕ) → path ≡ path_of s → path_in i ≡ path → ⊥
+    apart_from s a path is same =
+        let r = right n part there in
+        let none : NoneIsOf i.reached (path_in i) = none_reached ps parts well right n i r.input bind plan planned r.numbered (λ m q to at. all_inside ps parts well right local bind plan planned m q at) in
+        among_all (λ (t : SummaryModel). path_in i ≡ path_of t → ⊥) i.reached s none a (same ∙ is)
+
+    -- what the declaration of a type of another package means
+    of_other : (m : ℕ) (q : PartModel) (at : slice_get parts m ≡ Some (Some q)) → ReachesPackage ps n m → Among i.reached q.content.summary → (k : DeclKey) (t : Option Term) → k.path ≡ path_of q.content.summary
+        → IsTypeShown q.input q.content (right m q at).made k.decl t → meant_in i c (type_of_key k) ≡ t
+    of_other m q at reached among k t path h =
+        let face : face_in (faces_told i.reached) k.path k.decl ≡ Some (faces.«Type» t) = ap (λ x. face_in (faces_told i.reached) x k.decl) path ∙ ((tells_of q.content.summary among).declared k.decl ∙ h.face) in
+        let means : (shows_in (seen_in i c)).target k ≡ type_or_none t = target_far i c (right n part there).made k (apart_from q.content.summary among k.path path) ∙ ap face_type face in
+        ap (λ kind. meant_in i c (type_of_kind k kind)) (type_kind k.decl.kind h.kind) ∙ (ap (typed_in (known_types i c)) means ∙ moved n part there m q at reached among k.decl t h)
+
     named : (file : ℕ) (name : List ℕ) (b : Binding) (k : DeclKey) (t : Option Term) → file_binding c.blocks file name ≡ Some b → b.target ≡ targets.Exported k
-        → face_in (faces_told i.reached) k.path k.decl ≡ Some (faces.«Type» t) → typed_in (known_types i c) (type_of_key k) ≡ t
+        → face_in (faces_told i.reached) k.path k.decl ≡ Some (faces.«Type» t) → meant_in i c (type_of_key k) ≡ t
     named file name b k t is target face =
         let r = right n part there in
         let s = bound_shown (trees_of i.source.1) i.imports c.blocks r.made.blocks file name b k is target in
@@ -345,12 +462,11 @@ module _ (local : CheckIsLocal) (bind : ImportsBindTheirs) (ps : List PackageMod
         let listed = exported_among q.content.blocks.names (s.name, k.decl) (subst (λ (e : ExportsModel). Among e.names (s.name, k.decl)) same s.among) in
         let block = unique q.input q.content (right p.to q p.shows.told.there).made (s.name, k.decl) listed in
         let path : k.path ≡ path_of q.content.summary = s.path ∙ ap (λ (e : ExportsModel). e.path) exports in
-        let own : k.path ≡ path_in q.input = s.path ∙ ap (λ (e : ExportsModel). e.path) same in
         let shown = sym ((tells_of q.content.summary among).declared k.decl) ∙ (ap (λ x. face_in (faces_told i.reached) x k.decl) (sym path) ∙ face) in
-        let typed_there = type_shown q.input q.content (right p.to q p.shows.told.there).made s.name k.decl t block shown in
-        ap (λ x. typed_in (known_types i c) (type_of_key (key_of x k.decl))) own ∙ moved n part there p.to q p.shows.told.there reached among k.decl t typed_there
+        of_other p.to q p.shows.told.there reached among k t path
+        (type_shown q.input q.content (right p.to q p.shows.told.there).made (rules p.to q p.shows.told.there) s.name k.decl t block shown)
 
-    shown_behind : (path name : List ℕ) (d : DeclRef) (t : Option Term) → exported_in (faces_told i.reached) path name ≡ shown_faces.Shown d (Some (faces.«Type» t)) → typed_in (known_types i c) (shown_type path (shown_in (exports_told i.reached) path name)) ≡ t
+    shown_behind : (path name : List ℕ) (d : DeclRef) (t : Option Term) → exported_in (faces_told i.reached) path name ≡ shown_faces.Shown d (Some (faces.«Type» t)) → meant_in i c (shown_type path (shown_in (exports_told i.reached) path name)) ≡ t
     shown_behind path name d t h =
         let r = right n part there in
         let f = exported_from i.reached path name d (Some (faces.«Type» t)) h in
@@ -362,22 +478,24 @@ module _ (local : CheckIsLocal) (bind : ImportsBindTheirs) (ps : List PackageMod
         let own = of_one ps parts well right by.number q by.tells.there in
         let path_is : path ≡ path_of s = f.2 ∙ (ap (λ (x : SummaryModel). x.faces.path) by.tells.is ∙ own.faces) in
         let e = exports_are by.number q by.tells.there in
-        let here : path ≡ path_in q.input = path_is ∙ ap (λ (x : ExportsModel). x.path) e in
         let seen = name_seen q.input q.content (right by.number q by.tells.there).made name d (faces.«Type» t) (sym (tells.faces name) ∙ (ap (λ x. exported_in (faces_told i.reached) x name) (sym path_is) ∙ h)) in
         let shown_is : shown_in (exports_told i.reached) path name ≡ Some d =
         ap (λ x. shown_in (exports_told i.reached) x name) path_is
         ∙ (tells.names name
         ∙ (ap (λ (x : ExportsModel). shown_in (x ∷ []) x.path name) e
         ∙ (shows_its_block [] q.input.source q.content.blocks name ∙ (ap (λ (y : Bool). if y then in_block q.content.blocks.names name else None) seen.out ∙ seen.there)))) in
-        let typed_there = type_shown q.input q.content (right by.number q by.tells.there).made name d t seen.there seen.face in
-        ap (λ o. typed_in (known_types i c) (shown_type path o)) shown_is
-        ∙ (ap (λ x. typed_in (known_types i c) (type_of_key (key_of x d))) here ∙ moved n part there by.number q by.tells.there by.reached among d t typed_there)
+        let shown = type_shown q.input q.content (right by.number q by.tells.there).made (rules by.number q by.tells.there) name d t seen.there seen.face in
+        ap (λ o. meant_in i c (shown_type path o)) shown_is ∙ of_other by.number q by.tells.there by.reached among (key_of path d) t path_is shown
 
     pub shows : ShowTheirTypes i c
-    shows = record { named = named; shown = shown_behind }
+    shows = record {
+      own = λ name d t at known. (own_type i c (right n part there).made (rules n part there) name d t at known).1;
+      named = named;
+      shown = shown_behind;
+    }
 
-pub parts_show : CheckIsLocal → ImportsBindTheirs → PartsShowTheirTypes
-parts_show local bind ps parts well made p h =
+pub parts_show : CheckIsLocal → ImportsBindTheirs → PartsAreRead → PartsShowTheirTypes
+parts_show local bind read ps parts well made p h =
     let r = numbered_in parts p (among_from (somes parts) p h) in
     let plan = has_plan ps well in
-    shows local bind ps parts well (all_right ps parts made) plan.0 plan.1 r.number p r.there
+    shows local bind ps parts well (all_right ps parts made) plan.0 plan.1 (λ n part there. all_keep_rules part.input.source.1 (read ps parts well made n part there)) r.number p r.there

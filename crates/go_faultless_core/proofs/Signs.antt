@@ -31,7 +31,7 @@ use Rattle.go_typed_core.specs.graph_core.Workspaces.{IsWorkspace, PackageModel}
 use Rattle.go_typed_core.specs.entry_core.Among.{Among, among_flat, among_from, among_map, among_to}
 use Rattle.go_typed_core.specs.entry_core.Entries.{package_meanings}
 use Rattle.go_typed_core.specs.entry_core.Outlines.{FileOutline, IsOutline, outline_of}
-use Rattle.go_called_core.specs.ready_core.Packages.{PackageIn, outlines_in}
+use Rattle.go_called_core.specs.ready_core.Packages.{PackageIn, outlines_in, shows_in}
 use Rattle.go_typed_core.specs.summary_core.Summaries.{IsOfOne, SummaryModel, path_of}
 use Rattle.go_typed_core.specs.summary_core.Views.{types_told}
 use Rattle.go_called_core.specs.table_core.Tables.{AreOf}
@@ -157,7 +157,7 @@ module _ (fit : PartsAreFit) (ws : List PackageModel) (parts : List (Option Part
       let part = (fit ws parts well made r.number q r.there).part in
       let types : q.content.summary.types.entries ≡ part.checked.types = ap (λ (s : SummaryModel). s.types.entries) part.summary in
       let seen : PackageIn = package_seen q.input q.content.blocks (seen_by q.input) in
-      signs_same (package_meanings seen.shows seen.path seen.blocks) seen.path (outlines_in seen) (outlines_all seen.trees) (find_entry (types_told q.input.reached)) part.checked.types part.is_checked.types.loops part.is_checked.types.built
+      signs_same (package_meanings (shows_in seen) seen.path seen.blocks) seen.path (outlines_in seen) (outlines_all seen.trees) (find_entry (types_told q.input.reached)) part.checked.types part.is_checked.types.loops part.is_checked.types.built
       e f (subst (λ es. Among es e) types in_e) (subst (λ es. Among es f) types in_f) m n of_e of_f a b at_m at_n files numbers
 
   module _ (local : CheckIsLocal) (bind : ImportsBindTheirs) (p : PartModel) (h : Among (somes parts) p) where

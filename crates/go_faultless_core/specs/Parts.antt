@@ -13,7 +13,7 @@ use Rattle.go_typed_core.specs.Written.{ShowTheirTypes}
 abbrev pub PartsAreSeenAlike : Type 0
 PartsAreSeenAlike = (ws : List PackageModel) (parts : List (Option PartModel)) → IsWorkspace ws → AreParts ws parts → (p : PartModel) → Contains (somes parts) p → AreSeenAlike (somes parts) p
 
--- the packages that a part reaches show as types what their names mean
+-- the packages that a part reaches show as types what their names mean, and it knows its own types so
 abbrev pub PartsShowTheirTypes : Type 0
 PartsShowTheirTypes = (ws : List PackageModel) (parts : List (Option PartModel)) → IsWorkspace ws → AreParts ws parts → (p : PartModel) → Contains (somes parts) p → ShowTheirTypes p.input p.content
 

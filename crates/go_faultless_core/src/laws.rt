@@ -26,14 +26,16 @@ pub fn parts_are_seen_alike()
     imports_bind_theirs();
 }
 
-/// The packages of a workspace show as types what their names mean where a type is written, to each package that reaches them.
+/// The packages of a workspace show as types what their names mean where a type is written, to each package that reaches them, and each knows its own types so:
+/// the name of an alias means the alias's target.
 ///
-/// The Go specification, "Exported identifiers", "Qualified identifiers", "Import declarations".
+/// The Go specification, "Exported identifiers", "Qualified identifiers", "Import declarations", "Alias declarations".
 pub fn parts_show_their_types()
     ensures { PartsShowTheirTypes }
 {
     check_is_local();
     imports_bind_theirs();
+    parts_are_read();
 }
 
 /// So each part of a workspace stands among the others as the laws on functions ask.

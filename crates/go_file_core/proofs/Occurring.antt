@@ -6,7 +6,7 @@ use Rattle.std.proofs.lemmas.Grind.{flat_map-append}
 use Rattle.go_text_core.specs.declared.span.Span.{Span}
 use Rattle.go_tree_nodes.specs.declared.decls.ValueKind.{ValueKind}
 use Rattle.go_tree_nodes.specs.Trees.{ValueSpecTree, TypeSpecTree, Specs, Single, Group, DeclTree, Value, Types, Func, TopTree, ImportSpecTree, ImportTree, of_specs}
-use Rattle.go_tree_nodes.specs.Rules.{Wf_group, Wf_specs, Wf_value_spec, Wf_type, Wf_decl, Wf_tops}
+use Rattle.go_tree_nodes.specs.Rules.{Wf_group, Wf_specs, Wf_value_spec, Wf_type_spec, Wf_decl, Wf_tops}
 use Rattle.go_func_core.specs.tree_core.declared.occurrence.Role.{Role}
 use Rattle.go_func_core.specs.tree_core.declared.occurrence.Role.TheVariants as roles
 use Rattle.go_func_core.specs.tree_core.declared.occurrence.Occ.{Occ}
@@ -82,7 +82,7 @@ type_used looks t = (uses_occur Term Sign Declaration (List ℕ)).types looks t.
 
 decl_used : (st : FileStand) (d : DeclTree) → Wf_decl d → used (decl_uses st d) ≡ occur (decl_occs d)
 decl_used st (Value v) h = specs_used (spec_uses (outer_looks st)) value_spec_occs (Wf_value_spec v.kind) (spec_used (outer_looks st) v.kind) v.specs h
-decl_used st (Types t) h = specs_used (type_spec_uses (outer_looks st)) type_spec_occs (λ s. Wf_type s.type_expr) (λ s k. type_used (outer_looks st) s) t.specs h
+decl_used st (Types t) h = specs_used (type_spec_uses (outer_looks st)) type_spec_occs Wf_type_spec (λ s k. type_used (outer_looks st) s) t.specs h
 decl_used st (Func f) h = functions_have_occurrences st f h
 
 tops_used : (st : FileStand) (ds : List TopTree) → Wf_tops ds → used (tops_uses st ds) ≡ occur (tops_occs ds)

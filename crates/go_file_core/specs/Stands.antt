@@ -13,7 +13,7 @@ use Rattle.go_func_core.specs.Stands.{FileStand, kinds_in_scene}
 use Rattle.go_func_core.specs.Laws.{AreFuncTypes}
 use Rattle.go_file_core.specs.declared.file_at.FileAt.{FileAt}
 
--- where its pieces are checked, if other packages show this
+-- where its pieces are checked, by what names of types lead to
 abbrev pub stand_of : {P : Type 0} → (P → Shows) → FileAt P → FileStand
 stand_of shows at = record {
   scene = scene_shown at.scene.now;

@@ -15,7 +15,7 @@ pub struct FileAt<'n, 'p, P> {
     pub file: usize,
     /// The identifiers that the file declares outside function bodies.
     pub places: &'n Places,
-    /// What other packages show to names of types.
+    /// What other packages show to names of types, and what declarations of types mean.
     pub imported: &'n P,
     /// What the imports of the file come to, in order of place.
     pub imports: &'p [Imported],

@@ -10,7 +10,7 @@ use Rattle.go_tree_nodes.specs.declared.names.Ident.{Ident}
 use Rattle.go_tree_nodes.specs.declared.decls.ValueKind.{ValueKind}
 use Rattle.go_tree_nodes.specs.declared.decls.ValueKind.TheVariants as value_kinds
 use Rattle.go_tree_nodes.specs.declared.types.TypeName.{TypeName}
-use Rattle.go_tree_nodes.specs.Rules.{Wf_decl, Wf_file, Wf_group, Wf_specs, Wf_tops, Wf_type, Wf_value_spec}
+use Rattle.go_tree_nodes.specs.Rules.{Wf_decl, Wf_file, Wf_group, Wf_specs, Wf_tops, Wf_type_spec, Wf_value_spec}
 use Rattle.go_tree_nodes.specs.Trees.{One, TypeTree, FuncTree, DeclTree, Value, Types, Func, TopTree, FileTree, ValueSpecTree, TypeSpecTree, Specs, Single, Group, of_specs}
 use Rattle.go_tree_nodes.specs.WrittenTypes.{spec_types}
 use Rattle.go_tree_nodes.specs.Idents.{expr_idents}
@@ -355,7 +355,7 @@ module _ (IsNamed : List ℕ → Declaration → Type 0) (IsImported : ℕ → D
 
       decl_there : (d : DeclTree) → Wf_decl d → IsGoodDecl good IsHere d → AreThere IsNamed IsImported (decl_occs d) (decl_uses st d)
       decl_there (Value v) wf h = specs_there (spec_uses (outer_looks st)) value_spec_occs (Wf_value_spec v.kind) (λ s. Each (IsGood good) (spec_types s)) (spec_there v.kind) v.specs wf h
-      decl_there (Types t) wf h = specs_there (λ (s : TypeSpecTree). type_uses (outer_looks st) s.type_expr) type_spec_occs (λ s. Wf_type s.type_expr) (λ s. IsGood good s.type_expr) (λ s w k. type_there s.type_expr k) t.specs wf h
+      decl_there (Types t) wf h = specs_there (λ (s : TypeSpecTree). type_uses (outer_looks st) s.type_expr) type_spec_occs Wf_type_spec (λ s. IsGood good s.type_expr) (λ s w k. type_there s.type_expr k) t.specs wf h
       decl_there (Func f) wf h = func_there f wf h.0 h.1
 
       pub tops_there : (ds : List TopTree) → Wf_tops ds → Each (λ (d : TopTree). IsGoodDecl good IsHere d.decl) ds → AreThere IsNamed IsImported (tops_occs ds) (tops_uses st ds)

@@ -13,6 +13,7 @@ mod Selecting
 mod Sites
 mod Spelled
 mod Tables
+mod Targets
 mod Terms
 mod Uses
 mod Walking

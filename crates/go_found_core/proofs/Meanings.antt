@@ -25,7 +25,7 @@ use Rattle.go_scope_core.specs.Models.{ScopesModel, scopes_model}
 use Rattle.go_scope_core.specs.Scopes.{Denoted}
 use Rattle.go_scope_core.proofs.Lookups.{by_parts, in_scope}
 use Rattle.go_names_core.specs.Scope.{beyond_in, some_meaning}
-use Rattle.go_entry_core.specs.Meanings.{Shows, file_meaning, outside_meaning, plain_meaning, qualified_meaning, shown_type, type_in_binding, type_in_target, type_of_kind, type_of_predeclared, type_of_target, type_of_universe}
+use Rattle.go_entry_core.specs.Meanings.{Shown, named_meaning, outside_meaning, plain_meaning, qualified_meaning, shown_type, type_in_binding, type_in_target, type_of_kind, type_of_predeclared, type_of_target, type_of_universe}
 use Rattle.go_handle_core.specs.Declarations.{Declaration, Universe, OfError, Package, InFile}
 use Rattle.go_table_core.specs.Entries.{Entry}
 use Rattle.go_face_core.specs.declared.face.Face.TheVariants as faces
@@ -47,7 +47,7 @@ use Rattle.go_found_core.proofs.Blocks.{IsTargetThere}
 use Rattle.go_found_core.proofs.Placing.{IsGlobal}
 use Rattle.go_found_core.proofs.Wider.{IsAnyIn, IsFaceIn, any_wider, entries_wider}
 
--- names of types mean declared types, or predeclared ones, none of which has a field or a method of its own
+-- names of types denote declared types, or predeclared ones, none of which has a field or a method of its own
 module _ (In : List ℕ → List ℕ → MemberPlace → Type 0) where
   kind_in : (k : DeclKey) (kind : DeclKind) → IsTermIn In (type_of_kind k kind)
   kind_in k kinds.«Type» = tt
@@ -74,7 +74,7 @@ module _ (In : List ℕ → List ℕ → MemberPlace → Type 0) where
   shown_type_in q None = tt
   shown_type_in q (Some d) = kind_in (key_of q d) d.kind
 
-  in_target_in : (shows : Shows) (name : List ℕ) (t : Target) → IsTermIn In (type_in_target shows name t)
+  in_target_in : (shows : Shown) (name : List ℕ) (t : Target) → IsTermIn In (type_in_target shows name t)
   in_target_in shows name (targets.«Package» q) = shown_type_in q (shows q name)
   in_target_in shows name (targets.Refused rule) = tt
   in_target_in shows name (targets.Exported k) = tt
@@ -87,17 +87,17 @@ module _ (In : List ℕ → List ℕ → MemberPlace → Type 0) where
   plain_in path b file name None = outer_type_in path name (file_binding b file name)
   plain_in path b file name (Some d) = kind_in (key_of path d) d.kind
 
-  binding_in : (shows : Shows) (name : List ℕ) (o : Option Binding) → IsTermIn In (type_in_binding shows name o)
+  binding_in : (shows : Shown) (name : List ℕ) (o : Option Binding) → IsTermIn In (type_in_binding shows name o)
   binding_in shows name None = tt
   binding_in shows name (Some x) = in_target_in shows name x.target
 
-  qualified_in : (shows : Shows) (b : BlocksModel) (file : ℕ) (q name : List ℕ) (o : Option DeclRef) → IsTermIn In (qualified_meaning shows b file q name o)
+  qualified_in : (shows : Shown) (b : BlocksModel) (file : ℕ) (q name : List ℕ) (o : Option DeclRef) → IsTermIn In (qualified_meaning shows b file q name o)
   qualified_in shows b file q name None = binding_in shows name (file_binding b file q)
   qualified_in shows b file q name (Some d) = tt
 
-  pub meaning_in : (shows : Shows) (path : List ℕ) (b : BlocksModel) (file : ℕ) (n : TypeName) → IsTermIn In (file_meaning shows path b file n)
-  meaning_in shows path b file (type_names.Plain x) = plain_in path b file x.name (in_block b.names x.name)
-  meaning_in shows path b file (type_names.Qualified q dot x) = qualified_in shows b file q.name x.name (in_block b.names q.name)
+  pub named_in : (shows : Shown) (path : List ℕ) (b : BlocksModel) (file : ℕ) (n : TypeName) → IsTermIn In (named_meaning shows path b file n)
+  named_in shows path b file (type_names.Plain x) = plain_in path b file x.name (in_block b.names x.name)
+  named_in shows path b file (type_names.Qualified q dot x) = qualified_in shows b file q.name x.name (in_block b.names q.name)
 
 -- the names of a file, each with what is there under it outside functions
 

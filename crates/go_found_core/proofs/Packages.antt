@@ -37,13 +37,14 @@ use Rattle.go_block_core.specs.Blocks.{file_binding}
 use Rattle.go_block_core.specs.Naming.{file_specs, specs_in, specs_of}
 use Rattle.go_block_core.specs.Tables.{in_block}
 use Rattle.go_entry_core.specs.Entries.{Meanings, file_at, package_meanings, type_key}
+use Rattle.go_entry_core.specs.Marks.{alias_mark}
 use Rattle.go_entry_core.specs.Outlines.{FileOutline, outline_of}
 use Rattle.go_entry_core.proofs.Among.{Among, among_flat, among_from, among_map, among_numbered, among_to}
 use Rattle.go_handle_core.specs.Declarations.{Declaration, Universe, OfError, Package, InFile}
 use Rattle.go_face_core.specs.Faces.{TheFace, variable_face}
 use Rattle.go_face_core.specs.Laws.{FileDecl, file_decl, package_decls}
 use Rattle.go_face_core.specs.Packages.{PackageFacesModel, face_among, face_by, face_in, package_in}
-use Rattle.go_face_core.specs.Written.{WrittenOf, decls_of, face_found, file_written, same_decl_place, type_written, written_at, written_of, written_with}
+use Rattle.go_face_core.specs.Written.{WrittenOf, declared_face, decls_of, face_found, file_written, same_decl_place, type_written, written_at, written_of, written_with}
 use Rattle.go_face_core.specs.Written as writing
 use Rattle.go_face_core.proofs.Places.{among_at}
 use Rattle.go_env_core.specs.Looks.{TheLooks}
@@ -60,7 +61,7 @@ use Rattle.go_value_core.proofs.Owning.{outer_alike}
 use Rattle.go_value_core.proofs.Deciding.{needs_decide}
 use Rattle.go_answer_core.specs.Shown.{exported_decls, is_decl_listed, shown_among, shown_if}
 use Rattle.go_ready_core.specs.Laws.{package_placed}
-use Rattle.go_ready_core.specs.Packages.{PackageIn, entries_in, outlines_in, scene_in, stand_in}
+use Rattle.go_ready_core.specs.Packages.{PackageIn, entries_in, outlines_in, scene_in, shows_in, stand_in}
 use Rattle.go_ready_core.specs.Values.{declared_in, decls_in, face_there, needs_in, some_decl_face}
 use Rattle.go_ready_core.proofs.Lists.{mapped_at as item_mapped}
 use Rattle.go_ready_core.proofs.Values.{faces_same, needs_same}
@@ -77,8 +78,9 @@ use Rattle.go_found_core.proofs.Functions.{IsGood, IsStandIn, IsNameHere, outer_
 use Rattle.go_found_core.proofs.Placing.{IsGlobal, has_outer_place, has_place, inner_names, name_seen, outer_fits, outer_global, outer_sound, sound, type_fits}
 use Rattle.go_found_core.proofs.Decls.{each_of, spec_good, top_form, tops_good}
 use Rattle.go_found_core.proofs.Blocks.{AreFilesThere, IsShownThere, IsTargetThere, decl_global, import_there}
-use Rattle.go_found_core.proofs.Meanings.{AreNamesOf, IsKnownThere, meaning_in, stand_in as stand_there}
-use Rattle.go_found_core.proofs.Wider.{IsAnyIn, IsFaceIn}
+use Rattle.go_found_core.proofs.Meanings.{AreNamesOf, IsKnownThere, stand_in as stand_there}
+use Rattle.go_found_core.proofs.Targets.{meaning_in}
+use Rattle.go_found_core.proofs.Wider.{IsAnyIn, IsFaceIn, term_wider}
 
 -- what a table has for the numbers of a list, and nothing for others
 abbrev kept : (ℕ → Option TheFace) → (ns : List ℕ) (m : ℕ) → Among ns m ⊎ (Among ns m → ⊥) → Option TheFace
@@ -122,9 +124,14 @@ module _ (In : List ℕ → List ℕ → MemberPlace → Type 0) where
     value_in value_kinds.Var None h = tt
     value_in value_kinds.Const t h = tt
 
+    -- an alias is the type that it is written as
+    type_face_in : (mark : Option Span) (n : ℕ) (t : TypeTree) → Each (IsPlacedIn In f) (some_type_outers (Some t)) → IsFaceIn In (declared_face mark mean f es n t)
+    type_face_in None n t h = typed_any (Defined (type_key f n)) tt
+    type_face_in (Some m) n t h = type_any t h
+
     form_in : (n : ℕ) (form : FormTree) → Each (IsPlacedIn In f) (form_outers form) → IsAnyIn In (writing.form_as_written mean f es n form)
     form_in n (ValueForm k v i) h = value_in k v.type_expr (each_left (IsPlacedIn In f) (some_type_outers v.type_expr) (values_outers v.values) h)
-    form_in n (TypeForm t) h = typed_any (Defined (type_key f n)) tt
+    form_in n (TypeForm t) h = type_face_in (alias_mark t) n t.type_expr h
     form_in n (FuncForm g) h = settled_sign_in In (kinds_in es) (signature_of mean f g.signature) (signature_in In mean f named g.signature h)
 
     file_in : (ds : List TopDeclTree) → ((d : TopDeclTree) → Among ds d → IsDeclIn In f d) → (w : WrittenOf) → Among (file_written mean f es ds) w → IsAnyIn In w.face
@@ -211,10 +218,7 @@ module _ (ps : List PackageModel) (p : PackageIn) (far : List Entry) (c : Checke
   os = outlines_in p
 
   abbrev means : Meanings
-  means = package_meanings p.shows p.path p.blocks
-
-  named : (file : ℕ) (n : TypeName) → IsTermIn Global (means file n)
-  named file n = meaning_in Global p.shows p.path p.blocks file n
+  means = package_meanings (shows_in p) p.path p.blocks
 
   -- a file of the package, and its tree
   abbrev at_file : ℕ → FileTree → FilePlace
@@ -247,6 +251,9 @@ module _ (ps : List PackageModel) (p : PackageIn) (far : List Entry) (c : Checke
   own q a d b =
       let t = tree_of q a in
       subst (λ (o : FileOutline). IsDeclIn Global (file_at p.path q.0 o) d) t.is (decl_in q.0 t.tree t.among d (subst (λ (o : FileOutline). Among o.decls d) (sym t.is) b))
+
+  named : (file : ℕ) (n : TypeName) → IsTermIn Global (means file n)
+  named file n = meaning_in Global p.shows p.others p.path p.blocks os own other_faces file n
 
   written : AreEntriesIn Global (entries_in p)
   written = written_in Global means p.path os named own
@@ -382,7 +389,7 @@ module _ (ps : List PackageModel) (p : PackageIn) (far : List Entry) (c : Checke
       let here = there n t is in
       let law : IsStandIn (IsThereUnder ps at) st (has_place t) =
       stand_there ps at (IsThereUnder ps at) (names_at ps at) (scene_in p es) c.declared (known_there c.declared known_inside n t is) st (has_place t) refl refl refl
-      (λ name. meaning_in (λ home word place. IsThereUnder ps at word (InFile home place)) p.shows p.path p.blocks n name) (sound ps at t here) in
+      (λ name. term_wider Global (λ home word place. IsThereUnder ps at word (InFile home place)) (names_at ps at).global (means n name) (named n name)) (sound ps at t here) in
       let good = tops_good (has_place t) (IsNameHere (IsThereUnder ps at) st) t (λ o a. outer_fits ps at t here (tree_placed n t is) (inner_names t) o a)
       (λ g a u b o d. type_fits ps at t here (tree_placed n t is) g a u o b d) (λ g a x b. name_seen ps at t here (tree_placed n t is) g a x b) in
       both_there (IsThereUnder ps at) (IsImportThereAt ps at) (imports_occs t.imports) (tops_occs t.decls) (imports_uses (file_specs t) (imports_at p n)) (tops_uses st t.decls)

@@ -5,6 +5,7 @@ use Rattle.std.specs.List.{filter, enumerate_from}
 use Rattle.std.specs.Str.{bytes_eq}
 use Rattle.std.proofs.lemmas.Bool.{and_parts}
 use Rattle.go_text_core.specs.Text.{is_blank}
+use Rattle.go_text_core.specs.declared.span.Span.{Span}
 use Rattle.go_tree_nodes.specs.declared.files.Receiver.{Receiver}
 use Rattle.go_tree_nodes.specs.declared.types.TypeName.{TypeName}
 use Rattle.go_tree_nodes.specs.Trees.{FuncTree, TypeSpecTree}
@@ -26,7 +27,8 @@ use Rattle.go_table_core.specs.Methods.{has_field_before}
 use Rattle.go_type_core.specs.declared.build.TypeFault.{TypeFault}
 use Rattle.go_type_core.specs.Built.{AreEntries, IsBuilt, IsEntry, IsUnderBy, IsUnderlying, unrepeated_methods, kept_over}
 use Rattle.go_written_core.specs.Written.{InFile, Meaning}
-use Rattle.go_entry_core.specs.Entries.{Meanings, Received, decl_methods, entries_with, entry_of, file_at, file_entries, file_methods, func_methods, is_type_of, methods_received, package_methods, spec_entry, type_key}
+use Rattle.go_entry_core.specs.Entries.{Meanings, Received, decl_methods, entries_with, entry_of, file_at, file_entries, file_methods, func_methods, is_listed, is_type_of, listed_entry, methods_received, package_methods, spec_entry, type_key}
+use Rattle.go_entry_core.specs.Marks.{alias_mark}
 use Rattle.go_entry_core.specs.Outlines.{FileOutline}
 use Rattle.go_entry_core.proofs.Among.{Among, among_filter, among_flat, among_map}
 use Rattle.go_found_core.proofs.Lists.{either, same_bytes}
@@ -120,16 +122,19 @@ module _ (Stands : List ℕ → List ℕ → MemberPlace → Type 0) where
         let k = own d.0 d.1 in
         form_in d.0 d.0.form r k k.types d.2
 
+    -- a type is one that counts where it is no alias
+    listed_in : (mark : Option Span) (s e : Entry) → IsEntryIn s → Among (listed_entry (is_listed false mark) s) e → IsEntryIn e
+    listed_in None s e h (inl same) = subst IsEntryIn same h
+    listed_in None s e h (inr none) = absurd none
+    listed_in (Some m) s e h at = absurd at
+
     module _ (rs : List Received) (received : (r : Received) → Among rs r → IsReceivedIn f.path r) where
       spec_in : (d : TopDeclTree) (t : TypeSpecTree) → Each (IsPlacedIn Stands f) (type_outers t.type_expr) → IsEntryIn (spec_entry mean f rs d t)
       spec_in d t h = (term_in Stands mean f named t.type_expr h, methods_in f.path (type_key f d.number) rs received)
 
       entry_of_in : (d : TopDeclTree) (form : FormTree) (e : Entry) → Each (IsPlacedIn Stands f) (form_outers form) → Among (entry_of mean f rs d form) e → IsEntryIn e
       entry_of_in d (ValueForm k v i) e h at = absurd at
-      entry_of_in d (TypeForm t) e h at = elim at [
-        | inl same ↦ subst IsEntryIn same (spec_in d t h)
-        | inr none ↦ absurd none
-      ]
+      entry_of_in d (TypeForm t) e h at = listed_in (alias_mark t) (spec_entry mean f rs d t) e (spec_in d t h) at
       entry_of_in d (FuncForm g) e h at = absurd at
 
       file_entries_in : (ds : List TopDeclTree) → ((d : TopDeclTree) → Among ds d → IsDeclIn f d) → (e : Entry) → Among (file_entries mean f rs ds) e → IsEntryIn e

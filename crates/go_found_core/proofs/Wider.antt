@@ -24,7 +24,7 @@ IsAnyIn Stands o = IfAny (IsFaceIn Stands) o
 
 module _ (Stands Wider : List ℕ → List ℕ → MemberPlace → Type 0) (wider : (home name : List ℕ) (place : MemberPlace) → Stands home name place → Wider home name place) where
   mutual
-    term_wider : (t : Term) → IsTermIn Stands t → IsTermIn Wider t
+    pub term_wider : (t : Term) → IsTermIn Stands t → IsTermIn Wider t
     term_wider NoType h = tt
     term_wider (Predeclared b) h = tt
     term_wider ErrorType h = tt

@@ -21,6 +21,7 @@ heights_are_worked = record {
   embedded = refl;
   interface_type = refl;
   types = refl;
+  alias = refl;
   method = refl;
   signature = refl;
   lone = refl;

@@ -8,7 +8,7 @@ use Rattle.go_tree_nodes.specs.Heights.{decl_height, file_height, height, simple
 use Rattle.go_tree_nodes.specs.Samples.{at, int_at}
 use Rattle.go_tree_nodes.specs.Trees.{TypeTree, ExprTree, SimpleTree, StmtTree, Break, Declare, Empty, If, Simple, Alone, NoElse, ElseBlock, ElseIf, DeclTree, FileTree}
 use Rattle.go_front_core.specs.HeightNodes.{Node, ExprNode, SimpleNode, TypeNode, nodes_below, decl_node, file_nodes, stmt_node}
-use Rattle.go_front_core.specs.HeightSamples.{block_of, branch_after, branch_of, call_of, call_with, const_of, counted_of, defined_as, embedded_pointer, f_name, file_of_decls, forever_of, func_of, func_of_pointer, in_parens, joined_by, lines_of, literal_of, method_of_pointer, number_one, one_field, one_method, pointer_to, return_of, selected_of, struct_literal_of, struct_of, two_types, value_of, var_of, while_of, x_name, y_name}
+use Rattle.go_front_core.specs.HeightSamples.{alias_decl, block_of, branch_after, branch_of, call_of, call_with, const_of, counted_of, defined_as, embedded_pointer, f_name, file_of_decls, forever_of, func_of, func_of_pointer, in_parens, joined_by, lines_of, literal_of, method_of_pointer, number_one, one_field, one_method, pointer_to, return_of, selected_of, struct_literal_of, struct_of, two_types, value_of, var_of, while_of, x_name, y_name}
 
 -- ---- paths
 
@@ -81,6 +81,8 @@ pub record HeightsAreWorked : Type 0 where
   pub interface_type : type_height one_method ≡ 3
   -- type ( T int; T **int ): the declaration, two pointers, the name; the specifications are no nodes
   pub types : decl_height (two_types (int_at 0) (pointer_to (pointer_to (int_at 0)))) ≡ 4
+  -- type A = T: the declaration, the name
+  pub alias : decl_height alias_decl ≡ 2
   -- func (x *T) m() { }: the function, its body or the receiver's type, whose star is no node
   pub method : decl_height method_of_pointer ≡ 2
   -- func f(x *int) T { }: the function, the pointer, the name

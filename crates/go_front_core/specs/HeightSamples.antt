@@ -6,7 +6,7 @@ use Rattle.go_tree_nodes.specs.declared.decls.ValueKind.TheVariants as value_kin
 use Rattle.go_tree_nodes.specs.declared.files.Receiver.{Receiver}
 use Rattle.go_tree_nodes.specs.declared.types.TypeName.{TypeName}
 use Rattle.go_tree_nodes.specs.declared.types.TypeName.TheVariants as type_names
-use Rattle.go_tree_nodes.specs.Samples.{at, called, int_at, name_at, type_at}
+use Rattle.go_tree_nodes.specs.Samples.{at, called, int_at, name_at, type_at, type_spec_of, alias_of}
 use Rattle.go_tree_nodes.specs.Trees as tree
 use Rattle.go_tree_nodes.specs.Trees.{One, TypeTree, Pointer, Struct, Interface, FieldTrees, NoFields, NamedFields, EmbeddedField, NoMethods, Method, SignatureTree, Signed, ResultTree, NoResult, OneResult, ParamTrees, NoParams, Param, ExprTree, Integer, Paren, Binary, Select, Call, Literal, StructLiteral, ItemTrees, NoItems, Item, Single, Group, SimpleTree, Alone, Define, While, Forever, Clauses, StmtTree, Block, If, For, Return, BranchTree, Branch, ElseTree, NoElse, ElseBlock, ElseIf, Lines, NoLines, Line, DeclTree, Types, Func, FileTree}
 
@@ -154,7 +154,11 @@ var_of e = tree.Value (value_of value_kinds.Var e)
 
 -- type ( T t; T u )
 abbrev pub two_types : TypeTree → TypeTree → DeclTree
-two_types t u = Types (record { keyword = at 0; specs = Group (at 0) ((record { name = called (codes "T") 0; type_expr = t }, Some (at 0)) ∷ ((record { name = called (codes "T") 0; type_expr = u }, None) ∷ [])) (at 0) })
+two_types t u = Types (record { keyword = at 0; specs = Group (at 0) ((type_spec_of (called (codes "T") 0) t, Some (at 0)) ∷ ((type_spec_of (called (codes "T") 0) u, None) ∷ [])) (at 0) })
+
+-- type A = T
+abbrev pub alias_decl : DeclTree
+alias_decl = Types (record { keyword = at 0; specs = Single (alias_of (called (codes "A") 0) 0 (type_at (codes "T") 0)) })
 
 -- func f() { .. }
 abbrev pub func_of : List StmtTree → DeclTree

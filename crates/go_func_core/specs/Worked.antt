@@ -21,7 +21,7 @@ use Rattle.go_term_core.specs.declared.term.Basic.TheVariants as basics
 use Rattle.go_term_core.specs.declared.term.MemberPlace.{MemberPlace}
 use Rattle.go_term_core.specs.declared.term.MemberPlace.TheVariants as places
 use Rattle.go_term_core.specs.Terms.{NoType, Predeclared, Defined, StructOf, NoField, AField}
-use Rattle.go_body_core.specs.entry_core.Meanings.{file_meaning}
+use Rattle.go_body_core.specs.entry_core.Meanings.{declared_alone, file_meaning}
 use Rattle.go_body_core.specs.denote_core.declared.things.Outcome.{Outcome}
 use Rattle.go_body_core.specs.denote_core.declared.things.Outcome.TheVariants as outcomes
 use Rattle.go_body_core.specs.handle_core.Declarations.{Declaration, Universe, InFile}
@@ -55,7 +55,7 @@ sample_stand = record {
   };
   known = Some (faces.«Type» (Some (Defined sample_type_key))) ∷ [];
   file = record { path = codes "p"; file = 0; places = [] };
-  top = file_meaning (λ path name. None) (codes "p") blocks 0;
+  top = file_meaning (declared_alone (λ path name. None)) (codes "p") blocks 0;
 }
 
 abbrev variable_of : Ident → TypeTree → ValueSpecTree

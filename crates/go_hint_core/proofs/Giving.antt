@@ -17,7 +17,7 @@ use Rattle.go_around_core.specs.block_core.Exports.{ExportsModel}
 use Rattle.go_around_core.specs.block_core.declared.imports.Imported.{Imported}
 use Rattle.go_term_core.specs.Terms.{Term}
 use Rattle.go_around_core.specs.table_core.Entries.{Entry}
-use Rattle.go_around_core.specs.entry_core.Meanings.{file_meaning}
+use Rattle.go_around_core.specs.entry_core.Meanings.{Shows, file_meaning}
 use Rattle.go_around_core.specs.entry_core.Outlines.{FileOutline, outline_of, outline_shown}
 use Rattle.go_around_core.specs.entry_core.Showing.{shown_in}
 use Rattle.go_local_core.specs.Binding.{NameLook}
@@ -37,7 +37,7 @@ use Rattle.go_around_core.specs.spot_core.Opened.{FileUsed}
 use Rattle.go_around_core.specs.behind_core.Names as behind
 use Rattle.go_around_core.specs.behind_core.Names.{AreNames}
 use Rattle.go_around_core.specs.Arounds.{ListsAround, rests_on_types}
-use Rattle.go_complete_core.specs.ready_core.Packages.{PackageIn, outlines_in, stand_in, trees_in}
+use Rattle.go_complete_core.specs.ready_core.Packages.{PackageIn, outlines_in, shows_in, stand_in, trees_in}
 use Rattle.go_complete_core.specs.package_core.Steps.{outline_there}
 use Rattle.go_around_core.specs.face_core.Faces.{TheFace}
 use Rattle.go_around_core.specs.face_core.Packages.{PackageFacesModel}
@@ -55,7 +55,7 @@ use Rattle.go_hint_core.specs.Kept.{open_by}
 use Rattle.go_complete_core.specs.body_core.Notes.{TheLocal}
 use Rattle.go_hint_core.proofs.Standing.{open_there, locals_kept, file_there}
 
-abbrev package_of : PackageModel → BlocksModel → List (List Imported) → List ExportsModel → List PackageFacesModel → PackageIn
+abbrev pub package_of : PackageModel → BlocksModel → List (List Imported) → List ExportsModel → List PackageFacesModel → PackageIn
 package_of source b imports shown faces = record { path = source.0; trees = trees_in source; blocks = b; imports = imports; shows = shown_in shown; others = faces }
 
 declared_same : {D P : Type 0} (o : Outcome D P) → context.is_declared o ≡ behind.is_declared o
@@ -123,49 +123,49 @@ module _ (decide : ImportsDecide) (p : PartModel) (q : PackageIn) (types : List 
       at_stand st (names_placed st f u placed) u.used.spot u.used.ident found two h
 
 -- where a file of a package stands, by what is made for it
-abbrev pub made_stand : PackageIn → List Entry → List (Option TheFace) → List ℕ → List WrittenOf → ℕ → List Place → FileStand
-made_stand q types known home written n places = record {
+abbrev pub made_stand : PackageIn → List Entry → List (Option TheFace) → Shows → List ℕ → List WrittenOf → ℕ → List Place → FileStand
+made_stand q types known shows home written n places = record {
   scene = record { path = home; blocks = q.blocks; types = types; others = q.others; written = written };
   known = known;
   file = record { path = home; file = n; places = places };
-  top = file_meaning q.shows home q.blocks n;
+  top = file_meaning shows home q.blocks n;
 }
 
 module _ (p : PartModel) (q : PackageIn) (types : List Entry) (seen : IsSeen p q types) (n : ℕ) where
   in_package : (f : FileTree) → slice_get (trees_in p.input.source) n ≡ Some f → slice_get q.trees n ≡ Some f
   in_package f there = ap (λ (x : PackageIn). slice_get x.trees n) seen.seen ∙ there
 
-  stand_there : (known : List (Option TheFace)) (home : List ℕ) (written : List WrittenOf) (o : FileOutline) (f : FileTree) → known ≡ p.content.declared → home ≡ q.path → written ≡ written_of q types
+  stand_there : (known : List (Option TheFace)) (shows : Shows) (home : List ℕ) (written : List WrittenOf) (o : FileOutline) (f : FileTree) → known ≡ p.content.declared → shows ≡ shows_in q → home ≡ q.path → written ≡ written_of q types
       → slice_get (outlines_in q) n ≡ Some o → slice_get (trees_in p.input.source) n ≡ Some f
-      → made_stand q types known home written n o.places ≡ stand_in q types p.content.declared n (outline_of f)
-  stand_there known home written o f of_known of_home of_written at there =
+      → made_stand q types known shows home written n o.places ≡ stand_in q types p.content.declared n (outline_of f)
+  stand_there known shows home written o f of_known of_shows of_home of_written at there =
       let same : o ≡ outline_of f = (let e : Some o ≡ Some (outline_of f) = sym at ∙ outline_there q n f (in_package f there) in cc) in
-      λ i. made_stand q types (of_known i) (of_home i) (of_written i) n (same i).places
+      λ i. made_stand q types (of_known i) (of_shows i) (of_home i) (of_written i) n (same i).places
 
   module _ (u : FileUsed) where
     -- by the outline and what is kept
-    pub named : ImportsDecide → (found : List (List ℕ)) (known : List (Option TheFace)) (home : List ℕ) (written : List WrittenOf) (o : FileOutline) (m : FileOf) → known ≡ p.content.declared → home ≡ q.path → written ≡ written_of q types
+    pub named : ImportsDecide → (found : List (List ℕ)) (known : List (Option TheFace)) (shows : Shows) (home : List ℕ) (written : List WrittenOf) (o : FileOutline) (m : FileOf) → known ≡ p.content.declared → shows ≡ shows_in q → home ≡ q.path → written ≡ written_of q types
         → slice_get (outlines_in q) n ≡ Some o → slice_get p.content.files n ≡ Some m
-        → ListsAround (looks_with (made_stand q types known home written n o.places) (open_by m.answers.locals u.open_names)) u.used.spot found
+        → ListsAround (looks_with (made_stand q types known shows home written n o.places) (open_by m.answers.locals u.open_names)) u.used.spot found
         → AreNamesWith p n u found
-    named decide found known home written o m of_known of_home of_written at kept lists = λ f there.
+    named decide found known shows home written o m of_known of_shows of_home of_written at kept lists = λ f there.
         let locals : Names Meaning = open_by m.answers.locals u.open_names in
         let now : (x : FileOf) → slice_get p.content.files n ≡ Some x → locals ≡ open_by x.answers.locals u.open_names =
         (λ x here. (let e : Some m ≡ Some x = sym kept ∙ here in let same : m ≡ x = cc in ap (λ (y : FileOf). open_by y.answers.locals u.open_names) same)) in
         given decide p q types seen n u found f there (all_at_place IsPlaced q.trees n f seen.placed (in_package f there)) locals now
-        (subst (λ (st : FileStand). ListsAround (looks_with st locals) u.used.spot found) (stand_there known home written o f of_known of_home of_written at there) lists)
+        (subst (λ (st : FileStand). ListsAround (looks_with st locals) u.used.spot found) (stand_there known shows home written o f of_known of_shows of_home of_written at there) lists)
 
     -- by places and locals that are those of the outline and of what is kept
-    pub named_by : ImportsDecide → (found : List (List ℕ)) (known : List (Option TheFace)) (home : List ℕ) (written : List WrittenOf) (places : List Place) (locals : List TheLocal) (o : FileOutline) (m : FileOf)
-        → known ≡ p.content.declared → home ≡ q.path → written ≡ written_of q types → places ≡ o.places → locals ≡ m.answers.locals
+    pub named_by : ImportsDecide → (found : List (List ℕ)) (known : List (Option TheFace)) (shows : Shows) (home : List ℕ) (written : List WrittenOf) (places : List Place) (locals : List TheLocal) (o : FileOutline) (m : FileOf)
+        → known ≡ p.content.declared → shows ≡ shows_in q → home ≡ q.path → written ≡ written_of q types → places ≡ o.places → locals ≡ m.answers.locals
         → slice_get (outlines_in q) n ≡ Some o → slice_get p.content.files n ≡ Some m
-        → ListsAround (looks_with (made_stand q types known home written n places) (open_by locals u.open_names)) u.used.spot found
+        → ListsAround (looks_with (made_stand q types known shows home written n places) (open_by locals u.open_names)) u.used.spot found
         → AreNamesWith p n u found
-    named_by decide found known home written places locals o m of_known of_home of_written of_places of_locals at kept lists =
-        let one : ListsAround (looks_with (made_stand q types known home written n o.places) (open_by locals u.open_names)) u.used.spot found =
-        subst (λ (ps : List Place). ListsAround (looks_with (made_stand q types known home written n ps) (open_by locals u.open_names)) u.used.spot found) of_places lists in
-        named decide found known home written o m of_known of_home of_written at kept
-        (subst (λ (ls : List TheLocal). ListsAround (looks_with (made_stand q types known home written n o.places) (open_by ls u.open_names)) u.used.spot found) of_locals one)
+    named_by decide found known shows home written places locals o m of_known of_shows of_home of_written of_places of_locals at kept lists =
+        let one : ListsAround (looks_with (made_stand q types known shows home written n o.places) (open_by locals u.open_names)) u.used.spot found =
+        subst (λ (ps : List Place). ListsAround (looks_with (made_stand q types known shows home written n ps) (open_by locals u.open_names)) u.used.spot found) of_places lists in
+        named decide found known shows home written o m of_known of_shows of_home of_written at kept
+        (subst (λ (ls : List TheLocal). ListsAround (looks_with (made_stand q types known shows home written n o.places) (open_by ls u.open_names)) u.used.spot found) of_locals one)
 
     -- without an outline, and without anything kept, there is no such file
     pub no_outline : (found : List (List ℕ)) (os : List Outline) → map outline_shown os ≡ outlines_in q → slice_get os n ≡ None → AreNamesWith p n u found

@@ -6,7 +6,10 @@ use Rattle.go_tree_nodes.specs.Trees.{FileTree}
 use Rattle.go_tree_nodes.specs.Spelling.{IsPlaced}
 use Rattle.go_around_core.specs.table_core.Entries.{Entry}
 use Rattle.go_around_core.specs.face_core.Written.{WrittenOf, package_written}
-use Rattle.go_complete_core.specs.ready_core.Packages.{PackageIn, outlines_in, trees_in}
+use Rattle.go_around_core.specs.block_core.Exports.{ExportsModel}
+use Rattle.go_around_core.specs.entry_core.Meanings.{Shows, declared_alone}
+use Rattle.go_around_core.specs.entry_core.Showing.{shown_in}
+use Rattle.go_complete_core.specs.ready_core.Packages.{PackageIn, outlines_in, shows_in, trees_in}
 use Rattle.go_complete_core.specs.part_core.Inputs.{IsInput}
 use Rattle.go_complete_core.specs.part_core.Parts.{IsPart, PartModel, package_seen, seen_by}
 use Rattle.go_around_core.specs.spot_core.Opened.{FileUsed}
@@ -26,9 +29,13 @@ AreNamesByTypes p n f u found =
 abbrev pub AreNamesWith : PartModel → ℕ → FileUsed → List (List ℕ) → Type 0
 AreNamesWith p n u found = (f : FileTree) → slice_get (trees_in p.input.source) n ≡ Some f → AreNamesByTypes p n f u found
 
+-- what packages show, where each declaration of a type means itself
+abbrev pub shown_alone : List ExportsModel → Shows
+shown_alone ps = declared_alone (shown_in ps)
+
 -- what is written of the declarations of a package
 abbrev pub written_of : PackageIn → List Entry → List WrittenOf
-written_of q types = package_written q.shows q.path q.blocks types (outlines_in q)
+written_of q types = package_written (shows_in q) q.path q.blocks types (outlines_in q)
 
 -- a package is that of a part, where of other packages it is known what those show that its imports come to; the types are all that it sees, and the
 -- tokens of its files follow one another

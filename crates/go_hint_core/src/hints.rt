@@ -2,8 +2,7 @@
 ghost use Rattle.std.specs.Prelude.{◌≡◌, Some, IfOk, IfErr, Contains, slice_get, map};
 ghost use Rattle.go_tree_nodes.specs.Shapes.{file_of};
 ghost use Rattle.go_around_core.specs.entry_core.Outlines.{outline_shown};
-ghost use Rattle.go_around_core.specs.entry_core.Showing.{shown_in};
-ghost use Rattle.go_complete_core.specs.ready_core.Packages.{outlines_in, package_in_shown, trees_in};
+ghost use Rattle.go_complete_core.specs.ready_core.Packages.{outlines_in, package_in_shown, shows_in, trees_in};
 ghost use Rattle.go_complete_core.specs.part_core.Parts.{file_shown};
 ghost use Rattle.go_complete_core.specs.package_core.Checked.{local_shown};
 ghost use Rattle.go_around_core.specs.spot_core.Opened.{file_names};
@@ -12,19 +11,19 @@ ghost use Rattle.go_around_core.specs.spot_core.Spots.{spot_seen};
 ghost use Rattle.go_complete_core.specs.place_core.Completions.{texts_of};
 ghost use Rattle.go_around_core.specs.Locals as around;
 ghost use Rattle.go_around_core.specs.Arounds.{NamesAround};
-ghost use Rattle.go_hint_core.specs.Hints.{AreNamesByTypes, AreNamesWith, IsSeen, written_of};
+ghost use Rattle.go_hint_core.specs.Hints.{AreNamesByTypes, AreNamesWith, IsSeen, shown_alone, written_of};
 ghost use Rattle.go_hint_core.specs.Kept.{open_by};
 
 use crate::kept::open_locals;
 use go_around_core::entry_core::{ImportedNames, ShownPackages};
-use go_around_core::face_core::{WrittenFaces, written_faces};
+use go_around_core::face_core::{TypesHere, WrittenFaces, written_faces};
 use go_around_core::handle_core::Home;
 use go_around_core::spot_core::{FoundSpot, Spot};
 use go_around_core::table_core::TypeTable;
 use go_around_core::{OpenLocal, PlaceAt, names_at_dot, names_at_key};
 use go_complete_core::answer_core::HeldLocal;
 use go_complete_core::part_core::{Part, PartFile, types_of};
-use go_complete_core::ready_core::{PackageAt, package_outlines};
+use go_complete_core::ready_core::{PackageAt, package_aliases, package_outlines};
 use go_decl_core::Outline;
 use go_text_core::{Name, Rule, add};
 use go_tree_nodes::File;
@@ -69,10 +68,11 @@ fn names_with<P: ImportedNames>(
 }
 
 // The same of a file of a package, by its outline and what is kept of it.
-fn names_of_file(
+fn names_of_file<N: ImportedNames>(
     alloc: Global,
     part: &Part,
     at: &PackageAt<'_, ShownPackages>,
+    names: &N,
     types: &TypeTable,
     written: &WrittenFaces,
     outline: &Outline<'_>,
@@ -80,9 +80,10 @@ fn names_of_file(
     number: usize,
     found: &FoundSpot<'_>,
 ) -> Result<Vec<Name>, AllocError>
-    requires seen { IsSeen part.now (package_in_shown shown_in at.now) types.now }
-    requires written { written.now ≡ written_of (package_in_shown shown_in at.now) types.now }
-    requires outline { slice_get (outlines_in (package_in_shown shown_in at.now)) number ≡ Some (outline_shown outline.now) }
+    requires names { N.shows names.now ≡ shows_in (package_in_shown shown_alone at.now) }
+    requires seen { IsSeen part.now (package_in_shown shown_alone at.now) types.now }
+    requires written { written.now ≡ written_of (package_in_shown shown_alone at.now) types.now }
+    requires outline { slice_get (outlines_in (package_in_shown shown_alone at.now)) number ≡ Some (outline_shown outline.now) }
     requires file { slice_get part.now.content.files number ≡ Some (file_shown file.now) }
     ensures { IfOk result (λ names. AreNamesWith part.now number (spot_seen found.now) names.items) }
 {
@@ -97,7 +98,7 @@ fn names_of_file(
         others: at.faces,
         written,
         declared: &content.declared,
-        imported: at.shown,
+        imported: names,
         file: number,
         places: &outline.places,
     };
@@ -106,48 +107,54 @@ fn names_of_file(
 }
 
 // The same by its outline.
-fn names_kept(
+fn names_kept<N: ImportedNames>(
     alloc: Global,
     part: &Part,
     at: &PackageAt<'_, ShownPackages>,
+    names: &N,
     types: &TypeTable,
     written: &WrittenFaces,
     outline: &Outline<'_>,
     number: usize,
     found: &FoundSpot<'_>,
 ) -> Result<Vec<Name>, AllocError>
-    requires seen { IsSeen part.now (package_in_shown shown_in at.now) types.now }
-    requires written { written.now ≡ written_of (package_in_shown shown_in at.now) types.now }
-    requires outline { slice_get (outlines_in (package_in_shown shown_in at.now)) number ≡ Some (outline_shown outline.now) }
+    requires names { N.shows names.now ≡ shows_in (package_in_shown shown_alone at.now) }
+    requires seen { IsSeen part.now (package_in_shown shown_alone at.now) types.now }
+    requires written { written.now ≡ written_of (package_in_shown shown_alone at.now) types.now }
+    requires outline { slice_get (outlines_in (package_in_shown shown_alone at.now)) number ≡ Some (outline_shown outline.now) }
     ensures { IfOk result (λ names. AreNamesWith part.now number (spot_seen found.now) names.items) }
 {
     let content = part.content();
     match content.files.get(number) {
         Some(file) => names_of_file(
-            alloc, part, at, types, written, outline, file, number, found,
+            alloc, part, at, names, types, written, outline, file, number, found,
         ),
         None => Ok(Vec::new(alloc)),
     }
 }
 
 // The same of a file of a package, by what is seen of other packages.
-fn names_over(
+fn names_over<N: ImportedNames>(
     alloc: Global,
     part: &Part,
     at: &PackageAt<'_, ShownPackages>,
+    names: &N,
     types: &TypeTable,
     outlines: &[Outline<'_>],
     number: usize,
     found: &FoundSpot<'_>,
 ) -> Result<Vec<Name>, AllocError>
-    requires outlines { map outline_shown outlines.now ≡ outlines_in (package_in_shown shown_in at.now) }
-    requires seen { IsSeen part.now (package_in_shown shown_in at.now) types.now }
+    requires outlines { map outline_shown outlines.now ≡ outlines_in (package_in_shown shown_alone at.now) }
+    requires names { N.shows names.now ≡ shows_in (package_in_shown shown_alone at.now) }
+    requires seen { IsSeen part.now (package_in_shown shown_alone at.now) types.now }
     ensures { IfOk result (λ names. AreNamesWith part.now number (spot_seen found.now) names.items) }
 {
     let path = at.package.path();
-    let written = written_faces(alloc, path, at.blocks, at.shown, types, outlines)?;
+    let written = written_faces(alloc, path, at.blocks, names, types, outlines)?;
     match outlines.get(number) {
-        Some(outline) => names_kept(alloc, part, at, types, &written, outline, number, found),
+        Some(outline) => names_kept(
+            alloc, part, at, names, types, &written, outline, number, found,
+        ),
         None => Ok(Vec::new(alloc)),
     }
 }
@@ -173,7 +180,14 @@ fn names_in(
         faces: &view.faces,
     };
     let outlines = package_outlines(alloc, &at)?;
-    let names = names_over(alloc, part, &at, &types, &outlines, number, found)?;
+    let aliases = package_aliases(alloc, &at, &outlines)?;
+    let here = TypesHere {
+        path: at.package.path(),
+        shown: at.shown,
+        faces: at.faces,
+        aliases: &aliases,
+    };
+    let names = names_over(alloc, part, &at, &here, &types, &outlines, number, found)?;
     Ok(names)
 }
 

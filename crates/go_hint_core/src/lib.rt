@@ -24,14 +24,26 @@ pub mod denote_core {
     pub use go_around_core::denote_core::Outcome;
 }
 
+/// What the crates above name of `go_entry_core`.
+pub mod entry_core {
+    pub use go_around_core::entry_core::ShownPackages;
+}
+
 /// What the crates above name of `go_face_core`.
 pub mod face_core {
-    pub use go_around_core::face_core::{Face, ShownFace, hold};
+    pub use go_around_core::face_core::{
+        Face, FaceTable, ShownFace, WrittenFaces, hold, written_faces,
+    };
 }
 
 /// What the crates above name of `go_part_core`.
 pub mod part_core {
     pub use go_complete_core::part_core::{Part, part_has_occurrences, types_of};
+}
+
+/// What the crates above name of `go_ready_core`.
+pub mod ready_core {
+    pub use go_complete_core::ready_core::{PackageAt, package_outlines};
 }
 
 /// What the crates above name of `go_scope_core`.

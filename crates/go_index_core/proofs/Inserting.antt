@@ -3,14 +3,17 @@ use Rattle.std.proofs.Common.{◌≡◌, ℕ, ◌+◌, ◌<◌, ◌≤◌, Bool,
 use Rattle.std.specs.Prelude.{string_bytes}
 use Rattle.std.specs.Borrow.{Bor}
 use Rattle.std.specs.Str.{bytes_eq}
-use Rattle.std.specs.String.{string_eq}
-use Rattle.std.specs.HashMap.{HashMap, Updates}
+use Rattle.std.specs.String.{string_cmp}
+use Rattle.std.specs.BTreeMap.{BTreeMap, Updates}
 use Rattle.std.specs.Map.{lookup}
 use Rattle.std.specs.declared.string.String.{String}
 use Rattle.std.proofs.lemmas.Slice.Eq.{bytes_eq-Decides}
 use Rattle.std.proofs.lemmas.Cmp.{nat_list_eq_equiv}
 use Rattle.std.proofs.lemmas.List.{drop_more, drop_all}
-use Rattle.std.proofs.lemmas.Map.Text.{hash_map_updates_text}
+use Rattle.std.proofs.lemmas.Map.Text.{btree_map_updates_text, is_eq-slice_cmp}
+use Rattle.std.specs.BTreeMap.{is_at}
+use Rattle.std.specs.Cmp.Lexicographic.{slice_cmp}
+use Rattle.std.specs.Ordering.{nat_cmp}
 use Rattle.go_index_core.specs.declared.spellings.Spelling.{Spelling}
 use Rattle.go_index_core.specs.Spelled.{spelling, joined, spelled_if, spelled_from, spelled, spelled_in, AreSpelled}
 
@@ -21,9 +24,9 @@ bytes_turned : (x y : List ℕ) → bytes_eq x y ≡ bytes_eq y x
 bytes_turned x y = nat_list_eq_equiv.symm x y
 
 -- what a map has at a name
-pub in_names : {Y : Type 0} (name : List ℕ) (es : List (String Y × Spelling)) → lookup (λ k. bytes_eq name (string_bytes k)) es ≡ spelled_in (map (λ e. (string_bytes e.0, e.1)) es) name
+pub in_names : {Y : Type 0} (name : List ℕ) (es : List (String Y × Spelling)) → lookup (is_at (λ k. slice_cmp nat_cmp name (string_bytes k))) es ≡ spelled_in (map (λ e. (string_bytes e.0, e.1)) es) name
 in_names name [] = refl
-in_names name (e ∷ es) = ap (λ o. cond (bytes_eq name (string_bytes e.0)) (Some e.1) o) (in_names name es)
+in_names name (e ∷ es) = ap (λ b. cond b (Some e.1) (lookup (is_at (λ k. slice_cmp nat_cmp name (string_bytes k))) es)) (is_eq-slice_cmp name (string_bytes e.0)) ∙ ap (λ o. cond (bytes_eq name (string_bytes e.0)) (Some e.1) o) (in_names name es)
 
 joined_none : (o : Option Spelling) → o ≡ joined o None
 joined_none None = refl
@@ -36,12 +39,12 @@ joined_assoc (Some a) (Some b) None = refl
 joined_assoc (Some a) (Some b) (Some c) = refl
 
 -- a map with a name more
-pub name_noted : {Y S : Type 0} (old new : HashMap (String Y) Spelling S) (key : String Y) (name : List ℕ) (at : ℕ) (v : Spelling) → string_bytes key ≡ name
-    → Some v ≡ joined (spelled_in (map (λ e. (string_bytes e.0, e.1)) old.entries) name) (Some (spelling at false)) → Updates string_eq old new key (Some v)
+pub name_noted : {Y : Type 0} (old new : BTreeMap (String Y) Spelling) (key : String Y) (name : List ℕ) (at : ℕ) (v : Spelling) → string_bytes key ≡ name
+    → Some v ≡ joined (spelled_in (map (λ e. (string_bytes e.0, e.1)) old.entries) name) (Some (spelling at false)) → Updates string_cmp old new key (Some v)
     → (n : List ℕ) → spelled_in (map (λ e. (string_bytes e.0, e.1)) new.entries) n ≡ joined (spelled_in (map (λ e. (string_bytes e.0, e.1)) old.entries) n) (spelled_if at (bytes_eq n name))
 name_noted old new key name at v is now put n =
     sym (in_names n new.entries)
-    ∙ (hash_map_updates_text (string_bytes key) old new (Some v) put n
+    ∙ (btree_map_updates_text (string_bytes key) old new (Some v) put n
     ∙ (ap (cond (bytes_eq (string_bytes key) n) (Some v)) (in_names n old.entries)
     ∙ (ap (λ m. cond (bytes_eq m n) (Some v) (before n)) is ∙ by (bytes_eq name n) refl (bytes_turned name n))))
   where

@@ -4,7 +4,7 @@ ghost use Rattle.std.specs.Str.{bytes_eq};
 ghost use Rattle.go_index_core.specs.Spelled.{AreSpelled, joined, places_of, spelled_if, spelled_in, spelling};
 
 use std::alloc::{AllocError, Global};
-use std::collections::HashMap;
+use std::collections::BTreeMap;
 
 /// Where a name stands in a list of names.
 #[derive(Clone, Copy)]
@@ -17,7 +17,7 @@ pub struct Spelling {
 
 /// The names of a list, each with where it stands there, to be looked up. Contracts see what is looked up by [`places_of`].
 pub struct Spellings {
-    places: HashMap<String, Spelling>,
+    places: BTreeMap<String, Spelling>,
 }
 
 impl Drop for Spellings {
@@ -48,7 +48,7 @@ impl Spellings {
         ensures { places_of result ≡ [] }
     {
         Spellings {
-            places: HashMap::new(alloc),
+            places: BTreeMap::new(alloc),
         }
     }
 

@@ -14,7 +14,7 @@ pub struct Ground<'a, P> {
     pub blocks: &'a Blocks,
     /// The file's number among those of the package in order of name, from 0.
     pub file: usize,
-    /// What other packages show.
+    /// What other packages show, and what declarations of types mean.
     pub imported: &'a P,
     /// The identifiers that the file declares outside function bodies.
     pub places: &'a Places,

@@ -14,7 +14,7 @@ use Rattle.go_faultless_core.specs.face_core.Laws.{PositionsAreExact}
 use Rattle.go_faultless_core.specs.face_core.Written.{WrittenOf, face_found, form_as_written, position_of, same_decl_place}
 use Rattle.go_faultless_core.specs.env_core.Found.{face_at}
 use Rattle.go_faultless_core.specs.ready_core.Laws.{package_placed}
-use Rattle.go_faultless_core.specs.ready_core.Packages.{PackageIn, outlines_in, scene_in, trees_in}
+use Rattle.go_faultless_core.specs.ready_core.Packages.{PackageIn, outlines_in, scene_in, shows_in, trees_in}
 use Rattle.go_faultless_core.specs.part_core.Parts.{package_seen, seen_by}
 use Rattle.go_faultless_core.specs.part_core.Slots.{somes}
 use Rattle.go_faultless_core.specs.clear_core.Statements.{AreOverEach}
@@ -51,13 +51,13 @@ own_signatures exact i c part placed d s is t tree decl among number g form =
     let ws : List WrittenOf = (scene_in p es).written in
     let os : List FileOutline = outlines_in p in
     let there : slice_get os d.file ≡ Some (outline_of t) = slice_get-map outline_of (trees_in i.source) d.file ∙ ap (option_map outline_of) tree in
-    let stands = exact.declared p.shows p.path p.blocks es os d.file (outline_of t) decl (all_from_among IsOutline os (λ o h. outlined (trees_in i.source) o h)) (there, among) in
+    let stands = exact.declared (shows_in p) p.path p.blocks es os d.file (outline_of t) decl (all_from_among IsOutline os (λ o h. outlined (trees_in i.source) o h)) (there, among) in
     let place : position_of ws d ≡ Some stands.place = sym (position_same ws _ d refl number) ∙ stands.found in
     let face : slice_index_or c.declared stands.place None ≡ Some (faces.Func s) = subst (λ o. face_at c.declared o ≡ Some (faces.Func s)) place is in
     let known : ℕ → Option TheFace = λ a. slice_index_or c.declared a None in
     let at = some_func s (scene_in p es) known stands.place (slice_get (package_placed p es) stands.place) (sym ((right i c part placed).values stands.place (faces.Func s) face)) in
     let written = sym (ap face_found stands.there) ∙ at in
-    let mean = file_meaning p.shows p.path p.blocks d.file in
+    let mean = file_meaning (shows_in p) p.path p.blocks d.file in
     let same : Some (faces.Func (signature_in i c d.file t g)) ≡ Some (faces.Func s) = sym (ap (form_as_written mean (file_at p.path d.file (outline_of t)) es decl.number) form) ∙ written in
     let signs : signature_in i c d.file t g ≡ s = cc same in
     sym signs

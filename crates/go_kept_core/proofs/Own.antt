@@ -3,6 +3,7 @@ use Rattle.std.proofs.Common.{◌≡◌, inl, inr, ℕ, suc, ◌+◌, Bool, true
 use Rattle.std.specs.Prelude.{option_map, slice_get, slice_index_or}
 use Rattle.std.specs.List.{enumerate_from}
 use Rattle.std.proofs.lemmas.Bool.{and_parts, eqb-true}
+use Rattle.go_faultless_core.specs.text_core.declared.span.Span.{Span}
 use Rattle.go_tree_nodes.specs.declared.decls.ValueKind.{ValueKind}
 use Rattle.go_tree_nodes.specs.declared.decls.ValueKind.TheVariants as kinds
 use Rattle.go_tree_nodes.specs.Spelling.{IsPlaced}
@@ -17,14 +18,14 @@ use Rattle.go_faultless_core.specs.entry_core.Entries.{file_at, package_meanings
 use Rattle.go_faultless_core.specs.entry_core.Outlines.{FileOutline, outline_of}
 use Rattle.go_faultless_core.specs.face_core.declared.face.Face.TheVariants as faces
 use Rattle.go_faultless_core.specs.face_core.Faces.{TheFace}
-use Rattle.go_faultless_core.specs.face_core.Written.{WrittenOf, face_found, file_written, form_as_written, position_of, same_decl_place, value_as_written, written_at, written_of}
+use Rattle.go_faultless_core.specs.face_core.Written.{WrittenOf, declared_face, face_found, file_written, form_as_written, position_of, same_decl_place, value_as_written, written_at, written_of}
 use Rattle.go_faultless_core.specs.env_core.Found.{face_at}
 use Rattle.go_faultless_core.specs.env_core.Looks.{TheLooks}
 use Rattle.go_faultless_core.specs.env_core.Scenes.{SceneModel}
 use Rattle.go_faultless_core.specs.value_core.Laws.{AreFaces}
 use Rattle.go_faultless_core.specs.value_core.Package.{PlacedOf, form_face, some_face, top_looks, value_face, written_face}
 use Rattle.go_faultless_core.specs.ready_core.Laws.{package_placed}
-use Rattle.go_faultless_core.specs.ready_core.Packages.{PackageIn, outlines_in, scene_in, trees_in}
+use Rattle.go_faultless_core.specs.ready_core.Packages.{PackageIn, outlines_in, scene_in, shows_in, trees_in}
 use Rattle.go_faultless_core.specs.ready_core.Tables.{values_as_written}
 use Rattle.go_faultless_core.specs.part_core.Inputs.{InputModel}
 use Rattle.go_faultless_core.specs.part_core.Parts.{ContentOf, IsPart, package_seen, seen_by}
@@ -69,10 +70,14 @@ module _ (g : Sign) where
   no_value mean f es kinds.Var None e = cc e
   no_value mean f es kinds.Const t e = cc e
 
+  no_type : (mark : Option Span) (mean : WrittenMeaning) (f : WrittenFile) (es : List Entry) (n : ℕ) (t : TypeTree) → Some (declared_face mark mean f es n t) ≡ Some (faces.Func g) → ⊥
+  no_type None mean f es n t e = cc e
+  no_type (Some m) mean f es n t e = cc e
+
   pub form_written : (mean : WrittenMeaning) (f : WrittenFile) (es : List Entry) (n : ℕ) (t : FormTree) → form_as_written mean f es n t ≡ Some (faces.Func g)
       → (x : FuncTree) × (t ≡ FuncForm x) × (g ≡ settled_sign (kinds_in es) (signature_of mean f x.signature))
   form_written mean f es n (ValueForm k v m) e = absurd (no_value mean f es k v.type_expr e)
-  form_written mean f es n (TypeForm t) e = absurd (cc e)
+  form_written mean f es n (TypeForm t) e = absurd (no_type t.alias mean f es n t.type_expr e)
   form_written mean f es n (FuncForm x) e = (let same : settled_sign (kinds_in es) (signature_of mean f x.signature) ≡ g = cc e in (x, refl, sym same))
 
 -- what stands at the place of a declaration is it
@@ -119,9 +124,9 @@ module _ (i : InputModel) (c : ContentOf) (part : IsPart i c) (placed : All IsPl
   right = (values_as_written.values p es c.declared placed).1 (declared i c part)
 
   of_file : (d : DeclRef) (g : Sign) (n : ℕ) (t : FileTree) → slice_get (trees_in i.source) n ≡ Some t → (w : WrittenOf) → w.face ≡ Some (faces.Func g) → same_decl_place w.decl d ≡ true
-      → HasItem (file_written (package_meanings p.shows p.path p.blocks n) (file_at p.path n (outline_of t)) es (top_decls t)) w → IsDeclaredFunction i c d g
+      → HasItem (file_written (package_meanings (shows_in p) p.path p.blocks n) (file_at p.path n (outline_of t)) es (top_decls t)) w → IsDeclaredFunction i c d g
   of_file d g n t tree w face same h =
-      let mean : WrittenMeaning = package_meanings p.shows p.path p.blocks n in
+      let mean : WrittenMeaning = package_meanings (shows_in p) p.path p.blocks n in
       let f : WrittenFile = file_at p.path n (outline_of t) in
       let r = written_item mean f es (top_decls t) w h in
       let x = form_written g mean f es r.0.number r.0.form (ap (λ (y : WrittenOf). y.face) r.2 ∙ face) in
@@ -145,12 +150,12 @@ module _ (i : InputModel) (c : ContentOf) (part : IsPart i c) (placed : All IsPl
       let at = some_func g (scene_in p es) known k (slice_get (package_placed p es) k) (sym (right.values k (faces.Func g) is)) in
       let w = found_func g (scene_in p es).written k at in
       let same = position_there (scene_in p es).written d k there w.0 w.1 in
-      let one = from_flat (λ (q : ℕ × FileOutline). file_written (package_meanings p.shows p.path p.blocks q.0) (file_at p.path q.0 q.1) es q.1.decls) (enumerate_from 0 (outlines_in p)) w.0 (has_get (scene_in p es).written k w.0 w.1) in
+      let one = from_flat (λ (q : ℕ × FileOutline). file_written (package_meanings (shows_in p) p.path p.blocks q.0) (file_at p.path q.0 q.1) es q.1.decls) (enumerate_from 0 (outlines_in p)) w.0 (has_get (scene_in p es).written k w.0 w.1) in
       let tree = enumerated 0 (trees_in i.source) one.item one.there in
       let sum : tree.0 ≡ 0 + tree.0 = omega arith in
       let numbered : (tree.0, outline_of tree.1) ≡ one.item = ap (λ m. (m, outline_of tree.1)) sum ∙ tree.3 in
       of_file d g tree.0 tree.1 tree.2 w.0 w.2 same
-      (subst (λ (q : ℕ × FileOutline). HasItem (file_written (package_meanings p.shows p.path p.blocks q.0) (file_at p.path q.0 q.1) es q.1.decls) w.0) (sym numbered) one.here)
+      (subst (λ (q : ℕ × FileOutline). HasItem (file_written (package_meanings (shows_in p) p.path p.blocks q.0) (file_at p.path q.0 q.1) es q.1.decls) w.0) (sym numbered) one.here)
 
 pub own_declared : OwnFunctionsAreDeclared
 own_declared i c part placed d g is = by (position_of (scene_in (package_seen i c.blocks (seen_by i)) (known_types i c)).written d) refl is

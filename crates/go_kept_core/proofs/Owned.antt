@@ -20,7 +20,7 @@ use Rattle.go_faultless_core.specs.face_core.Written.{WrittenOf, face_found, for
 use Rattle.go_faultless_core.specs.env_core.Found.{face_at}
 use Rattle.go_faultless_core.specs.func_core.Stands.{outer_looks}
 use Rattle.go_faultless_core.specs.value_core.Package.{first_values, form_face, form_idents, idents_need, written_face}
-use Rattle.go_faultless_core.specs.ready_core.Packages.{PackageIn, outlines_in, scene_in, stand_in, trees_in}
+use Rattle.go_faultless_core.specs.ready_core.Packages.{PackageIn, outlines_in, scene_in, shows_in, stand_in, trees_in}
 use Rattle.go_faultless_core.specs.ready_core.Values.{decls_in, declared_in, face_there, file_decl_needs, needs_in, some_decl_face}
 use Rattle.go_faultless_core.specs.whole_core.Lists.{all_from_among}
 use Rattle.go_faultless_core.specs.part_core.Inputs.{InputModel}
@@ -80,12 +80,12 @@ module _ (exact : PositionsAreExact) (i : InputModel) (c : ContentOf) (part : Is
 
   -- as it is written there
   abbrev here : WrittenOf
-  here = written_of (file_meaning p.shows p.path p.blocks d.file) (file_at p.path d.file (outline_of x.tree)) es x.decl
+  here = written_of (file_meaning (shows_in p) p.path p.blocks d.file) (file_at p.path d.file (outline_of x.tree)) es x.decl
 
   face : here.face ≡ Some (faces.Func s)
   face =
-      let same : form_as_written (file_meaning p.shows p.path p.blocks d.file) (file_at p.path d.file (outline_of x.tree)) es x.decl.number x.decl.form ≡ Some (faces.Func (signature_in i c d.file x.tree x.func)) =
-      ap (form_as_written (file_meaning p.shows p.path p.blocks d.file) (file_at p.path d.file (outline_of x.tree)) es x.decl.number) x.form in
+      let same : form_as_written (file_meaning (shows_in p) p.path p.blocks d.file) (file_at p.path d.file (outline_of x.tree)) es x.decl.number x.decl.form ≡ Some (faces.Func (signature_in i c d.file x.tree x.func)) =
+      ap (form_as_written (file_meaning (shows_in p) p.path p.blocks d.file) (file_at p.path d.file (outline_of x.tree)) es x.decl.number) x.form in
       same ∙ ap (λ (g : Sign). Some (faces.Func g)) (sym x.is)
 
   -- where it stands
@@ -97,7 +97,7 @@ module _ (exact : PositionsAreExact) (i : InputModel) (c : ContentOf) (part : Is
   place_of : IsPlacedAt
   place_of =
       let of_file : slice_get os d.file ≡ Some (outline_of x.tree) = slice_get-map outline_of (trees_in i.source) d.file ∙ ap (option_map outline_of) x.in_package in
-      let stands = exact.declared p.shows p.path p.blocks es os d.file (outline_of x.tree) x.decl (all_from_among IsOutline os (λ o h. outlined (trees_in i.source) o h)) (of_file, x.among) in
+      let stands = exact.declared (shows_in p) p.path p.blocks es os d.file (outline_of x.tree) x.decl (all_from_among IsOutline os (λ o h. outlined (trees_in i.source) o h)) (of_file, x.among) in
       record { place = stands.place; found = sym (position_same ws _ d refl x.number) ∙ stands.found; there = stands.there }
 
   module _ (at : IsPlacedAt) where
@@ -110,9 +110,9 @@ module _ (exact : PositionsAreExact) (i : InputModel) (c : ContentOf) (part : Is
 
     function_there : IsFunctionThere
     function_there =
-        let listed : slice_get (map (written_there p.shows p.path p.blocks es) (package_decls os)) at.place ≡ Some here = ap (λ (l : List WrittenOf). slice_get l at.place) (sym (exact.listed p.shows p.path p.blocks es os)) ∙ at.there in
-        let y = mapped (written_there p.shows p.path p.blocks es) (package_decls os) at.place here listed in
-        let z = form_written s (file_meaning p.shows p.path p.blocks y.0.file) (file_at p.path y.0.file y.0.outline) es y.0.decl.number y.0.decl.form (ap (λ (w : WrittenOf). w.face) y.2 ∙ face) in
+        let listed : slice_get (map (written_there (shows_in p) p.path p.blocks es) (package_decls os)) at.place ≡ Some here = ap (λ (l : List WrittenOf). slice_get l at.place) (sym (exact.listed (shows_in p) p.path p.blocks es os)) ∙ at.there in
+        let y = mapped (written_there (shows_in p) p.path p.blocks es) (package_decls os) at.place here listed in
+        let z = form_written s (file_meaning (shows_in p) p.path p.blocks y.0.file) (file_at p.path y.0.file y.0.outline) es y.0.decl.number y.0.decl.form (ap (λ (w : WrittenOf). w.face) y.2 ∙ face) in
         record { decl = y.0; is = y.1; func = z.0; form = z.1 }
 
     module _ (f : IsFunctionThere) where

@@ -19,7 +19,7 @@ use Rattle.go_faultless_core.specs.written_core.Written.{InFile, Meaning, signat
 use Rattle.go_faultless_core.specs.entry_core.Among.{Among, among_to}
 use Rattle.go_faultless_core.specs.entry_core.Entries.{Meanings, Received, decl_methods, file_at, func_methods, is_type_of, package_meanings, received_of}
 use Rattle.go_faultless_core.specs.entry_core.Outlines.{FileOutline, IsOutline, outline_of}
-use Rattle.go_faultless_core.specs.ready_core.Packages.{PackageIn, outlines_in, trees_in}
+use Rattle.go_faultless_core.specs.ready_core.Packages.{PackageIn, outlines_in, shows_in, trees_in}
 use Rattle.go_faultless_core.specs.summary_core.Views.{types_told}
 use Rattle.go_faultless_core.specs.part_core.Inputs.{InputModel, IsInput, path_in}
 use Rattle.go_faultless_core.specs.part_core.Parts.{ContentOf, IsPart, package_seen, seen_by}
@@ -81,7 +81,7 @@ module _ (i : InputModel) (c : ContentOf) (input : IsInput i) (part : IsPart i c
   p = package_seen i c.blocks (seen_by i)
 
   abbrev means : Meanings
-  means = package_meanings p.shows p.path p.blocks
+  means = package_meanings (shows_in p) p.path p.blocks
 
   lines : (o : FileOutline) → Among (outlines_in p) o → IsOutline o
   lines o a = outlined (trees_in i.source) o a

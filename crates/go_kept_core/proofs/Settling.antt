@@ -10,7 +10,7 @@ use Rattle.go_faultless_core.specs.settle_core.Settled.{kind_of_term}
 use Rattle.go_faultless_core.specs.table_core.Entries.{Entry, find_entry, kinds_in, same_key, term_in}
 use Rattle.go_faultless_core.specs.table_core.Tables.{AreOf}
 use Rattle.go_faultless_core.specs.entry_core.Entries.{Meanings, entries_with, package_meanings, package_methods}
-use Rattle.go_faultless_core.specs.ready_core.Packages.{PackageIn, outlines_in}
+use Rattle.go_faultless_core.specs.ready_core.Packages.{PackageIn, outlines_in, shows_in}
 use Rattle.go_faultless_core.specs.summary_core.Telling.{nothing_else}
 use Rattle.go_faultless_core.specs.summary_core.Views.{types_told}
 use Rattle.go_faultless_core.specs.part_core.Inputs.{InputModel, IsInput, path_in}
@@ -45,7 +45,7 @@ module _ (i : InputModel) (c : ContentOf) (input : IsInput i) (part : IsPart i c
   seen = package_seen i c.blocks (seen_by i)
 
   abbrev means : Meanings
-  means = package_meanings seen.shows seen.path seen.blocks
+  means = package_meanings (shows_in seen) seen.path seen.blocks
 
   pub kind_same : (k : DeclKey) → part.is_checked.types.built.kind k ≡ kinds_in (known_types i c) k
   kind_same k =

@@ -31,7 +31,7 @@ use Rattle.go_faultless_core.specs.summary_core.Summaries.{SummaryModel, path_of
 use Rattle.go_faultless_core.specs.summary_core.Laws.{TellsWhatItDoes}
 use Rattle.go_faultless_core.specs.summary_core.Views.{faces_told}
 use Rattle.go_faultless_core.specs.summary_core.Telling.{views_tell}
-use Rattle.go_faultless_core.specs.ready_core.Packages.{scene_in, trees_in}
+use Rattle.go_faultless_core.specs.ready_core.Packages.{scene_in, shows_in, trees_in}
 use Rattle.go_faultless_core.specs.part_core.Inputs.{InputModel, path_in}
 use Rattle.go_faultless_core.specs.part_core.Parts.{ContentOf, FileOf, IsPart, PartModel, package_seen, seen_by}
 use Rattle.go_faultless_core.specs.part_core.Slots.{somes}
@@ -104,7 +104,7 @@ module _ (ws : List PackageModel) (parts : List (Option PartModel)) (well : IsWo
     own = own;
     meant = (
         let seen = package_seen i c.blocks (seen_by i) in
-        own_meant (path_in i) (trees_in i.source) c.declared (known_types i c) (faces_told (told_to i c)) r (faces.Func s) (package_meanings seen.shows seen.path seen.blocks) own
+        own_meant (path_in i) (trees_in i.source) c.declared (known_types i c) (faces_told (told_to i c)) r (faces.Func s) (package_meanings (shows_in seen) seen.path seen.blocks) own
         );
   }
 

@@ -2,6 +2,7 @@
 pub use Rattle.go_value_core.specs.entry_core.Among as Among
 pub use Rattle.go_value_core.specs.entry_core.Entries as Entries
 pub use Rattle.go_value_core.specs.entry_core.Laws as Laws
+pub use Rattle.go_value_core.specs.entry_core.Marks as Marks
 pub use Rattle.go_value_core.specs.entry_core.Meanings as Meanings
 pub use Rattle.go_value_core.specs.entry_core.Numbered as Numbered
 pub use Rattle.go_value_core.specs.entry_core.Ordered as Ordered

@@ -13,7 +13,7 @@ pub use package::package_values;
 
 /// What the crates above name of `go_entry_core`.
 pub mod entry_core {
-    pub use go_value_core::entry_core::{ImportedNames, outlines, type_entries};
+    pub use go_value_core::entry_core::{ImportedNames, all_types, outlines, type_entries};
 }
 
 /// What the crates above name of `go_env_core`.

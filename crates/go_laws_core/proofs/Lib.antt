@@ -30,11 +30,13 @@ pub mod Placed
 pub mod Reading
 pub mod Referring
 pub mod Refusing
+pub mod Ruled
 mod Scenes
 mod Selecting
 pub mod Snapshots
 pub mod Sound
 pub mod Tables
+mod Targets
 mod Telling
 pub mod Terms
 mod Told

@@ -1,4 +1,4 @@
--- What names mean in the files of a package is declared in some packages alone, and mentions these alone, where its imports bind what is theirs.
+-- What names denote in the files of a package is declared in some packages alone, and mentions these alone, where its imports bind what is theirs.
 use Rattle.std.proofs.Common.{◌≡◌, ℕ, List, refl, ap, subst}
 use Rattle.std.specs.Prelude.{Option, Some, None, slice_index_or}
 use Rattle.go_tree_nodes.specs.declared.types.TypeName.{TypeName}
@@ -16,7 +16,7 @@ use Rattle.govisd_core.specs.block_core.declared.binding.Target.{Target}
 use Rattle.govisd_core.specs.block_core.declared.binding.Target.TheVariants as targets
 use Rattle.govisd_core.specs.block_core.Blocks.{BlocksModel, file_binding}
 use Rattle.govisd_core.specs.block_core.Tables.{in_block}
-use Rattle.go_snap_core.specs.entry_core.Meanings.{Shows, file_meaning, outside_meaning, plain_meaning, qualified_meaning, shown_type, type_in_binding, type_in_target, type_of_kind, type_of_predeclared, type_of_target, type_of_universe}
+use Rattle.go_snap_core.specs.entry_core.Meanings.{Shown, named_meaning, outside_meaning, plain_meaning, qualified_meaning, shown_type, type_in_binding, type_in_target, type_of_kind, type_of_predeclared, type_of_target, type_of_universe}
 use Rattle.govisd_core.specs.handle_core.Declarations.{Declaration, Universe, OfError, Package, InFile}
 use Rattle.go_snap_core.specs.face_core.declared.face.Face.TheVariants as faces
 use Rattle.go_snap_core.specs.face_core.Faces.{TheFace}
@@ -70,7 +70,7 @@ module _ (Inside : List ℕ → Type 0) where
   shown_type_in q None h = tt
   shown_type_in q (Some d) h = kind_in (key_of q d) d.kind h
 
-  in_target_in : (shows : Shows) (name : List ℕ) (t : Target) → IsTargetIn Inside t → IsTermIn Inside (type_in_target shows name t)
+  in_target_in : (shows : Shown) (name : List ℕ) (t : Target) → IsTargetIn Inside t → IsTermIn Inside (type_in_target shows name t)
   in_target_in shows name (targets.«Package» q) h = shown_type_in q (shows q name) h
   in_target_in shows name (targets.Refused rule) h = tt
   in_target_in shows name (targets.Exported k) h = tt
@@ -84,17 +84,17 @@ module _ (Inside : List ℕ → Type 0) where
     plain_in file name None = outer_type_in file name (file_binding b file name) refl
     plain_in file name (Some d) = kind_in (key_of path d) d.kind own
 
-    binding_in : (shows : Shows) (file : ℕ) (q name : List ℕ) (o : Option Binding) → file_binding b file q ≡ o → IsTermIn Inside (type_in_binding shows name o)
+    binding_in : (shows : Shown) (file : ℕ) (q name : List ℕ) (o : Option Binding) → file_binding b file q ≡ o → IsTermIn Inside (type_in_binding shows name o)
     binding_in shows file q name None e = tt
     binding_in shows file q name (Some x) e = in_target_in shows name x.target (binds file q x e)
 
-    qualified_in : (shows : Shows) (file : ℕ) (q name : List ℕ) (o : Option DeclRef) → IsTermIn Inside (qualified_meaning shows b file q name o)
+    qualified_in : (shows : Shown) (file : ℕ) (q name : List ℕ) (o : Option DeclRef) → IsTermIn Inside (qualified_meaning shows b file q name o)
     qualified_in shows file q name None = binding_in shows file q name (file_binding b file q) refl
     qualified_in shows file q name (Some d) = tt
 
-    pub meaning_in : (shows : Shows) (file : ℕ) (n : TypeName) → IsTermIn Inside (file_meaning shows path b file n)
-    meaning_in shows file (type_names.Plain x) = plain_in file x.name (in_block b.names x.name)
-    meaning_in shows file (type_names.Qualified q dot x) = qualified_in shows file q.name x.name (in_block b.names q.name)
+    pub named_in : (shows : Shown) (file : ℕ) (n : TypeName) → IsTermIn Inside (named_meaning shows path b file n)
+    named_in shows file (type_names.Plain x) = plain_in file x.name (in_block b.names x.name)
+    named_in shows file (type_names.Qualified q dot x) = qualified_in shows file q.name x.name (in_block b.names q.name)
 
   -- what names stand for
 

@@ -3,6 +3,7 @@
 use Rattle.std.proofs.Common.{◌≡◌, ◌⊎◌, ◌++◌, ℕ, zero, suc, Bool, true, false, List, [], ◌∷◌, All, length, inl, inr, if◌then◌else◌, refl, sym, ap, subst, ◌∙◌}
 use Rattle.std.specs.Prelude.{Option, Some, None, Contains, slice_get, slice_index_or}
 use Rattle.std.specs.List.{AllZip, enumerate_from, range_with_len}
+use Rattle.go_text_core.specs.declared.span.Span.{Span}
 use Rattle.go_tree_nodes.specs.declared.decls.ValueKind.{ValueKind}
 use Rattle.go_tree_nodes.specs.declared.decls.ValueKind.TheVariants as value_kinds
 use Rattle.go_tree_nodes.specs.declared.types.TypeName.{TypeName}
@@ -24,7 +25,7 @@ use Rattle.go_snap_core.specs.face_core.Faces.{TheFace, variable_face}
 use Rattle.go_snap_core.specs.face_core.Laws.{FileDecl}
 use Rattle.go_snap_core.specs.face_core.Packages.{PackageFacesModel, face_among, face_by, face_in}
 use Rattle.go_snap_core.specs.face_core.Written as writing
-use Rattle.go_snap_core.specs.face_core.Written.{WrittenOf, decls_of, face_found, file_written, same_decl_place, type_written, written_at, written_of, written_with}
+use Rattle.go_snap_core.specs.face_core.Written.{WrittenOf, declared_face, decls_of, face_found, file_written, same_decl_place, type_written, written_at, written_of, written_with}
 use Rattle.govisd_core.specs.env_core.Looks.{TheLooks}
 use Rattle.govisd_core.specs.func_core.Stands.{outer_looks}
 use Rattle.govisd_core.specs.piece_core.Specifications.{outer_values}
@@ -37,7 +38,7 @@ use Rattle.govisd_core.specs.value_core.Deciding.{needs_decide}
 use Rattle.go_snap_core.specs.answer_core.Shown.{exported_decls, is_decl_listed, shown_among, shown_if}
 use Rattle.govisd_core.specs.ready_core.Laws.{package_placed}
 use Rattle.go_snap_core.specs.face_core.Places.{among_at}
-use Rattle.govisd_core.specs.ready_core.Packages.{PackageIn, entries_in, outlines_in, scene_in, stand_in}
+use Rattle.govisd_core.specs.ready_core.Packages.{PackageIn, entries_in, outlines_in, scene_in, shows_in, stand_in}
 use Rattle.govisd_core.specs.ready_core.Values.{declared_in, decls_in, needs_in, some_decl_face}
 use Rattle.govisd_core.specs.ready_core.ValuesProofs.{faces_same, needs_same}
 use Rattle.go_snap_core.specs.package_core.Checked.{AnswersOf, CheckedOf, IsChecked, IsFileChecked, imports_at, stand_at}
@@ -51,7 +52,8 @@ use Rattle.go_laws_core.proofs.Tables.{AreEntriesIn, IsEntryIn, both_in, own_in,
 use Rattle.go_laws_core.proofs.Answers.{alike_itself}
 use Rattle.go_laws_core.proofs.Uses.{IsUseIn}
 use Rattle.go_laws_core.proofs.Functions.{IsImportIn, IsLocalIn, IsStandIn, Near, Rest, file_locals_in, file_uses_in, outer_closed}
-use Rattle.go_laws_core.proofs.Meanings.{IsAnyIn, IsFaceIn, behind_dot_in, meaning_in, outside_in}
+use Rattle.go_laws_core.proofs.Meanings.{IsAnyIn, IsFaceIn, behind_dot_in, outside_in}
+use Rattle.go_laws_core.proofs.Targets.{meaning_in}
 use Rattle.go_tree_nodes.specs.Spelling.{IsPlaced}
 use Rattle.govisd_core.specs.table_core.Entries.{kinds_in}
 use Rattle.govisd_core.specs.statement_core.Locality.{Each}
@@ -105,9 +107,14 @@ module _ (Inside : List ℕ → Type 0) where
     value_in value_kinds.Var None = tt
     value_in value_kinds.Const t = tt
 
+    -- an alias is the type that it is written as
+    type_face_in : (mark : Option Span) (n : ℕ) (t : TypeTree) → IsFaceIn Inside (declared_face mark mean f es n t)
+    type_face_in None n t = typed_any (Defined (type_key f n)) own
+    type_face_in (Some m) n t = type_any t
+
     form_in : (n : ℕ) (form : FormTree) → IsAnyIn Inside (writing.form_as_written mean f es n form)
     form_in n (ValueForm k v i) = value_in k v.type_expr
-    form_in n (TypeForm t) = typed_any (Defined (type_key f n)) own
+    form_in n (TypeForm t) = type_face_in t.alias n t.type_expr
     form_in n (FuncForm g) = settled_sign_in Inside (kinds_in es) (signature_of mean f g.signature) (signature_in Inside mean f named own g.signature)
 
     file_in : (ds : List TopDeclTree) (w : WrittenOf) → Among (file_written mean f es ds) w → IsAnyIn Inside w.face
@@ -150,10 +157,10 @@ module _ (Inside : List ℕ → Type 0) where
     os = outlines_in p
 
     abbrev means : Meanings
-    means = package_meanings p.shows p.path p.blocks
+    means = package_meanings (shows_in p) p.path p.blocks
 
     named : (file : ℕ) (n : TypeName) → IsTermIn Inside (means file n)
-    named file n = meaning_in Inside p.path p.blocks own binds p.shows file n
+    named file n = meaning_in Inside p.shows p.others p.path p.blocks os own binds shown file n
 
     written : AreEntriesIn Inside (entries_in p)
     written = written_in Inside means p.path os named own

@@ -3,6 +3,7 @@ use Rattle.std.proofs.Common.{◌≡◌, ℕ, Bool, true, false, List, [], ◌�
 use Rattle.std.specs.Prelude.{Option, Some, None, ⊤, ◌||◌}
 use Rattle.std.specs.List.{filter, enumerate_from}
 use Rattle.go_text_core.specs.Text.{is_blank}
+use Rattle.go_text_core.specs.declared.span.Span.{Span}
 use Rattle.go_tree_nodes.specs.declared.files.Receiver.{Receiver}
 use Rattle.go_tree_nodes.specs.declared.types.TypeName.{TypeName}
 use Rattle.go_tree_nodes.specs.Trees.{FuncTree, TypeSpecTree}
@@ -18,7 +19,7 @@ use Rattle.govisd_core.specs.table_core.ByRule.{adding}
 use Rattle.govisd_core.specs.type_core.declared.build.TypeFault.{TypeFault}
 use Rattle.govisd_core.specs.type_core.Built.{AreEntries, IsBuilt, IsEntry, IsUnderBy, IsUnderlying, unrepeated_methods, kept_over}
 use Rattle.go_written_core.specs.Written.{InFile, Meaning}
-use Rattle.go_snap_core.specs.entry_core.Entries.{Meanings, Received, decl_methods, entries_with, entry_of, file_at, file_entries, file_methods, func_methods, is_type_of, methods_received, package_methods, spec_entry, type_key}
+use Rattle.go_snap_core.specs.entry_core.Entries.{Meanings, Received, decl_methods, entries_with, entry_of, file_at, file_entries, file_methods, func_methods, is_listed, is_type_of, listed_entry, methods_received, package_methods, spec_entry, type_key}
 use Rattle.go_snap_core.specs.entry_core.Outlines.{FileOutline}
 use Rattle.go_snap_core.specs.entry_core.Among.{Among, among_filter, among_flat, among_map}
 use Rattle.go_snap_core.specs.near_core.Closing.{either}
@@ -80,16 +81,19 @@ module _ (Inside : List ℕ → Type 0) where
     file_methods_in : (ds : List TopDeclTree) (r : Received) → Among (file_methods mean f ds) r → IsReceivedIn r
     file_methods_in ds r at = (let d = among_flat (λ (d : TopDeclTree). decl_methods mean f d d.form) ds r at in form_in d.0 d.0.form r d.2)
 
+    -- a type is one that counts where it is no alias
+    listed_in : (mark : Option Span) (s e : Entry) → IsEntryIn s → Among (listed_entry (is_listed false mark) s) e → IsEntryIn e
+    listed_in None s e h (inl same) = subst IsEntryIn same h
+    listed_in None s e h (inr none) = absurd none
+    listed_in (Some m) s e h at = absurd at
+
     module _ (rs : List Received) (received : (r : Received) → Among rs r → IsReceivedIn r) where
       spec_in : (d : TopDeclTree) (t : TypeSpecTree) → IsEntryIn (spec_entry mean f rs d t)
       spec_in d t = (own, term_in Inside mean f named own t.type_expr, methods_in (type_key f d.number) rs received)
 
       entry_of_in : (d : TopDeclTree) (form : FormTree) (e : Entry) → Among (entry_of mean f rs d form) e → IsEntryIn e
       entry_of_in d (ValueForm k v i) e at = absurd at
-      entry_of_in d (TypeForm t) e at = elim at [
-        | inl same ↦ subst IsEntryIn same (spec_in d t)
-        | inr none ↦ absurd none
-      ]
+      entry_of_in d (TypeForm t) e at = listed_in t.alias (spec_entry mean f rs d t) e (spec_in d t) at
       entry_of_in d (FuncForm g) e at = absurd at
 
       file_entries_in : (ds : List TopDeclTree) (e : Entry) → Among (file_entries mean f rs ds) e → IsEntryIn e

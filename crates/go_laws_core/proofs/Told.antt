@@ -10,7 +10,7 @@ use Rattle.go_snap_core.specs.entry_core.Entries.{package_meanings}
 use Rattle.go_snap_core.specs.face_core.Packages.{PackageFacesModel, face_among, face_in_some, package_in}
 use Rattle.go_snap_core.specs.face_core.Written.{decls_of, position_of}
 use Rattle.go_snap_core.specs.answer_core.Shown.{exported_decls, package_shown, shown_among}
-use Rattle.govisd_core.specs.ready_core.Packages.{PackageIn, scene_in, trees_in}
+use Rattle.govisd_core.specs.ready_core.Packages.{PackageIn, scene_in, shows_in, trees_in}
 use Rattle.govisd_core.specs.env_core.Found.{face_at}
 use Rattle.govisd_core.specs.summary_core.Summaries.{SummaryModel, IsOfOne, path_of}
 use Rattle.govisd_core.specs.summary_core.Views.{faces_told, types_told}
@@ -68,7 +68,7 @@ module _ (i : InputModel) (c : ContentOf) (well : IsInput i) (part : IsPart i c)
       ∙ ap (λ l. types_told i.reached ++ l) (append-nil c.summary.types.entries ∙ ap (λ (s : SummaryModel). s.types.entries) part.summary)
 
   decls_are : (es : List Entry) → decls_of (scene_in seen es).written ≡ package_decl_refs 0 (trees_in i.source)
-  decls_are es = written_decls (package_meanings seen.shows seen.path seen.blocks) seen.path es (trees_in i.source)
+  decls_are es = written_decls (package_meanings (shows_in seen) seen.path seen.blocks) seen.path es (trees_in i.source)
 
   faces_are : c.summary.faces ≡ package_shown (path_in i) c.blocks own_decls c.declared
   faces_are =

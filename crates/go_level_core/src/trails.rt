@@ -2,6 +2,7 @@
 ghost use Rattle.std.specs.Prelude.{◌≡◌, ◌<◌, ◌++◌, ◌∷◌, [], length, get_or, IfOk, OnOk};
 
 use crate::path::EmbedPath;
+use smallvec::SmallVec;
 use std::alloc::{AllocError, Global};
 use std::marker::Model;
 
@@ -60,14 +61,16 @@ impl Trails {
         requires { number < length self.now }
         ensures { IfOk result (λ path. path ≡ get_or self.now number []) }
     {
-        let mut steps = Vec::new(alloc);
+        // Few fields lie on most paths: up to four are gathered without memory, and the list takes what it needs.
+        let mut steps: SmallVec<usize, 4> = SmallVec::new(alloc);
         let mut at = number;
         'links: while at > 0 {
             let link = self.links[at - 1];
             steps.push(link.step)?;
             at = link.before;
         }
-        steps.reverse();
-        Ok(EmbedPath { steps })
+        let mut path = steps.as_slice().to_vec(alloc)?;
+        path.reverse();
+        Ok(EmbedPath { steps: path })
     }
 }

@@ -2,9 +2,12 @@
 use Rattle.std.proofs.Common.{◌≡◌, ℕ, zero, suc, ◌+◌, ◌<◌, ◌≤◌, Bool, true, false, List, [], ◌∷◌, ◌++◌, map, take, drop, length, get_or, is_some, if◌then◌else◌, refl, sym, ap, ◌∙◌, add-one}
 use Rattle.std.specs.Prelude.{Option, Some, None, slice_get}
 use Rattle.std.specs.Borrow.{Bor}
+use Rattle.std.specs.Cmp.Lexicographic.{slice_cmp}
+use Rattle.std.specs.Ordering.{is_eq, nat_cmp}
 use Rattle.std.specs.Str.{bytes_eq}
 use Rattle.std.proofs.lemmas.Bool.{false≢true}
 use Rattle.std.proofs.lemmas.List.{drop_more, drop_all, map-append}
+use Rattle.std.proofs.lemmas.Map.Text.{is_eq-slice_cmp}
 use Rattle.go_denote_core.specs.text_core.Text.{is_blank}
 use Rattle.go_denote_core.specs.text_core.declared.rule.Rule.TheVariants.{F1, F5, F8}
 use Rattle.go_literal_core.specs.Look.{FieldOf}
@@ -39,9 +42,11 @@ unknown None h = refl
 unknown (Some m) h = absurd (false≢true h)
 
 pub name_added : (old new : List (Bor (List ℕ) × ℕ)) (k : Bor (List ℕ)) (at : ℕ) → false ≡ is_some (number_of old k.now)
-    → ((q : Bor (List ℕ)) → number_of new q.now ≡ (if bytes_eq k.now q.now then Some at else number_of old q.now))
+    → ((q : Bor (List ℕ)) → number_of new q.now ≡ (if is_eq (slice_cmp nat_cmp k.now q.now) then Some at else number_of old q.now))
     → (n : List ℕ) → number_of new n ≡ first_known (number_of old n) (if bytes_eq k.now n then Some at else None)
-name_added old new k at absent adds n = adds (record { ref_ptr = (0, 0); now = n }) ∙ by (bytes_eq k.now n) (bytes_same k.now n)
+name_added old new k at absent adds n =
+    adds (record { ref_ptr = (0, 0); now = n })
+    ∙ (ap (λ b. if b then Some at else number_of old n) (is_eq-slice_cmp k.now n) ∙ by (bytes_eq k.now n) (bytes_same k.now n))
   where
     by : (b : Bool) → (b ≡ true → k.now ≡ n) → (if b then Some at else number_of old n) ≡ first_known (number_of old n) (if b then Some at else None)
     by true same = sym (ap (λ o. first_known o (Some at)) (ap (number_of old) (sym (same refl)) ∙ unknown (number_of old k.now) absent))

@@ -1,9 +1,13 @@
 -- Names in lists and in sets, and those that stand there more than once.
 use Rattle.std.proofs.Common.{◌≡◌, ℕ, ◌+◌, ◌<◌, Bool, true, false, not, ◌&&◌, ◌||◌, List, [], ◌∷◌, ◌++◌, map, take, length, get_or, if◌then◌else◌, refl, sym, ap, ◌∙◌, add-one}
 use Rattle.std.specs.Borrow.{Bor}
+use Rattle.std.specs.BTreeSet.{BTreeSet, Updates}
+use Rattle.std.specs.Cmp.Lexicographic.{slice_cmp}
 use Rattle.std.specs.List.{list_any}
+use Rattle.std.specs.Ordering.{is_eq, nat_cmp}
 use Rattle.std.proofs.lemmas.List.{map-append}
 use Rattle.std.proofs.lemmas.Bool.{false≢true}
+use Rattle.std.proofs.lemmas.Map.Text.{is_eq-slice_cmp}
 use Rattle.std.proofs.Math.Seq.{take-suc}
 use Rattle.std.specs.Str.{bytes_eq}
 use Rattle.std.proofs.lemmas.Slice.Eq.{bytes_eq-Decides}
@@ -42,19 +46,23 @@ has_last xs y n = has_append xs (y ∷ []) n ∙ by (has_name n xs) (bytes_eq y 
     by false true = refl
     by false false = refl
 
--- names behind references
-pub any_named : (name : List ℕ) (xs : List (Bor (List ℕ))) → list_any (λ x. bytes_eq name x.now) xs ≡ has_name name (map (λ x. x.now) xs)
+-- names behind references, in the order of their bytes
+pub any_named : (name : List ℕ) (xs : List (Bor (List ℕ))) → list_any (λ x. is_eq (slice_cmp nat_cmp name x.now)) xs ≡ has_name name (map (λ x. x.now) xs)
 any_named name [] = refl
-any_named name (x ∷ xs) = ap (λ b. b || list_any (λ x. bytes_eq name x.now) xs) (bytes_turned name x.now) ∙ ap (λ b. bytes_eq x.now name || b) (any_named name xs)
+any_named name (x ∷ xs) =
+    ap (λ b. b || list_any (λ y. is_eq (slice_cmp nat_cmp name y.now)) xs) (is_eq-slice_cmp name x.now ∙ bytes_turned name x.now) ∙ ap (λ b. bytes_eq x.now name || b) (any_named name xs)
 
 -- a set of them with one more
-pub inserted : (xs ys : List (Bor (List ℕ))) (x : Bor (List ℕ)) → ((q : Bor (List ℕ)) → list_any (λ y. bytes_eq q.now y.now) ys ≡ (if bytes_eq x.now q.now then true else list_any (λ y. bytes_eq q.now y.now) xs))
-    → (n : List ℕ) → has_name n (map (λ y. y.now) ys) ≡ has_name n (x.now ∷ map (λ y. y.now) xs)
-inserted xs ys x adds n = sym (any_named n ys) ∙ (adds (record { ref_ptr = (0, 0); now = n }) ∙ by (bytes_eq x.now n))
+pub inserted : (old new : BTreeSet (Bor (List ℕ))) (x : Bor (List ℕ)) → Updates (λ y z. slice_cmp nat_cmp y.now z.now) old new x true
+    → (n : List ℕ) → has_name n (map (λ y. y.now) new.keys) ≡ has_name n (x.now ∷ map (λ y. y.now) old.keys)
+inserted old new x put n =
+    sym (any_named n new.keys)
+    ∙ (put.0 (record { ref_ptr = (0, 0); now = n })
+    ∙ (ap (λ b. if b then true else list_any (λ y. is_eq (slice_cmp nat_cmp n y.now)) old.keys) (is_eq-slice_cmp x.now n) ∙ by (bytes_eq x.now n)))
   where
-    by : (b : Bool) → (if b then true else list_any (λ y. bytes_eq n y.now) xs) ≡ (b || has_name n (map (λ y. y.now) xs))
+    by : (b : Bool) → (if b then true else list_any (λ y. is_eq (slice_cmp nat_cmp n y.now)) old.keys) ≡ (b || has_name n (map (λ y. y.now) old.keys))
     by true = refl
-    by false = any_named n xs
+    by false = any_named n old.keys
 
 -- a name is noted: it is new, or it was there
 

@@ -8,14 +8,14 @@ use crate::looks::Literals;
 use crate::repeats::names_again;
 use crate::things::KeyMark;
 use std::alloc::{AllocError, Global};
-use std::collections::{HashMap, HashSet};
+use std::collections::{BTreeMap, BTreeSet};
 
 /// From how many keys on a table of the fields by their names is made where the place has no index of them; fewer are each looked for.
 const TABLE_FROM: usize = 9;
 
 // Adds a name with its number, unless it is there.
 fn add_name<'n>(
-    numbers: &mut HashMap<&'n str, usize>,
+    numbers: &mut BTreeMap<&'n str, usize>,
     name: &'n str,
     at: usize,
 ) -> Result<(), AllocError>
@@ -34,10 +34,10 @@ fn add_name<'n>(
 fn numbers_of<'n>(
     alloc: Global,
     names: &Vec<&'n str>,
-) -> Result<HashMap<&'n str, usize>, AllocError>
+) -> Result<BTreeMap<&'n str, usize>, AllocError>
     ensures { IfOk result (λ numbers. (n : List ℕ) → number_of numbers.entries n ≡ marks.name_number_from 0 (map (λ m. m.now) names.now.items) n) }
 {
-    let mut numbers = HashMap::new(alloc);
+    let mut numbers = BTreeMap::new(alloc);
     for (at, name) in names.iter().enumerate() {
         add_name(&mut numbers, *name, at)?;
     }
@@ -45,7 +45,7 @@ fn numbers_of<'n>(
 }
 
 // The number of a name.
-fn number(numbers: &HashMap<&str, usize>, name: &str) -> Option<usize>
+fn number(numbers: &BTreeMap<&str, usize>, name: &str) -> Option<usize>
     ensures { result ≡ number_of numbers.now.entries name.now }
 {
     match numbers.get(name) {
@@ -55,7 +55,7 @@ fn number(numbers: &HashMap<&str, usize>, name: &str) -> Option<usize>
 }
 
 // The mark of a key, by the keys that are repeated and the numbers of fields.
-fn mark_of(again: &HashSet<&str>, numbers: &HashMap<&str, usize>, name: &str) -> KeyMark
+fn mark_of(again: &BTreeSet<&str>, numbers: &BTreeMap<&str, usize>, name: &str) -> KeyMark
     ensures { result ≡ mark_by (map (λ n. n.now) again.now.keys) numbers.now.entries name.now }
 {
     KeyMark {
@@ -67,8 +67,8 @@ fn mark_of(again: &HashSet<&str>, numbers: &HashMap<&str, usize>, name: &str) ->
 // The marks of some keys.
 fn mark_each(
     alloc: Global,
-    again: &HashSet<&str>,
-    numbers: &HashMap<&str, usize>,
+    again: &BTreeSet<&str>,
+    numbers: &BTreeMap<&str, usize>,
     names: &[&str],
 ) -> Result<Vec<KeyMark>, AllocError>
     ensures { IfOk result (λ all. all.items ≡ map (mark_by (map (λ n. n.now) again.now.keys) numbers.now.entries) (map (λ n. n.now) names.now)) }
@@ -108,7 +108,7 @@ fn asked_number<E: Literals>(
 }
 
 // The mark of a key, by the keys that are repeated and the number of its field.
-fn mark_with(again: &HashSet<&str>, name: &str, field: Option<usize>) -> KeyMark
+fn mark_with(again: &BTreeSet<&str>, name: &str, field: Option<usize>) -> KeyMark
     ensures { result ≡ mark_with (map (λ n. n.now) again.now.keys) field name.now }
 {
     KeyMark {
@@ -122,7 +122,7 @@ fn asked_mark<E: Literals>(
     env: &E,
     alloc: Global,
     t: &Option<E::Type>,
-    again: &HashSet<&str>,
+    again: &BTreeSet<&str>,
     name: &str,
 ) -> Result<KeyMark, AllocError>
     ensures { IfOk result (λ mark. mark ≡ asked_mark (map (λ n. n.now) again.now.keys) (marks.type_fields (E.literals env.now) t.now) name.now) }
@@ -136,7 +136,7 @@ fn ask_each<E: Literals>(
     env: &E,
     alloc: Global,
     t: &Option<E::Type>,
-    again: &HashSet<&str>,
+    again: &BTreeSet<&str>,
     names: &[&str],
 ) -> Result<Vec<KeyMark>, AllocError>
     ensures { IfOk result (λ all. all.items ≡ map (asked_mark (map (λ n. n.now) again.now.keys) (marks.type_fields (E.literals env.now) t.now)) (map (λ n. n.now) names.now)) }
@@ -158,7 +158,7 @@ fn is_indexed<E: Literals>(env: &E, t: &Option<E::Type>) -> bool {
 }
 
 // The mark of a key, by the keys that are repeated and the names of fields.
-fn searched_mark(again: &HashSet<&str>, fields: &Vec<&str>, name: &str) -> KeyMark
+fn searched_mark(again: &BTreeSet<&str>, fields: &Vec<&str>, name: &str) -> KeyMark
     ensures { result ≡ searched_mark (map (λ n. n.now) again.now.keys) (map (λ n. n.now) fields.now.items) name.now }
 {
     mark_with(again, name, first_named(fields, name))
@@ -167,7 +167,7 @@ fn searched_mark(again: &HashSet<&str>, fields: &Vec<&str>, name: &str) -> KeyMa
 // The marks of some keys, each of which is looked for among the fields.
 fn search_each(
     alloc: Global,
-    again: &HashSet<&str>,
+    again: &BTreeSet<&str>,
     fields: &Vec<&str>,
     names: &[&str],
 ) -> Result<Vec<KeyMark>, AllocError>
@@ -195,8 +195,8 @@ fn names_of<'n, E: Literals>(
 }
 
 /// Of each of the keys of a literal, by their spellings in order, whether another is spelled the same, and which field of the literal's
-/// type is. Where the place has an index of the fields, expected time grows with the number of keys alone; else with that of the fields too,
-/// and not with their product.
+/// type is. But for a logarithm, time grows with the number of keys alone where the place has an index of the fields; else with that of the
+/// fields too, and not with their product.
 ///
 /// The Go specification, "Composite literals".
 ///

@@ -3,6 +3,7 @@ pub mod Meanings
 pub mod Scenes
 pub mod Looking
 pub mod mirrors
+pub mod alias_core
 pub mod answer_core
 pub mod block_core
 pub mod body_core

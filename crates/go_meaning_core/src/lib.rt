@@ -36,7 +36,7 @@ pub mod entry_core {
 
 /// What the crates above name of `go_face_core`.
 pub mod face_core {
-    pub use go_part_core::face_core::Face;
+    pub use go_part_core::face_core::{Face, TypesHere};
 }
 
 /// What the crates above name of `go_graph_core`.
@@ -77,7 +77,7 @@ pub mod part_core {
 
 /// What the crates above name of `go_ready_core`.
 pub mod ready_core {
-    pub use go_part_core::ready_core::{PackageAt, package_outlines};
+    pub use go_part_core::ready_core::{PackageAt, package_aliases, package_outlines};
 }
 
 /// What the crates above name of `go_select_core`.

@@ -6,6 +6,7 @@ pub mod Pieces
 pub mod Functions
 pub mod Packages
 pub mod Laws
+pub mod alias_core
 pub mod answer_core
 pub mod block_core
 pub mod body_core

@@ -20,8 +20,8 @@ use Rattle.go_emit_core.specs.func_core.Stands.{FileStand}
 use Rattle.go_near_core.specs.Near.{NearFound, NearExported}
 use Rattle.go_near_core.specs.Tables.{Nearby, IsNear, IsNearPackage, near_rest}
 
--- a package: the names that other packages show, its path, what its blocks bind, what the others' names are, and the outlines of its files in order
--- of name
+-- a package: what its names of types lead to, its path, what its blocks bind, what the others' names are, and the outlines of its files in order of
+-- name
 pub record PackageOf : Type 0 where
   pub shows : Shows
   pub path : List ℕ

@@ -6,6 +6,7 @@ use Rattle.go_tree_nodes.specs.Trees.{FileTree}
 use Rattle.go_ready_core.specs.table_core.Entries.{Entry, find_entry}
 use Rattle.go_ready_core.specs.type_core.Meanings.{one_settled}
 use Rattle.go_ready_core.specs.entry_core.Entries.{package_meanings}
+use Rattle.go_ready_core.specs.entry_core.Meanings.{declared_alone}
 use Rattle.go_ready_core.specs.fault_core.declared.places.PackageFault.{PackageFault}
 use Rattle.go_ready_core.specs.fault_core.TypeFaults.{faults_of_types}
 use Rattle.go_ready_core.specs.handle_core.Declarations.{Declaration}
@@ -16,8 +17,9 @@ use Rattle.go_ready_core.specs.face_core.Faces.{TheFace}
 use Rattle.go_ready_core.specs.face_core.Written.{decls_of}
 use Rattle.go_ready_core.specs.file_core.Occurring.{files_have_occurrences}
 use Rattle.go_ready_core.specs.answer_core.Shown.{package_shown}
-use Rattle.go_ready_core.specs.Packages.{PackageIn, entries_in, outlines_in, scene_in}
+use Rattle.go_ready_core.specs.Packages.{PackageIn, entries_in, outlines_in, scene_in, shows_in, targets_in, written_in}
 use Rattle.go_ready_core.specs.Values.{AreDeclared, AreLooped}
+use Rattle.go_ready_core.proofs.Faulty.{one_looped}
 use Rattle.go_ready_core.proofs.Tables.{have_one_table}
 use Rattle.go_package_core.specs.Checked.{AnswersOf, CheckedOf, IsChecked, IsFileChecked, all_faults, imports_at, stand_at}
 use Rattle.go_package_core.specs.Laws.{OneCheck, PackageHasOccurrences}
@@ -45,11 +47,13 @@ pub one_check : OneCheck
 one_check p far one other placed h k =
     let built = one_settled (find_entry far) (entries_in p) one.types other.types h.types.loops k.types.loops h.types.built k.types.built in
     let types = built.0 in
-    let means = package_meanings p.shows p.path p.blocks in
-    let faults : h.type_faults ≡ k.type_faults =
-    h.types.faults_are
-    ∙ (ap (λ t. faults_of_types (far ++ t) means p.path (outlines_in p) (entries_in p) h.types.loops) types
-    ∙ (ap (faults_of_types (far ++ other.types) means p.path (outlines_in p) (entries_in p)) built.1 ∙ sym k.types.faults_are)) in
+    let loops = built.1 in
+    let aliases = one_looped (written_in p) (targets_in p) h.types.looped k.types.looped h.types.looped_are k.types.looped_are in
+    let raws = package_meanings (declared_alone p.shows) p.path p.blocks in
+    let means = package_meanings (shows_in p) p.path p.blocks in
+    let moved : faults_of_types (far ++ one.types) raws means p.path (outlines_in p) (entries_in p) h.types.looped h.types.loops ≡ faults_of_types (far ++ other.types) raws means p.path (outlines_in p) (entries_in p) k.types.looped k.types.loops =
+    λ i. faults_of_types (far ++ types i) raws means p.path (outlines_in p) (entries_in p) (aliases i) (loops i) in
+    let faults : h.type_faults ≡ k.type_faults = h.types.faults_are ∙ (moved ∙ sym k.types.faults_are) in
     let declared = have_one_table.values p (far ++ one.types) one.declared other.declared placed h.declared (subst (λ t. AreDeclared p (far ++ t) other.declared) (sym types) k.declared) in
     let looped = have_one_table.looped p (far ++ one.types) h.looped k.looped h.constants (subst (λ t. AreLooped p (far ++ t) k.looped) (sym types) k.constants) in
     let trees = enumerate_from 0 p.trees in

@@ -5,11 +5,16 @@ use Rattle.std.specs.List.{AllZip, enumerate_from}
 use Rattle.std.proofs.lemmas.List.{length-map}
 use Rattle.std.proofs.lemmas.List.FromFn.{length-enumerate_from}
 use Rattle.go_tree_nodes.specs.Trees.{FileTree}
+use Rattle.go_term_core.specs.decl_core.declared.keys.DeclRef.{DeclRef}
+use Rattle.go_term_core.specs.Terms.{Term}
+use Rattle.go_ready_core.specs.alias_core.Aliases.{target_by}
 use Rattle.go_ready_core.specs.table_core.Entries.{Entry}
+use Rattle.go_ready_core.specs.entry_core.Meanings.{Shows}
 use Rattle.go_ready_core.specs.entry_core.Outlines.{FileOutline, outline_of}
 use Rattle.go_ready_core.specs.fault_core.declared.places.PackageFault.{PackageFault}
 use Rattle.go_ready_core.specs.inline_core.Types.{InlineOf}
 use Rattle.go_ready_core.specs.face_core.Faces.{TheFace}
+use Rattle.go_ready_core.specs.face_core.Here.{far_type}
 use Rattle.go_ready_core.specs.face_core.Packages.{PackageFacesModel}
 use Rattle.go_ready_core.specs.face_core.Written.{WrittenOf, decls_of, package_written}
 use Rattle.go_ready_core.specs.env_core.Scenes.{SceneModel}
@@ -22,7 +27,7 @@ use Rattle.go_ready_core.specs.known_core.Alike.{decls_stand_alike}
 use Rattle.go_ready_core.specs.answer_core.Shown.{package_shown}
 use Rattle.go_ready_core.specs.Inlines.{initial_in, initial_types, types_stand}
 use Rattle.go_ready_core.specs.Laws.{package_placed}
-use Rattle.go_ready_core.specs.Packages.{PackageIn, outlines_in, scene_in}
+use Rattle.go_ready_core.specs.Packages.{PackageIn, outlines_in, scene_in, shows_in, targets_in}
 use Rattle.go_ready_core.specs.Types.{AreTypes}
 use Rattle.go_ready_core.specs.Values.{AreDeclared, AreLooped}
 use Rattle.go_package_core.specs.Checked.{AnswersOf, CheckedOf, IsChecked, IsFileChecked}
@@ -37,7 +42,7 @@ initial_many p types inl os inl_is os_is =
 -- as many declarations are written as there are
 pub written_many : (p : PackageIn) (types : List Entry) (ws : List WrittenOf) (inl : List (List (ℕ × InlineOf))) (os : List FileOutline) → ws ≡ (scene_in p types).written → os ≡ outlines_in p → length ws ≡ length (placed_decls inl os)
 written_many p types ws inl os ws_is os_is =
-    ap length ws_is ∙ (decls_stand_alike.as_many p.shows p.path p.blocks types inl (outlines_in p) ∙ ap (λ l. length (placed_decls inl l)) (sym os_is))
+    ap length ws_is ∙ (decls_stand_alike.as_many (shows_in p) p.path p.blocks types inl (outlines_in p) ∙ ap (λ l. length (placed_decls inl l)) (sym os_is))
 
 -- what holds of the scene and the declarations that were made holds of those of the package
 pub as_made : (p : PackageIn) (types : List Entry) (s : SceneModel) (inl : List (List (ℕ × InlineOf))) (os : List FileOutline) (T : SceneModel → List PlacedOf → Type 0)
@@ -70,3 +75,11 @@ checked_is p far own types faults known held looped files faces table of_types d
 -- settled faults, of the same outcomes and faults
 pub settled_of : (us vs : List TheUse) (fs gs xs : List Fault) → us ≡ vs → fs ≡ gs → IsSettled Declaration (List ℕ) us fs xs → IsSettled Declaration (List ℕ) vs gs xs
 settled_of us vs fs gs xs same also h = subst (λ l. IsSettled Declaration (List ℕ) vs l xs) also (subst (λ l. IsSettled Declaration (List ℕ) l fs xs) same h)
+
+-- what names of types lead to
+
+abbrev pub names_with : PackageIn → List ℕ → List (DeclRef × Term) → Shows
+names_with p path targets = record { shown = p.shows; target = target_by path targets (far_type p.others) }
+
+pub names_are : (p : PackageIn) (path : List ℕ) (targets : List (DeclRef × Term)) → path ≡ p.path → targets ≡ targets_in p → names_with p path targets ≡ shows_in p
+names_are p path targets path_is targets_are = λ i. names_with p (path_is i) (targets_are i)

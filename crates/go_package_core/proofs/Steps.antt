@@ -17,7 +17,7 @@ use Rattle.go_term_core.specs.decl_core.declared.tops.Outline.{Outline}
 use Rattle.go_term_core.specs.decl_core.TopDecls.{TopDeclTree, top_decls}
 use Rattle.go_ready_core.specs.block_core.declared.imports.Imported.{Imported}
 use Rattle.go_ready_core.specs.table_core.Entries.{Entry}
-use Rattle.go_ready_core.specs.entry_core.Meanings.{file_meaning}
+use Rattle.go_ready_core.specs.entry_core.Meanings.{Shows, file_meaning}
 use Rattle.go_ready_core.specs.entry_core.Outlines.{FileOutline, outline_of, outline_shown}
 use Rattle.go_ready_core.specs.entry_core.Numbered.{flat_more}
 use Rattle.go_ready_core.specs.fault_core.declared.places.PackageFault.{PackageFault}
@@ -38,7 +38,7 @@ use Rattle.go_ready_core.specs.file_core.Stands.{AreFunctionTypes, AreInitialTyp
 use Rattle.go_ready_core.specs.answer_core.Outer.{outer_faults}
 use Rattle.go_ready_core.specs.Inlines as inside
 use Rattle.go_ready_core.specs.Inlines.{AreFunctionsIn, initial_in, outline_funcs, types_stand}
-use Rattle.go_ready_core.specs.Packages.{PackageIn, outlines_in, scene_in, stand_in}
+use Rattle.go_ready_core.specs.Packages.{PackageIn, outlines_in, scene_in, shows_in, stand_in}
 use Rattle.go_ready_core.proofs.Lists.{zip_both}
 use Rattle.go_ready_core.proofs.Values.{held_there}
 use Rattle.go_package_core.specs.Checked.{AnswersOf, IsFileChecked, all_faults, decls_before, imports_at, stand_at}
@@ -55,19 +55,19 @@ trees_within (s ∷ ss) = by s.name s.text s.content (trees_within ss)
     by name text (Err e) rest = omega (arith, rest)
 
 -- where a file is checked, by what is known of its package
-abbrev pub stand_by : PackageIn → SceneModel → List (Option TheFace) → ℕ → List Place → FileStand
-stand_by p s known n places = record { scene = s; known = known; file = record { path = s.path; file = n; places = places }; top = file_meaning p.shows s.path s.blocks n }
+abbrev pub stand_by : Shows → SceneModel → List (Option TheFace) → ℕ → List Place → FileStand
+stand_by shows s known n places = record { scene = s; known = known; file = record { path = s.path; file = n; places = places }; top = file_meaning shows s.path s.blocks n }
 
-module _ (p : PackageIn) (types : List Entry) (s : SceneModel) (known : List (Option TheFace)) (n : ℕ) (f : FileTree) (o : FileOutline) (places : List Place)
-    (of_scene : s ≡ scene_in p types) (of_places : places ≡ o.places) (of_tree : o ≡ outline_of f) (there : slice_get (outlines_in p) n ≡ Some o) where
-  stand_is : stand_by p s known n places ≡ stand_in p types known n o
-  stand_is = ap (λ x. stand_by p x known n places) of_scene ∙ ap (λ ps. stand_by p (scene_in p types) known n ps) of_places
+module _ (p : PackageIn) (types : List Entry) (shows : Shows) (s : SceneModel) (known : List (Option TheFace)) (n : ℕ) (f : FileTree) (o : FileOutline) (places : List Place)
+    (of_names : shows ≡ shows_in p) (of_scene : s ≡ scene_in p types) (of_places : places ≡ o.places) (of_tree : o ≡ outline_of f) (there : slice_get (outlines_in p) n ≡ Some o) where
+  stand_is : stand_by shows s known n places ≡ stand_in p types known n o
+  stand_is = λ i. stand_by (of_names i) (of_scene i) known n (of_places i)
 
-  stand_tree : stand_by p s known n places ≡ stand_at p types known (n, f)
+  stand_tree : stand_by shows s known n places ≡ stand_at p types known (n, f)
   stand_tree = stand_is ∙ ap (stand_in p types known n) of_tree
 
   -- the types in its initialisers
-  pub initial_there : (held : List (List (ℕ × InlineOf))) (x : List (ℕ × InlineOf)) → held ≡ initial_in p types → n < length held → x ≡ get_or held n x → AreInitialTypes (stand_by p s known n places) f x
+  pub initial_there : (held : List (List (ℕ × InlineOf))) (x : List (ℕ × InlineOf)) → held ≡ initial_in p types → n < length held → x ≡ get_or held n x → AreInitialTypes (stand_by shows s known n places) f x
   initial_there held x is lt at =
       let made : x ≡ inside.initial_types (types_stand p types (n, o)) o = at ∙ (get_or_default held n x [] lt ∙ (ap (λ h. get_or h n []) is ∙ held_there p types n o there)) in
       let listed = ap (λ (x : FileOutline). outline_types x.decls) of_tree ∙ outline_all f in
@@ -76,7 +76,7 @@ module _ (p : PackageIn) (types : List Entry) (s : SceneModel) (known : List (Op
 
   -- and in its functions
   pub functions_there : (held : List (Vec (List (ℕ × InlineOf)) Global)) (v : Vec (List (ℕ × InlineOf)) Global) (x : List (List (ℕ × InlineOf))) → AreFunctionsIn p types (map (λ of_file. of_file.items) held) → v ≡ get_or held n v → x ≡ v.items
-      → AreFunctionTypes (stand_by p s known n places) f x
+      → AreFunctionTypes (stand_by shows s known n places) f x
   functions_there held v x all at is =
       let at_zero : 0 + n ≡ n = omega arith in
       let numbered = subst (λ (k : ℕ). slice_get (enumerate_from 0 (outlines_in p)) n ≡ Some (k, o)) at_zero (numbered_at 0 (outlines_in p) n o there) in
@@ -88,9 +88,9 @@ module _ (p : PackageIn) (types : List Entry) (s : SceneModel) (known : List (Op
   -- what stands in it
   pub checked_there : (faults : List PackageFault) (looped flags : List Bool) (imports : List Imported) (ds : List TopDeclTree) (first : ℕ) (a : AnswersOf)
       → imports ≡ imports_at p n → ds ≡ o.decls → first ≡ decls_before p n → flags ≡ looped
-      → a.uses ≡ file_uses (stand_by p s known n places) imports f
-      → IsSettled Declaration (List ℕ) a.uses (file_faults (stand_by p s known n places) f ++ outer_faults n p.blocks faults ds (drop first flags)) a.faults
-      → a.locals ≡ file_locals (stand_by p s known n places) f
+      → a.uses ≡ file_uses (stand_by shows s known n places) imports f
+      → IsSettled Declaration (List ℕ) a.uses (file_faults (stand_by shows s known n places) f ++ outer_faults n p.blocks faults ds (drop first flags)) a.faults
+      → a.locals ≡ file_locals (stand_by shows s known n places) f
       → IsFileChecked p types known faults looped (n, f) a
   checked_there faults looped flags imports ds first a of_imports of_decls of_first of_flags uses settled locals = record {
     locals = locals ∙ ap (λ st. file_locals st f) stand_tree;

@@ -1,6 +1,7 @@
 pub mod Checked
 pub mod Laws
 pub mod mirrors
+pub mod alias_core
 pub mod alike_core
 pub mod answer_core
 pub mod block_core

@@ -10,7 +10,7 @@ ghost use Rattle.go_ready_core.specs.env_core.Scenes.{scene_shown};
 ghost use Rattle.go_ready_core.specs.file_core.Files.{file_faults, file_locals, file_uses};
 ghost use Rattle.go_ready_core.specs.file_core.Stands.{AreFunctionTypes, AreInitialTypes, stand_of};
 ghost use Rattle.go_ready_core.specs.answer_core.Outer.{outer_faults};
-ghost use Rattle.go_ready_core.specs.Packages.{outlines_in, package_in_shown, scene_in};
+ghost use Rattle.go_ready_core.specs.Packages.{outlines_in, package_in_shown, scene_in, shows_in};
 ghost use Rattle.go_ready_core.specs.Values.{decls_in};
 ghost use Rattle.go_package_core.specs.Checked.{IsFileChecked, answers_shown, local_shown};
 ghost use Rattle.go_package_core.specs.mirrors.Stages.{IsReady};
@@ -53,20 +53,20 @@ fn imports_at(imports: &[Vec<Imported>], file: usize) -> &[Imported]
 }
 
 // What stands in a file: its occurrences, its faults with those that are asked of the package as a whole, and the locals of its functions.
-fn file_answers<'n, 'p, P: ImportedNames, K: TypesOf>(
+fn file_answers<'n, 'p, N: ImportedNames, K: TypesOf>(
     alloc: Global,
-    at: &FileAt<'n, 'p, P>,
+    at: &FileAt<'n, 'p, N>,
     tree: &File,
     outer: &OuterAt<'_, '_>,
     recall: &Recall<'p, K>,
 ) -> Result<FileAnswers, AllocError>
     requires table { at.now.scene.now.types.now ≡ K.types }
     requires placed { IsPlaced (file_of tree.now) }
-    requires initial { AreInitialTypes (stand_of P.shows at.now) (file_of tree.now) at.now.initial.now }
-    requires functions { AreFunctionTypes (stand_of P.shows at.now) (file_of tree.now) at.now.functions.now }
-    ensures uses { IfOk result (λ a. a.answers.items ≡ file_uses (stand_of P.shows at.now) at.now.imports.now (file_of tree.now)) }
-    ensures faults { IfOk result (λ a. IsSettled Declaration (List ℕ) a.answers.items (file_faults (stand_of P.shows at.now) (file_of tree.now) ++ outer_faults outer.now.file outer.now.blocks.now outer.now.type_faults.now (map decl_shown outer.now.decls.now) (drop outer.now.first outer.now.looped.now)) a.faults.items) }
-    ensures locals { IfOk result (λ a. map local_shown a.locals.items ≡ file_locals (stand_of P.shows at.now) (file_of tree.now)) }
+    requires initial { AreInitialTypes (stand_of N.shows at.now) (file_of tree.now) at.now.initial.now }
+    requires functions { AreFunctionTypes (stand_of N.shows at.now) (file_of tree.now) at.now.functions.now }
+    ensures uses { IfOk result (λ a. a.answers.items ≡ file_uses (stand_of N.shows at.now) at.now.imports.now (file_of tree.now)) }
+    ensures faults { IfOk result (λ a. IsSettled Declaration (List ℕ) a.answers.items (file_faults (stand_of N.shows at.now) (file_of tree.now) ++ outer_faults outer.now.file outer.now.blocks.now outer.now.type_faults.now (map decl_shown outer.now.decls.now) (drop outer.now.first outer.now.looped.now)) a.faults.items) }
+    ensures locals { IfOk result (λ a. map local_shown a.locals.items ≡ file_locals (stand_of N.shows at.now) (file_of tree.now)) }
 {
     let mut checked = check_file(alloc, at, tree, recall)?;
     let mut whole = outer_faults(alloc, outer)?;
@@ -81,11 +81,12 @@ fn file_answers<'n, 'p, P: ImportedNames, K: TypesOf>(
     })
 }
 
-/// What stands in the files of a package, in order of name, where this is ready of it, these are its declarations, and its types have these
-/// faults. What is decided of two types in one of them is known in those behind it.
-pub(crate) fn check_files<'n, 'p, P: ImportedNames, K: TypesOf>(
+/// What stands in the files of a package, in order of name, where its names of types lead to this, this is ready of it, these are its
+/// declarations, and its types have these faults. What is decided of two types in one of them is known in those behind it.
+pub(crate) fn check_files<'n, 'p, P: ImportedNames, N: ImportedNames, K: TypesOf>(
     alloc: Global,
     at: &'p PackageAt<'_, P>,
+    names: &'n N,
     scene: &'n Scene<'p>,
     outlines: &'n [Outline<'p>],
     ready: &'p Ready,
@@ -93,6 +94,7 @@ pub(crate) fn check_files<'n, 'p, P: ImportedNames, K: TypesOf>(
     type_faults: &'n [PackageFault],
 ) -> Result<Vec<FileAnswers>, AllocError>
     requires table { scene.now.types.now ≡ K.types }
+    requires names { N.shows names.now ≡ shows_in (package_in_shown P.shows at.now) }
     requires outlines { map outline_shown outlines.now ≡ outlines_in (package_in_shown P.shows at.now) }
     requires scene { scene_shown scene.now ≡ scene_in (package_in_shown P.shows at.now) (scene_shown scene.now).types }
     requires ready { IsReady (package_in_shown P.shows at.now) (scene_shown scene.now).types ready.now }
@@ -107,7 +109,7 @@ pub(crate) fn check_files<'n, 'p, P: ImportedNames, K: TypesOf>(
             scene,
             file,
             places: &outline.places,
-            imported: at.shown,
+            imported: names,
             imports: imports_at(at.imports, file),
             initial: &ready.initial[file],
             functions: &ready.functions[file],

@@ -45,7 +45,7 @@ pub mod entry_core {
 
 /// What the crates above name of `go_face_core`.
 pub mod face_core {
-    pub use go_ready_core::face_core::{Face, FaceTable, lend};
+    pub use go_ready_core::face_core::{Face, FaceTable, TypesHere, lend};
 }
 
 /// What the crates above name of `go_file_core`.
@@ -83,7 +83,7 @@ pub mod parse_core {
 
 /// What the crates above name of `go_ready_core`.
 pub mod ready_core {
-    pub use go_ready_core::{PackageAt, package_outlines};
+    pub use go_ready_core::{PackageAt, package_aliases, package_outlines};
 }
 
 /// What the crates above name of `go_report_core`.

@@ -8,7 +8,7 @@ ghost use Rattle.go_ready_core.specs.env_core.Scenes.{scene_shown};
 ghost use Rattle.go_ready_core.specs.value_core.Laws.{AreFaces};
 ghost use Rattle.go_ready_core.specs.value_core.Package.{AreThroughThemselves, placed_decls};
 ghost use Rattle.go_ready_core.specs.Inlines.{IsPlacedOutline};
-ghost use Rattle.go_ready_core.specs.Packages.{outlines_in, package_in_shown};
+ghost use Rattle.go_ready_core.specs.Packages.{outlines_in, package_in_shown, shows_in};
 ghost use Rattle.go_ready_core.specs.Types.{AreTypes};
 ghost use Rattle.go_package_core.specs.Checked.{IsChecked, checked_shown};
 ghost use Rattle.go_package_core.specs.mirrors.Stages.{IsReady};
@@ -20,13 +20,15 @@ use go_ready_core::answer_core::{held_faces, shown_faces};
 use go_ready_core::block_core::Blocks;
 use go_ready_core::entry_core::ImportedNames;
 use go_ready_core::env_core::Scene;
-use go_ready_core::face_core::{FaceTable, WrittenFaces};
+use go_ready_core::face_core::{FaceTable, TypesHere, WrittenFaces};
 use go_ready_core::handle_core::Home;
 use go_ready_core::inline_core::InlineTypes;
 use go_ready_core::known_core::package_values;
 use go_ready_core::type_core::TypeTable;
 use go_ready_core::value_core::through_itself;
-use go_ready_core::{OwnTypes, PackageAt, Ready, make_ready, package_outlines, package_types};
+use go_ready_core::{
+    OwnTypes, PackageAt, Ready, make_ready, package_aliases, package_outlines, package_types,
+};
 use go_term_core::decl_core::Outline;
 use std::alloc::{AllocError, Global};
 use std::marker::Brand;
@@ -68,14 +70,16 @@ fn declare<'p>(
 }
 
 // Checks a package whose types are made, and of which this is ready.
-fn check_ready<'p, P: ImportedNames>(
+fn check_ready<'p, P: ImportedNames, N: ImportedNames>(
     alloc: Global,
     at: &'p PackageAt<'_, P>,
+    names: &'p N,
     types: &'p TypeTable,
     outlines: &'p [Outline<'p>],
     ready: &'p Ready,
     own: OwnTypes,
 ) -> Result<CheckedPackage, AllocError>
+    requires names { N.shows names.now ≡ shows_in (package_in_shown P.shows at.now) }
     requires outlines { map outline_shown outlines.now ≡ outlines_in (package_in_shown P.shows at.now) }
     requires placed { All IsPlaced (package_in_shown P.shows at.now).trees }
     requires ready { IsReady (package_in_shown P.shows at.now) types.now ready.now }
@@ -85,9 +89,10 @@ fn check_ready<'p, P: ImportedNames>(
     let written = &ready.written;
     let scene = scene_of(&ready.home, at.blocks, types, at.faces, written);
     let declared = declare(alloc, &scene, &ready.initial, outlines)?;
-    let files = check_files::<P, Brand>(
+    let files = check_files::<P, N, Brand>(
         alloc,
         at,
+        names,
         &scene,
         outlines,
         ready,
@@ -110,30 +115,33 @@ fn check_ready<'p, P: ImportedNames>(
 }
 
 // Checks a package whose types are made.
-fn check_typed<P: ImportedNames>(
+fn check_typed<P: ImportedNames, N: ImportedNames>(
     alloc: Global,
     at: &PackageAt<'_, P>,
+    names: &N,
     types: &TypeTable,
     outlines: &[Outline<'_>],
     own: OwnTypes,
 ) -> Result<CheckedPackage, AllocError>
+    requires names { N.shows names.now ≡ shows_in (package_in_shown P.shows at.now) }
     requires outlines { map outline_shown outlines.now ≡ outlines_in (package_in_shown P.shows at.now) }
     requires tokens { AllByRecursion IsPlacedOutline (map outline_shown outlines.now) }
     requires placed { All IsPlaced (package_in_shown P.shows at.now).trees }
     ensures types { IfOk result (λ c. c.types ≡ own.types) }
     ensures checked { IfOk result (λ c. (far : List Entry) → types.now ≡ far ++ own.types.entries → AreTypes (package_in_shown P.shows at.now) far own.types.entries own.faults.items → IsChecked (package_in_shown P.shows at.now) far (checked_shown c)) }
 {
-    let ready = make_ready(alloc, &*at, &*outlines, &*types)?;
-    check_ready(alloc, &*at, &*types, &*outlines, &ready, own)
+    let ready = make_ready(alloc, &*at, &*names, &*outlines, &*types)?;
+    check_ready(alloc, &*at, &*names, &*types, &*outlines, &ready, own)
 }
 
 /// Checks a package: makes its types and adds them to the table, finds what its declarations are, and gives for each file what its occurrences
 /// have and its faults; and what the package shows to those that import it.
 ///
 /// `types` has the types of the packages that this one reaches, and none of its own; `at` says what its imports come to and what other packages
-/// show. A declaration whose initialiser leads back to itself has no type, and what rests on it has none.
+/// show. A name of a type that denotes an alias means the alias's target, of this package and of others. A declaration whose initialiser leads
+/// back to itself has no type, and what rests on it has none.
 ///
-/// The Go specification, "Packages", "Declarations and scope", "Types", "Package initialization".
+/// The Go specification, "Packages", "Declarations and scope", "Types", "Alias declarations", "Package initialization".
 ///
 /// # Errors
 ///
@@ -149,6 +157,13 @@ pub fn check_package<P: ImportedNames>(
     ensures checked { IfOk result (λ c. IsChecked (package_in_shown P.shows at.now) types.old (checked_shown c)) }
 {
     let outlines = package_outlines(alloc, &*at)?;
-    let own = package_types(alloc, &*at, &outlines, types)?;
-    check_typed(alloc, &*at, &*types, &outlines, own)
+    let aliases = package_aliases(alloc, &*at, &outlines)?;
+    let names = TypesHere {
+        path: at.package.path(),
+        shown: at.shown,
+        faces: at.faces,
+        aliases: &aliases,
+    };
+    let own = package_types(alloc, &*at, &names, &aliases, &outlines, types)?;
+    check_typed(alloc, &*at, &names, &*types, &outlines, own)
 }

@@ -8,8 +8,8 @@ use Rattle.go_tree_nodes.specs.declared.decls.ValueKind.{ValueKind}
 use Rattle.go_tree_nodes.specs.declared.decls.ValueKind.TheVariants as kinds
 use Rattle.go_tree_nodes.specs.Terminals.{Terminal}
 use Rattle.go_tree_nodes.specs.Trees.{Separated, TypeTree, ExprTree, ValueSpecTree, Specs, Single, Group, ValueTree, TypeSpecTree, TypeDeclTree}
-use Rattle.go_tree_nodes.specs.Spelling.{mark, word, spell_ident, spell_idents, spell_some_type, spell_values, spell_value_spec, spell_specs_of, spell_specs, keyword_of, spell_value, spell_type_spec, spell_types}
-use Rattle.go_tree_nodes.specs.Rules.{IsNothing, HasEnough, Wf_type, Wf_some_type, Wf_values, Wf_value_spec, Wf_group, Wf_specs, Wf_value, Wf_type_spec, Wf_types}
+use Rattle.go_tree_nodes.specs.Spelling.{mark, word, spell_ident, spell_idents, spell_some, spell_some_type, spell_values, spell_value_spec, spell_specs_of, spell_specs, keyword_of, spell_value, spell_type_spec, spell_types}
+use Rattle.go_tree_nodes.specs.Rules.{IsNothing, IsAliasOfName, HasEnough, Wf_type, Wf_some_type, Wf_values, Wf_value_spec, Wf_group, Wf_specs, Wf_value, Wf_type_spec, Wf_types}
 use Rattle.go_tree_nodes.specs.Heights.{type_height, some_type_height, values_height, value_spec_height, group_height, specs_height, value_height, type_spec_height, types_height}
 use Rattle.go_parse_core.specs.LeftOut.{Symbol, sure, Closes, symbol_semicolon, symbols_type, symbols_some, symbols_values, symbols_value_spec, symbols_group, symbols_specs, symbols_value, symbols_type_spec, symbols_types, Fills_type, Fills_some, Fills_values, Fills_value_spec, Fills_group, Fills_specs, Fills_value, Fills_type_spec, Fills_types}
 use Rattle.go_parse_core.proofs.LeftOutParts.{Any, Opens, opens_along, opens_not, Splits, nothing, sure_then, one_then, both, maps, loose, join_nothing, join_both, join_sure, join_one, filled, filled_fills, filled_kept, filled_full, join_loose, Good, Filled, AnyLike, higher, both_high, in_parens, join_parens}
@@ -56,8 +56,8 @@ value_spec xs t v = record { names = xs; type_expr = t; values = v }
 abbrev value_tree : ValueKind → Span → Specs ValueSpecTree → ValueTree
 value_tree kind k specs = record { kind = kind; keyword = k; specs = specs }
 
-abbrev type_spec : Ident → TypeTree → TypeSpecTree
-type_spec x t = record { name = x; type_expr = t }
+abbrev type_spec : Ident → Option Span → TypeTree → TypeSpecTree
+type_spec x alias t = record { name = x; alias = alias; type_expr = t }
 
 abbrev types_tree : Span → Specs TypeSpecTree → TypeDeclTree
 types_tree k specs = record { keyword = k; specs = specs }
@@ -80,9 +80,16 @@ value_spec_split kind v whole full =
 value_spec_opens : (v : ValueSpecTree) → Opens (symbols_value_spec v)
 value_spec_opens v = opens_along (sure (spell_idents v.names)) _ (idents_open v.names)
 
+-- an alias is one of a name, also where the type behind it is filled
+alias_like : (alias : Option Span) (t u : TypeTree) → ((s : Span) → IsAliasOfName (Some s) t → IsAliasOfName (Some s) u) → IsAliasOfName alias t → IsAliasOfName alias u
+alias_like None t u like h = tt
+alias_like (Some s) t u like h = like s h
+
 type_spec_split : (t : TypeSpecTree) → Wf_type_spec t → Fills_type_spec t t → Splits Any (symbols_type_spec t) TypeSpecTree spell_type_spec (GoodTypeSpec t)
 type_spec_split t whole full =
-    maps (one_then (spell_ident t.name) (type_split t.type_expr whole full.1)) (λ x. type_spec t.name x) (λ x. refl) (λ x g. record { fills = (refl, g.fills); wf = g.wf; high = g.high; like = tt })
+    maps (one_then (spell_ident t.name) (sure_then (spell_some operator.Assign t.alias) (type_split t.type_expr whole.0 full.2)))
+    (λ x. type_spec t.name t.alias x) (λ x. refl)
+    (λ x g. record { fills = (refl, refl, g.fills); wf = (g.wf, alias_like t.alias t.type_expr x g.like.2 whole.1); high = g.high; like = tt })
 
 type_spec_opens : (t : TypeSpecTree) → Opens (symbols_type_spec t)
 type_spec_opens t = λ c. c
@@ -170,8 +177,16 @@ value_spec_fill kind v wf =
 
 type_spec_fill : (t : TypeSpecTree) → Wf_type_spec t → FilledTypeSpec t
 type_spec_fill t wf =
-    let q = type_fill t.type_expr wf in
-    record { tree = type_spec t.name q.tree; fills = (refl, q.fills); full = (refl, q.full); wf = q.wf; high = q.high; like = tt; joins = join_one (spell_ident t.name) q.joins }
+    let q = type_fill t.type_expr wf.0 in
+    record {
+      tree = type_spec t.name t.alias q.tree;
+      fills = (refl, refl, q.fills);
+      full = (refl, refl, q.full);
+      wf = (q.wf, alias_like t.alias t.type_expr q.tree q.like.2 wf.1);
+      high = q.high;
+      like = tt;
+      joins = join_one (spell_ident t.name) (join_sure (spell_some operator.Assign t.alias) q.joins);
+    }
 
 -- a group, of what its items are filled by
 

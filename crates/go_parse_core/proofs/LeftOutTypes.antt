@@ -8,7 +8,7 @@ use Rattle.go_tree_nodes.specs.declared.types.TypeName.{TypeName}
 use Rattle.go_tree_nodes.specs.declared.types.TypeName.TheVariants as type_name
 use Rattle.go_tree_nodes.specs.Trees.{Separated, One, Then, TypeTree, FieldTrees, MethodTrees, SignatureTree, ResultTree, ParamTrees, NamedType, Pointer, ParenType, Struct, Interface, NoFields, NamedFields, EmbeddedField, NoMethods, Method, Signed, NoResult, OneResult, Results, NoParams, Param}
 use Rattle.go_tree_nodes.specs.Spelling.{mark, word, spell_ident, spell_idents, spell_some, spell_type_name, spell_tag, spell_names, spell_type, spell_fields, spell_methods, spell_signature, spell_result, spell_params}
-use Rattle.go_tree_nodes.specs.Rules.{IsLastField, IsLastMethod, IsLastParam, is_grouped, IsBare, IsStructType, Wf_type, Wf_fields, Wf_methods, Wf_signature, Wf_result, Wf_params}
+use Rattle.go_tree_nodes.specs.Rules.{IsLastField, IsLastMethod, IsLastParam, IsAliasOfName, is_grouped, IsBare, IsStructType, Wf_type, Wf_fields, Wf_methods, Wf_signature, Wf_result, Wf_params}
 use Rattle.go_tree_nodes.specs.Heights.{type_height, fields_height, methods_height, signature_height, result_height, params_height}
 use Rattle.go_parse_core.specs.LeftOut.{Symbol, sure, Closes, symbols_type, symbols_fields, symbols_methods, symbols_signature, symbols_result, symbols_params, symbol_semicolon, Fills_type, Fills_fields, Fills_methods, Fills_signature, Fills_result, Fills_params}
 use Rattle.go_parse_core.proofs.LeftOutParts.{Any, Opens, opens_along, opens_not, Splits, nothing, sures, sure_then, one_then, both, maps, loose, join_nothing, join_sures, join_both, join_sure, join_one, filled, filled_fills, filled_kept, filled_full, join_loose, Good, Filled, AnyLike, higher, both_high, kept_like, in_parens, in_braces, join_parens, join_braces}
@@ -62,7 +62,7 @@ methods_end (Method x signature s rest) last more h = absurd last
 -- what the rules ask of the outside of a type
 
 abbrev pub TypesLike : TypeTree → TypeTree → Type 0
-TypesLike a b = (IsBare a → IsBare b) × (IsStructType a → IsStructType b)
+TypesLike a b = (IsBare a → IsBare b) × (IsStructType a → IsStructType b) × ((s : Span) → IsAliasOfName (Some s) a → IsAliasOfName (Some s) b)
 
 abbrev FieldsLike : FieldTrees → FieldTrees → Type 0
 FieldsLike a b = IsLastField a → IsLastField b
@@ -96,22 +96,22 @@ GoodParams groups = Good Fills_params (Wf_params groups) params_height ParamsLik
 mutual
   pub type_split : (t : TypeTree) → Wf_type t → Fills_type t t → Splits Any (symbols_type t) TypeTree spell_type (GoodType t)
   type_split (NamedType n) whole full =
-      maps (sures (spell_type_name n)) (λ x. NamedType n) (λ x. refl) (λ x g. record { fills = refl; wf = tt; high = refl; like = (λ y. y, λ y. y) })
+      maps (sures (spell_type_name n)) (λ x. NamedType n) (λ x. refl) (λ x g. record { fills = refl; wf = tt; high = refl; like = (λ y. y, λ y. y, λ s y. y) })
   type_split (Pointer star t) whole full =
       maps (one_then (mark operator.Star star) (type_split t whole full.1)) (λ x. Pointer star x) (λ x. refl)
-      (λ x g. record { fills = (refl, g.fills); wf = g.wf; high = higher g.high; like = (λ y. y, λ y. y) })
+      (λ x g. record { fills = (refl, g.fills); wf = g.wf; high = higher g.high; like = (λ y. y, λ y. y, λ s y. y) })
   type_split (ParenType first t last) whole full =
       maps (in_parens first last (type_split t whole full.1) (λ more. tt))
       (λ x. ParenType first x last) (λ x. refl)
-      (λ x g. record { fills = (refl, g.fills, refl); wf = g.wf; high = higher g.high; like = (λ y. y, λ y. y) })
+      (λ x g. record { fills = (refl, g.fills, refl); wf = g.wf; high = higher g.high; like = (λ y. y, λ y. y, λ s y. y) })
   type_split (Struct k first fs last) whole full =
       maps (one_then (word keyword.Struct k) (in_braces first last (fields_split fs whole full.2) (λ more. tt)))
       (λ x. Struct k first x last) (λ x. refl)
-      (λ x g. record { fills = (refl, refl, g.fills, refl); wf = g.wf; high = higher g.high; like = (λ y. y, λ y. y) })
+      (λ x g. record { fills = (refl, refl, g.fills, refl); wf = g.wf; high = higher g.high; like = (λ y. y, λ y. y, λ s y. y) })
   type_split (Interface k first ms last) whole full =
       maps (one_then (word keyword.Interface k) (in_braces first last (methods_split ms whole full.2) (λ more. tt)))
       (λ x. Interface k first x last) (λ x. refl)
-      (λ x g. record { fills = (refl, refl, g.fills, refl); wf = g.wf; high = higher g.high; like = (λ y. y, λ y. y) })
+      (λ x g. record { fills = (refl, refl, g.fills, refl); wf = g.wf; high = higher g.high; like = (λ y. y, λ y. y, λ s y. y) })
 
   fields_split : (fs : FieldTrees) → Wf_fields fs → Fills_fields fs fs → Splits Closes (symbols_fields fs) FieldTrees spell_fields (GoodFields fs)
   fields_split NoFields whole full = maps nothing (λ x. NoFields) (λ x. refl) (λ x g. record { fills = tt; wf = tt; high = refl; like = λ y. y })
@@ -178,7 +178,7 @@ FilledParams groups = Filled Any symbols_params spell_params Fills_params (Wf_pa
 
 mutual
   pub type_fill : (t : TypeTree) → Wf_type t → FilledType t
-  type_fill (NamedType n) wf = record { tree = NamedType n; fills = refl; full = refl; wf = tt; high = refl; like = (λ y. y, λ y. y); joins = join_sures (spell_type_name n) }
+  type_fill (NamedType n) wf = record { tree = NamedType n; fills = refl; full = refl; wf = tt; high = refl; like = (λ y. y, λ y. y, λ s y. y); joins = join_sures (spell_type_name n) }
   type_fill (Pointer star t) wf =
       let q = type_fill t wf in
       record {
@@ -187,7 +187,7 @@ mutual
         full = (refl, q.full);
         wf = q.wf;
         high = higher q.high;
-        like = (λ y. y, λ y. y);
+        like = (λ y. y, λ y. y, λ s y. y);
         joins = join_one (mark operator.Star star) q.joins;
       }
   type_fill (ParenType first t last) wf =
@@ -198,7 +198,7 @@ mutual
         full = (refl, q.full, refl);
         wf = q.wf;
         high = higher q.high;
-        like = (λ y. y, λ y. y);
+        like = (λ y. y, λ y. y, λ s y. y);
         joins = join_parens first last q.joins (λ more. tt);
       }
   type_fill (Struct k first fs last) wf =
@@ -209,7 +209,7 @@ mutual
         full = (refl, refl, q.full, refl);
         wf = q.wf;
         high = higher q.high;
-        like = (λ y. y, λ y. y);
+        like = (λ y. y, λ y. y, λ s y. y);
         joins = join_one (word keyword.Struct k) (join_braces first last q.joins (λ more. tt));
       }
   type_fill (Interface k first ms last) wf =
@@ -220,7 +220,7 @@ mutual
         full = (refl, refl, q.full, refl);
         wf = q.wf;
         high = higher q.high;
-        like = (λ y. y, λ y. y);
+        like = (λ y. y, λ y. y, λ s y. y);
         joins = join_one (word keyword.Interface k) (join_braces first last q.joins (λ more. tt));
       }
 

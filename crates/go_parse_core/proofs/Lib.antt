@@ -1,3 +1,4 @@
+pub mod Aliases
 pub mod CodeFiles
 pub mod CodeImports
 pub mod CodeParse

@@ -130,7 +130,7 @@ abbrev pub symbols_value : ValueTree → List Symbol
 symbols_value v = Sure (word (keyword_of v.kind) v.keyword) ∷ symbols_specs symbols_value_spec v.specs
 
 abbrev pub symbols_type_spec : TypeSpecTree → List Symbol
-symbols_type_spec t = Sure (spell_ident t.name) ∷ symbols_type t.type_expr
+symbols_type_spec t = Sure (spell_ident t.name) ∷ (sure (spell_some operator.Assign t.alias) ++ symbols_type t.type_expr)
 
 abbrev pub symbols_types : TypeDeclTree → List Symbol
 symbols_types t = Sure (word keyword.«Type» t.keyword) ∷ symbols_specs symbols_type_spec t.specs
@@ -308,7 +308,7 @@ abbrev pub Fills_value : ValueTree → ValueTree → Type 0
 Fills_value v w = (v.kind ≡ w.kind) × (v.keyword ≡ w.keyword) × Fills_specs Fills_value_spec v.specs w.specs
 
 abbrev pub Fills_type_spec : TypeSpecTree → TypeSpecTree → Type 0
-Fills_type_spec t u = (t.name ≡ u.name) × Fills_type t.type_expr u.type_expr
+Fills_type_spec t u = (t.name ≡ u.name) × (t.alias ≡ u.alias) × Fills_type t.type_expr u.type_expr
 
 abbrev pub Fills_types : TypeDeclTree → TypeDeclTree → Type 0
 Fills_types t u = (t.keyword ≡ u.keyword) × Fills_specs Fills_type_spec t.specs u.specs

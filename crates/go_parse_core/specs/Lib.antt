@@ -1,3 +1,4 @@
+pub mod AliasSamples
 pub mod Correct
 pub mod LeftOut
 pub mod Names

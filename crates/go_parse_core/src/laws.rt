@@ -4,6 +4,7 @@
 //! interface type and each specification in parentheses. A text may leave out those before a closing mark (the Go
 //! specification, "Semicolons"), but an empty statement keeps its semicolon. A tree of the text has none where the
 //! text leaves it out.
+ghost use Rattle.go_parse_core.specs.AliasSamples.{AliasesAreOfNames};
 ghost use Rattle.go_parse_core.specs.Correct.{HasOneTree};
 ghost use Rattle.go_parse_core.specs.LeftOut.{HasOneWholeTree, MarkedIsWhole, WholeIsMarked};
 ghost use Rattle.go_parse_core.specs.Names.{HasNamesSpelled, HasOccurrencesSpelled};
@@ -49,4 +50,11 @@ pub fn whole_is_marked()
 /// that it leaves out.
 pub fn one_whole_tree()
     ensures { HasOneWholeTree }
+{}
+
+/// A law, with nothing to run: `type A = B` is an alias (the Go specification, "Alias declarations"), alone and in
+/// parentheses, and behind its `=` stands the name of a type, without parentheses: no file has a star, an opening
+/// parenthesis, `struct`, `interface` or a semicolon there, and its text has P1, whatever stands behind.
+pub fn aliases_are_of_names()
+    ensures { AliasesAreOfNames }
 {}

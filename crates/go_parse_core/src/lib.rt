@@ -2,12 +2,12 @@
 //!
 //! A file is a package clause, its imports, then the declarations of the package block: constants, variables,
 //! types, functions and methods, each with a semicolon behind it. A type is a name, a pointer, a struct, an
-//! interface of methods, or a type in parentheses. An expression is an integer or string literal, a name, a
-//! literal of a struct, a selector, a call, one with unary or binary operators, or one in parentheses. A
-//! statement is empty, a declaration of constants or variables, an expression, `++`, `--`, an assignment, a
-//! short declaration, `return`, `break`, `continue`, a block, `if`, or `for` without `range` (the Go
-//! specification, "Source file organization", "Declarations and scope", "Types", "Expressions", "Statements"
-//! and "Semicolons").
+//! interface of methods, or a type in parentheses; an alias, `type A = B`, is another name of a named type. An
+//! expression is an integer or string literal, a name, a literal of a struct, a selector, a call, one with unary
+//! or binary operators, or one in parentheses. A statement is empty, a declaration of constants or variables, an
+//! expression, `++`, `--`, an assignment, a short declaration, `return`, `break`, `continue`, a block, `if`, or
+//! `for` without `range` (the Go specification, "Source file organization", "Declarations and scope", "Types",
+//! "Expressions", "Statements" and "Semicolons").
 //!
 //! [`parse`] finds the tree of a text, or says where the text has none.
 #![tactic(auto)]
@@ -21,8 +21,8 @@ mod parsed;
 
 pub use error::{ParseError, SynFault};
 pub use laws::{
-    marked_is_whole, names_spelled, occurrences_spelled, one_rule, one_tree, one_whole_tree,
-    whole_is_marked,
+    aliases_are_of_names, marked_is_whole, names_spelled, occurrences_spelled, one_rule, one_tree,
+    one_whole_tree, whole_is_marked,
 };
 pub use parsed::{Parsed, parse, tree_of};
 

@@ -13,6 +13,6 @@ pub use expr_reader::expr;
 /// What the crates above name of `go_parse_types`.
 pub mod parse_types {
     pub use go_parse_types::{
-        Ahead, Stop, add, boxed, fitted, idents, signature, type_expr, type_name,
+        Ahead, Stop, add, boxed, fitted, idents, named_type, signature, type_expr, type_name,
     };
 }

@@ -8,18 +8,18 @@ use Rattle.go_tree_nodes.specs.declared.names.Ident.{Ident}
 use Rattle.go_tree_nodes.specs.declared.decls.ValueKind.{ValueKind}
 use Rattle.go_tree_nodes.specs.declared.decls.ValueKind.TheVariants as kinds
 use Rattle.go_tree_nodes.specs.Terminals.{Terminal}
-use Rattle.go_tree_nodes.specs.Trees.{Separated, One, Then, TypeTree, ExprTree, ValueSpecTree, ValueTree, TypeSpecTree, TypeDeclTree}
-use Rattle.go_tree_nodes.specs.Spelling.{mark, word, spell_ident, spell_idents, spell_type, spell_exprs, spell_some_type, spell_values, spell_value_spec, spell_specs, keyword_of, spell_value, spell_type_spec, spell_types}
-use Rattle.go_tree_nodes.specs.Rules.{Wf_type, Wf_some_type, Wf_values, HasEnough, Wf_value_spec, Wf_value, Wf_type_spec, Wf_types}
+use Rattle.go_tree_nodes.specs.Trees.{Separated, One, Then, TypeTree, NamedType, Pointer, ParenType, Struct, Interface, ExprTree, ValueSpecTree, ValueTree, TypeSpecTree, TypeDeclTree}
+use Rattle.go_tree_nodes.specs.Spelling.{mark, word, spell_ident, spell_idents, spell_some, spell_type, spell_exprs, spell_some_type, spell_values, spell_value_spec, spell_specs, keyword_of, spell_value, spell_type_spec, spell_types}
+use Rattle.go_tree_nodes.specs.Rules.{IsAliasOfName, Wf_type, Wf_some_type, Wf_values, HasEnough, Wf_value_spec, Wf_value, Wf_type_spec, Wf_types}
 use Rattle.go_tree_nodes.specs.Heights.{type_height, exprs_height, some_type_height, values_height, value_spec_height, specs_height, value_height, type_spec_height, types_height}
-use Rattle.go_parse_exprs.specs.parse_types.mirrors.Marks.{Grammar, ◌>>=◌, Reading, MarkAhead, need, mark_at, keyword_at, name_at, idents_go}
+use Rattle.go_parse_exprs.specs.parse_types.mirrors.Marks.{Grammar, ◌>>=◌, Reading, MarkAhead, need, mark_at, keyword_at, name_at, some_mark, idents_go}
 use Rattle.go_parse_exprs.specs.parse_types.mirrors.TypeReading.{begins_type, type_at}
 use Rattle.go_parse_exprs.specs.mirrors.ExprReading.{exprs_at}
-use Rattle.go_parse_stmts.specs.mirrors.StmtReading.{specs_at, type_if, some_type_at, values_by, enough, value_spec, value_spec_by, value_spec_at, value_decl, value_at, value_var, value_const, value_word, type_spec, type_spec_at, type_decl, types_at}
-use Rattle.go_parse_exprs.specs.parse_types.Marks.{mark_was, word_was, name_was, bind_ok, need_ok, AgreesAt, bind_agrees, agrees_along}
+use Rattle.go_parse_stmts.specs.mirrors.StmtReading.{specs_at, type_if, some_type_at, values_by, enough, value_spec, value_spec_by, value_spec_at, value_decl, value_at, value_var, value_const, value_word, type_spec, spec_type_at, type_spec_from, type_spec_at, type_decl, types_at}
+use Rattle.go_parse_exprs.specs.parse_types.Marks.{mark_was, word_was, name_was, some_mark_was, some_mark_here, bind_ok, need_ok, AgreesAt, bind_agrees, agrees_along}
 use Rattle.go_parse_exprs.specs.parse_types.Lists.{ReadsItem, ItemsRead, idents_some, idents_complete, idents_sound}
-use Rattle.go_parse_exprs.specs.parse_types.TypeFacts.{type_no_mark, type_begins}
-use Rattle.go_parse_exprs.specs.parse_types.Types.{type_complete, type_sound}
+use Rattle.go_parse_exprs.specs.parse_types.TypeFacts.{ReadsType, type_no_mark, type_begins}
+use Rattle.go_parse_exprs.specs.parse_types.Types.{type_complete, named_type_complete, type_sound, named_type_sound}
 use Rattle.go_parse_exprs.proofs.ExprLists.{exprs_complete, exprs_sound}
 use Rattle.go_parse_stmts.proofs.Ends.{Ends, ends_semicolon, ends_paren}
 use Rattle.go_parse_stmts.proofs.Specs.{FoundSpec, specs_complete, specs_sound}
@@ -116,10 +116,24 @@ value_complete v b rest wf ends =
 
 -- types
 
-type_spec_found : (b : ℕ) (t : TypeSpecTree) (rest : List Terminal) → Wf_type_spec t → Ends false rest → AgreesAt (type_spec_at b (spell_type_spec t ++ rest)) (Ok (t, rest)) b (type_height t.type_expr)
+spec_type_found : (b : ℕ) (alias : Option Span) (t : TypeTree) (rest : List Terminal) → Wf_type t → IsAliasOfName alias t → Ends false rest → AgreesAt (spec_type_at b alias (spell_type t ++ rest)) (Ok (t, rest)) b (type_height t)
+spec_type_found b None t rest wf named ends = type_complete t b rest wf ends.dot
+spec_type_found b (Some s) (NamedType n) rest wf named ends = named_type_complete n b rest ends.dot
+spec_type_found b (Some s) (Pointer star t) rest wf named ends = absurd named
+spec_type_found b (Some s) (ParenType first t last) rest wf named ends = absurd named
+spec_type_found b (Some s) (Struct k first fs last) rest wf named ends = absurd named
+spec_type_found b (Some s) (Interface k first ms last) rest wf named ends = absurd named
+
+type_spec_found : (b : ℕ) (t : TypeSpecTree) (rest : List Terminal) → Wf_type_spec t → Ends false rest → AgreesAt (type_spec_at b (spell_type_spec t ++ rest)) (Ok (t, rest)) b (type_spec_height t)
 type_spec_found b t rest wf ends =
-    bind_agrees (type_at b (spell_type t.type_expr ++ rest)) (t.type_expr, rest) (λ y. Ok (type_spec t.name y.0, y.1)) (Ok (t, rest)) b (type_height t.type_expr) b (type_height t.type_expr)
-    (type_complete t.type_expr b rest wf ends.dot) (inl refl) (λ h. h)
+    let behind = spell_type t.type_expr ++ rest in
+    let goal : Reading TypeSpecTree = Ok (t, rest) in
+    let h = type_height t.type_expr in
+    let marked : some_mark operator.Assign ((spell_some operator.Assign t.alias ++ spell_type t.type_expr) ++ rest) ≡ (t.alias, behind) =
+    ap (some_mark operator.Assign) (append_assoc (spell_some operator.Assign t.alias) (spell_type t.type_expr) rest) ∙ some_mark_here operator.Assign t.alias behind (type_no_mark operator.Assign refl refl t.type_expr rest) in
+    agrees_along _ _ _ b h (ap (type_spec_from b t.name) marked)
+    (bind_agrees (spec_type_at b t.alias behind) (t.type_expr, rest) (λ y. Ok (type_spec t.name t.alias y.0, y.1)) goal b h b h
+    (spec_type_found b t.alias t.type_expr rest wf.0 wf.1 ends) (inl refl) (λ h. h))
 
 pub types_complete : (t : TypeDeclTree) (b : ℕ) (rest : List Terminal) → Wf_types t → Ends false rest → AgreesAt (types_at b t.keyword (spell_specs spell_type_spec t.specs ++ rest)) (Ok (t, rest)) (suc b) (types_height t)
 types_complete t b rest wf ends =
@@ -182,13 +196,20 @@ value_sound b kind keyword ts x e =
     let front = word (keyword_of kind) keyword in
     subst (ReadsItem ValueTree spell_value value_height Wf_value (suc b) (front ∷ ts)) same (record { spelled_as = ap (λ l. front ∷ l) r.spelled_as; wf = r.wf; low = omega (arith, r.low) })
 
+spec_type_sound : (b : ℕ) (alias : Option Span) (ts : List Terminal) (x : TypeTree × List Terminal) → spec_type_at b alias ts ≡ Ok x → ReadsType b ts x × IsAliasOfName alias x.0
+spec_type_sound b None ts x e = (type_sound b ts x e, tt)
+spec_type_sound b (Some s) ts x e = named_type_sound b s ts x e
+
 pub type_spec_sound : (b : ℕ) → ItemsRead TypeSpecTree spell_type_spec type_spec_height Wf_type_spec b (type_spec_at b)
 type_spec_sound b ts x e =
-    let n = bind_ok (need (name_at ts)) (λ x. type_at b x.1 >>= λ t. Ok (type_spec x.0 t.0, t.1)) x e in
-    let t = bind_ok (type_at b n.0.1) (λ t. Ok (type_spec n.0.0 t.0, t.1)) x n.2 in
-    let r = type_sound b n.0.1 t.0 t.1 in
-    let same : (type_spec n.0.0 t.0.0, t.0.1) ≡ x = cc (t.2) in
-    subst (ReadsItem TypeSpecTree spell_type_spec type_spec_height Wf_type_spec b ts) same (record { spelled_as = name_was ts n.0 (need_ok (name_at ts) n.0 n.1) ∙ ap (λ l. spell_ident n.0.0 ∷ l) r.spelled; wf = r.wf; low = r.low })
+    let n = bind_ok (need (name_at ts)) (λ x. type_spec_from b x.0 (some_mark operator.Assign x.1)) x e in
+    let alias = some_mark operator.Assign n.0.1 in
+    let t = bind_ok (spec_type_at b alias.0 alias.1) (λ t. Ok (type_spec n.0.0 alias.0 t.0, t.1)) x n.2 in
+    let r = spec_type_sound b alias.0 alias.1 t.0 t.1 in
+    let same : (type_spec n.0.0 alias.0 t.0.0, t.0.1) ≡ x = cc (t.2) in
+    let path : n.0.1 ≡ (spell_some operator.Assign alias.0 ++ spell_type t.0.0) ++ t.0.1 =
+    some_mark_was operator.Assign n.0.1 ∙ ap (λ l. spell_some operator.Assign alias.0 ++ l) r.0.spelled ∙ sym (append_assoc (spell_some operator.Assign alias.0) (spell_type t.0.0) t.0.1) in
+    subst (ReadsItem TypeSpecTree spell_type_spec type_spec_height Wf_type_spec b ts) same (record { spelled_as = name_was ts n.0 (need_ok (name_at ts) n.0 n.1) ∙ ap (λ l. spell_ident n.0.0 ∷ l) path; wf = (r.0.wf, r.1); low = r.0.low })
 
 pub types_sound : (b : ℕ) (k : Span) (ts : List Terminal) (x : TypeDeclTree × List Terminal) → types_at b k ts ≡ Ok x → ReadsItem TypeDeclTree spell_types types_height Wf_types (suc b) (word keyword.«Type» k ∷ ts) x
 types_sound b k ts x e =

@@ -1,18 +1,34 @@
 //! Declarations of types.
 ghost use Rattle.std.specs.Prelude.{◌≡◌, map};
 ghost use Rattle.go_tree_nodes.specs.token_core.declared.kind.Operator.TheVariants as operator;
+ghost use Rattle.go_tree_nodes.specs.TypeShapes.{shape_type};
 ghost use Rattle.go_tree_nodes.specs.Shapes.{shape_type_spec, shape_type_line, shape_type_decl};
 ghost use Rattle.go_parse_exprs.specs.parse_types.mirrors.EntryShapes.{list_all};
 ghost use Rattle.go_parse_exprs.specs.parse_types.mirrors.Giving.{Gives};
-ghost use Rattle.go_parse_stmts.specs.mirrors.StmtReading.{type_spec_at, types_at};
+ghost use Rattle.go_parse_stmts.specs.mirrors.StmtReading.{spec_type_at, type_spec_at, types_at};
 
-use go_parse_exprs::parse_types::{Ahead, Stop, add, fitted, type_expr};
+use go_parse_exprs::parse_types::{Ahead, Stop, add, fitted, named_type, type_expr};
 use go_tree_nodes::text_core::Span;
 use go_tree_nodes::token_core::Operator;
-use go_tree_nodes::{TypeDecl, TypeLine, TypeSpec, TypeSpecs};
+use go_tree_nodes::{TypeDecl, TypeExpr, TypeLine, TypeSpec, TypeSpecs};
 use std::alloc::Global;
 
-/// The name in front and the type that it stands for, at most `budget` high.
+/// The type of a specification in front, at most `budget` high: behind the place of `=` the name of one.
+fn spec_type<'a>(
+    alloc: Global,
+    ahead: Ahead<'a>,
+    alias: Option<Span>,
+    budget: u32,
+) -> Result<(TypeExpr, Ahead<'a>), Stop>
+    ensures { Gives (λ x. (shape_type x.0, x.1)) result (spec_type_at budget alias ahead.entry) }
+{
+    match alias {
+        None => type_expr(alloc, ahead, budget),
+        Some(_) => named_type(alloc, ahead, budget),
+    }
+}
+
+/// The name in front and the type that it stands for, at most `budget` high: of an alias, behind `=`, the name of one.
 fn type_spec<'a>(
     alloc: Global,
     ahead: Ahead<'a>,
@@ -21,8 +37,14 @@ fn type_spec<'a>(
     ensures { Gives (λ x. (shape_type_spec x.0, x.1)) result (type_spec_at budget ahead.entry) }
 {
     let (name, rest) = ahead.need_name(alloc)?;
-    let (type_expr, rest) = type_expr(alloc, rest, budget)?;
-    Ok((TypeSpec { name, type_expr }, rest))
+    let (alias, rest) = rest.some_mark(Operator::Assign);
+    let (type_expr, rest) = spec_type(alloc, rest, alias, budget)?;
+    let spec = TypeSpec {
+        name,
+        alias,
+        type_expr,
+    };
+    Ok((spec, rest))
 }
 
 /// The specifications in front up to a closing parenthesis, with types at most `budget` high.

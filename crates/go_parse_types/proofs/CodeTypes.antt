@@ -16,7 +16,7 @@ use Rattle.go_parse_types.specs.declared.stop.Stop.{Stop}
 use Rattle.go_parse_types.specs.mirrors.Giving.{Fails}
 use Rattle.go_parse_types.specs.mirrors.EntryShapes.{list_all, with_mark, then_mark, listed_at, line_tree, line_of, method_of}
 use Rattle.go_parse_types.specs.mirrors.Marks.{TooHigh, ◌>>=◌, Reading, need, mark_at, text_at, mark_or_end}
-use Rattle.go_parse_types.specs.mirrors.TypeReading.{EntryTree, LineTree, tag_by, tagged, with_line, entry_at, line_at, method_at, as_fields, as_methods, params_at, results_by, result_at, signature_at, struct_by, struct_at, interface_by, interface_at, type_by, type_at}
+use Rattle.go_parse_types.specs.mirrors.TypeReading.{EntryTree, LineTree, tag_by, tagged, with_line, entry_at, line_at, method_at, as_fields, as_methods, params_at, results_by, result_at, signature_at, struct_by, struct_at, interface_by, interface_at, named_at, type_by, type_at, named_type_at}
 use Rattle.go_parse_types.proofs.Marks.{need_ok}
 use Rattle.go_parse_types.proofs.CodeSteps.{fails_along}
 use Rattle.go_parse_types.proofs.Params.{spell_entry, entry_some, entry_sound}
@@ -32,6 +32,14 @@ pub type_more : (n : ℕ) (ts : List Terminal) → 0 < n → type_at n ts ≡ ty
 unfolding type_at
 type_more zero ts some = absurd (omega arith)
 type_more (suc b) ts some = let less : b ≡ suc b - 1 = omega arith in ap (λ m. type_by (type_at m) ts) less
+
+-- and that of a name
+pub named_type_zero : (b : ℕ) (ts : List Terminal) → b ≡ 0 → named_type_at b ts ≡ Err TooHigh
+named_type_zero b ts e = ap (λ n. named_type_at n ts) e
+
+pub named_type_more : (n : ℕ) (ts : List Terminal) → 0 < n → named_type_at n ts ≡ named_at ts
+named_type_more zero ts some = absurd (omega arith)
+named_type_more (suc b) ts some = refl
 
 -- each item takes terminals
 pub entry_less : (b : ℕ) (ts after : List Terminal) (x : EntryTree) → entry_at (type_at b) ts ≡ Ok (x, after) → length after < length ts

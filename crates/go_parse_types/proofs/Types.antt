@@ -8,10 +8,10 @@ use Rattle.go_tree_nodes.specs.declared.types.TypeName.TheVariants as type_name
 use Rattle.go_tree_nodes.specs.Terminals.{Terminal}
 use Rattle.go_tree_nodes.specs.Trees.{TypeTree, NamedType, Pointer, ParenType, Struct, Interface, FieldTrees, MethodTrees, ParamTrees, SignatureTree}
 use Rattle.go_tree_nodes.specs.Spelling.{mark, word, spell_type_name, spell_type, spell_fields, spell_methods, spell_params, spell_signature}
-use Rattle.go_tree_nodes.specs.Rules.{is_grouped, Wf_type, Wf_fields, Wf_methods, Wf_params, Wf_signature}
+use Rattle.go_tree_nodes.specs.Rules.{IsAliasOfName, is_grouped, Wf_type, Wf_fields, Wf_methods, Wf_params, Wf_signature}
 use Rattle.go_tree_nodes.specs.Heights.{type_height, fields_height, methods_height, params_height, signature_height}
 use Rattle.go_parse_types.specs.mirrors.Marks.{◌>>=◌, Reading, MarkAhead, need, mark_at, keyword_at, list_go}
-use Rattle.go_parse_types.specs.mirrors.TypeReading.{type_name_at, params_at, signature_at, line_at, method_at, as_fields, as_methods, struct_by, struct_at, interface_by, interface_at, named_at, by_interface, by_struct, paren_by, by_paren, by_star, type_by, type_at}
+use Rattle.go_parse_types.specs.mirrors.TypeReading.{type_name_at, params_at, signature_at, line_at, method_at, as_fields, as_methods, struct_by, struct_at, interface_by, interface_at, named_at, by_interface, by_struct, paren_by, by_paren, by_star, type_by, type_at, named_type_at}
 use Rattle.go_parse_types.proofs.Marks.{mark_was, word_was, bind_ok, need_ok, AgreesAt, bind_agrees, agrees_along}
 use Rattle.go_parse_types.proofs.TypeFacts.{FindsTypes, ReadsType, ReadsTypes, spell_type_some, type_height_some, type_name_complete, type_name_sound}
 use Rattle.go_parse_types.proofs.Params.{params_complete, ReadsParams, params_sound}
@@ -76,6 +76,11 @@ types_found (suc b) t rest wf free = by_found b (type_at b) (types_found b) t re
 -- a type that is spelled before anything but a dot is read, unless it is too high
 pub type_complete : (t : TypeTree) (b : ℕ) (rest : List Terminal) → Wf_type t → mark_at operator.Dot rest ≡ None → AgreesAt (type_at b (spell_type t ++ rest)) (Ok (t, rest)) b (type_height t)
 type_complete t b rest wf free = types_found b t rest wf free
+
+-- the name of a type that is spelled before anything but a dot is read as a type, unless it is too high
+pub named_type_complete : (n : TypeName) (b : ℕ) (rest : List Terminal) → mark_at operator.Dot rest ≡ None → AgreesAt (named_type_at b (spell_type_name n ++ rest)) (Ok (NamedType n, rest)) b 1
+named_type_complete n zero rest free = inr (refl, omega arith)
+named_type_complete n (suc b) rest free = inl (ap (λ r. r >>= λ n. Ok (NamedType n.0, n.1)) (type_name_complete n rest free))
 
 -- Soundness, one node up.
 
@@ -158,6 +163,14 @@ pub type_sound : (b : ℕ) → ReadsTypes b (type_at b)
 unfolding type_at
 type_sound zero ts x e = cc
 type_sound (suc b) ts x e = by_star_reads b (type_at b) (type_sound b) ts (mark_at operator.Star ts) refl x e
+
+-- the name of a type that is read as a type is spelled in front, and no other type is read
+pub named_type_sound : (b : ℕ) (s : Span) (ts : List Terminal) (x : TypeTree × List Terminal) → named_type_at b ts ≡ Ok x → ReadsType b ts x × IsAliasOfName (Some s) x.0
+named_type_sound zero s ts x e = cc
+named_type_sound (suc b) s ts x e =
+    let w = bind_ok (type_name_at ts) (λ n. Ok (NamedType n.0, n.1)) x e in
+    let same : (NamedType w.0.0, w.0.1) ≡ x = cc (w.2) in
+    (named_reads b ts x e, subst (λ (x : TypeTree × List Terminal). IsAliasOfName (Some s) x.0) same tt)
 
 -- a type takes a terminal
 pub type_shorter : (b : ℕ) (ts : List Terminal) (x : TypeTree × List Terminal) → type_at b ts ≡ Ok x → length x.1 < length ts

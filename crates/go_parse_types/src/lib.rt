@@ -11,6 +11,6 @@ mod type_reader;
 pub use ahead::Ahead;
 pub use go_tree_nodes::text_core::{add, boxed, fitted};
 pub use heights::type_height;
-pub use names::{idents, type_name};
+pub use names::{idents, named_type, type_name};
 pub use stop::Stop;
 pub use type_reader::{signature, struct_type, type_expr};

@@ -4,7 +4,7 @@ ghost use Rattle.go_tree_nodes.specs.TypeShapes.{shape_idents, shape_type};
 ghost use Rattle.go_tree_nodes.specs.Naming.{type_name_of};
 ghost use Rattle.go_parse_types.specs.mirrors.Giving.{Gives};
 ghost use Rattle.go_parse_types.specs.mirrors.Marks.{idents_go};
-ghost use Rattle.go_parse_types.specs.mirrors.TypeReading.{type_name_at};
+ghost use Rattle.go_parse_types.specs.mirrors.TypeReading.{type_name_at, named_at, named_type_at};
 
 use crate::ahead::Ahead;
 use crate::stop::Stop;
@@ -47,6 +47,36 @@ pub fn type_name<'a>(alloc: Global, ahead: Ahead<'a>) -> Result<(TypeName, Ahead
         return Ok((TypeName::Plain(first), rest));
     };
     behind.need_name(alloc).map(|(name, rest)| (TypeName::Qualified(first, dot, name), rest))
+}
+
+/// The name of a type in front as a type, at most `budget` high.
+///
+/// # Errors
+///
+/// [`Stop::Grammar`] where a name is missing, with the offset in bytes of what stands in its place; [`Stop::TooHigh`]
+/// where `budget` is 0, with the offset in bytes of what is in front; and [`Stop::Memory`] where memory runs out.
+pub fn named_type<'a>(
+    alloc: Global,
+    ahead: Ahead<'a>,
+    budget: u32,
+) -> Result<(TypeExpr, Ahead<'a>), Stop>
+    ensures { Gives (λ x. (shape_type x.0, x.1)) result (named_type_at budget ahead.entry) }
+{
+    if budget == 0 {
+        return Err(Stop::TooHigh(ahead.offset()));
+    }
+    name_as_type(alloc, ahead)
+}
+
+/// The name of a type in front as a type.
+pub(crate) fn name_as_type<'a>(
+    alloc: Global,
+    ahead: Ahead<'a>,
+) -> Result<(TypeExpr, Ahead<'a>), Stop>
+    ensures { Gives (λ x. (shape_type x.0, x.1)) result (named_at ahead.entry) }
+{
+    let (name, rest) = type_name(alloc, ahead)?;
+    Ok((TypeExpr::Name(name), rest))
 }
 
 /// The name that a type is.

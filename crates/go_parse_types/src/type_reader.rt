@@ -10,7 +10,7 @@ ghost use Rattle.go_parse_types.specs.mirrors.TypeReading.{type_at, type_by, ent
 
 use crate::ahead::Ahead;
 use crate::entries::{Entry, params_from};
-use crate::names::{idents, name_of, type_name};
+use crate::names::{idents, name_as_type, name_of};
 use crate::stop::Stop;
 use go_tree_nodes::text_core::{Span, add, boxed, fitted};
 use go_tree_nodes::token_core::{Keyword, Operator};
@@ -62,8 +62,7 @@ fn type_above<'a>(
     if let Some((keyword, rest)) = ahead.word(Keyword::Interface) {
         return interface_type(alloc, rest, keyword, inner);
     }
-    let (name, rest) = type_name(alloc, ahead)?;
-    Ok((TypeExpr::Name(name), rest))
+    name_as_type(alloc, ahead)
 }
 
 /// The type in front in a box, at most `budget` high.

@@ -3,6 +3,7 @@ pub mod Laws
 pub mod PartCodes
 pub mod Parts
 pub mod Slots
+pub mod alias_core
 pub mod answer_core
 pub mod block_core
 pub mod body_core

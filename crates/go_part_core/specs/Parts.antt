@@ -10,7 +10,7 @@ use Rattle.go_package_core.specs.block_core.Blocks.{BlocksModel, AreBlocks}
 use Rattle.go_package_core.specs.block_core.Naming.{package_named}
 use Rattle.go_package_core.specs.table_core.Entries.{Entry}
 use Rattle.go_package_core.specs.table_core.Tables.{package_types}
-use Rattle.go_package_core.specs.entry_core.Meanings.{Shows}
+use Rattle.go_package_core.specs.entry_core.Meanings.{Shown}
 use Rattle.go_package_core.specs.entry_core.Showing.{shown_in}
 use Rattle.go_package_core.specs.handle_core.Declarations.{Declaration}
 use Rattle.go_local_core.specs.declared.Fault.{Fault}
@@ -67,10 +67,10 @@ AreFilesMade b trees all files = AllNumbered (IsFileMadeIn b all) 0 trees files
 -- what is known of other packages: their types, the names that they show, and what these are
 pub record SeenOf : Type 0 where
   pub types : List Entry
-  pub shows : Shows
+  pub shows : Shown
   pub faces : List PackageFacesModel
 
-abbrev pub seen_with : List Entry → Shows → List PackageFacesModel → SeenOf
+abbrev pub seen_with : List Entry → Shown → List PackageFacesModel → SeenOf
 seen_with types shows faces = record { types = types; shows = shows; faces = faces }
 
 -- a package, as its check sees it, with these blocks, where this is known of others

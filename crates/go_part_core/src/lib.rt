@@ -45,7 +45,7 @@ pub mod entry_core {
 
 /// What the crates above name of `go_face_core`.
 pub mod face_core {
-    pub use go_package_core::face_core::{Face, FaceTable, lend};
+    pub use go_package_core::face_core::{Face, FaceTable, TypesHere, lend};
 }
 
 /// What the crates above name of `go_file_core`.
@@ -88,7 +88,7 @@ pub mod parse_core {
 
 /// What the crates above name of `go_ready_core`.
 pub mod ready_core {
-    pub use go_package_core::ready_core::{PackageAt, package_outlines};
+    pub use go_package_core::ready_core::{PackageAt, package_aliases, package_outlines};
 }
 
 /// What the crates above name of `go_scope_core`.

@@ -19,7 +19,7 @@ pub mod part_core {
 
 /// What the crates above name of `go_ready_core`.
 pub mod ready_core {
-    pub use go_spelling_core::ready_core::{PackageAt, package_outlines};
+    pub use go_spelling_core::ready_core::{PackageAt, package_aliases, package_outlines};
 }
 
 /// What the crates above name of `go_snap_core`.

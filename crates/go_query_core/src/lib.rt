@@ -22,9 +22,16 @@ pub mod block_core {
     pub use go_symbol_core::block_core::{DeclKey, DeclKind, DeclRef};
 }
 
+/// What the crates above name of `go_entry_core`.
+pub mod entry_core {
+    pub use go_hint_core::entry_core::ShownPackages;
+}
+
 /// What the crates above name of `go_face_core`.
 pub mod face_core {
-    pub use go_hint_core::face_core::{Face, ShownFace, hold};
+    pub use go_hint_core::face_core::{
+        Face, FaceTable, ShownFace, WrittenFaces, hold, written_faces,
+    };
 }
 
 /// What the crates above name of `go_graph_core`.
@@ -40,6 +47,11 @@ pub mod list_core {
 /// What the crates above name of `go_part_core`.
 pub mod part_core {
     pub use go_hint_core::part_core::{Part, types_of};
+}
+
+/// What the crates above name of `go_ready_core`.
+pub mod ready_core {
+    pub use go_hint_core::ready_core::{PackageAt, package_outlines};
 }
 
 /// What the crates above name of `go_scope_core`.

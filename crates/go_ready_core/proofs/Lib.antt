@@ -1,3 +1,4 @@
+pub mod Faulty
 mod Forms
 mod Initials
 pub mod Lists

@@ -8,25 +8,28 @@ use Rattle.go_tree_nodes.specs.Trees.{FuncTree, FileTree}
 use Rattle.go_used_core.specs.parse_core.declared.error.SynFault.{SynFault}
 use Rattle.go_used_core.specs.graph_core.Packages.{trees_of, tree_shown}
 use Rattle.go_used_core.specs.graph_core.Sources.{SourceModel, source, IsPlacedContent, IsPlacedSource}
+use Rattle.go_term_core.specs.decl_core.declared.keys.DeclRef.{DeclRef}
 use Rattle.go_term_core.specs.decl_core.declared.places.Place.{Place}
 use Rattle.go_term_core.specs.decl_core.declared.tops.TopDecl.{TopDecl}
 use Rattle.go_term_core.specs.decl_core.Shown.{decl_shown, form_shown}
+use Rattle.go_term_core.specs.Terms.{Term}
 use Rattle.go_used_core.specs.block_core.Blocks.{BlocksModel}
 use Rattle.go_used_core.specs.settle_core.Settled.{kind_of_term}
 use Rattle.go_known_core.specs.table_core.Entries.{Entry, find_entry, term_in}
 use Rattle.go_used_core.specs.type_core.declared.build.TypeFault.{TypeFault}
 use Rattle.go_used_core.specs.type_core.Built.{IsBuilt}
-use Rattle.go_known_core.specs.entry_core.Meanings.{Shows, file_meaning}
-use Rattle.go_known_core.specs.entry_core.Entries.{declared_entries, package_meanings}
+use Rattle.go_known_core.specs.entry_core.Meanings.{Shows, file_meaning, raw}
+use Rattle.go_known_core.specs.entry_core.Entries.{all_entries, declared_entries, package_meanings}
 use Rattle.go_known_core.specs.entry_core.Outlines.{FileOutline, IsOutline, outline_of}
 use Rattle.go_known_core.specs.entry_core.Numbered.{flat_item}
+use Rattle.go_used_core.specs.alias_core.Laws.{AreLoopedAliases}
 use Rattle.go_used_core.specs.fault_core.declared.places.PackageFault.{PackageFault}
 use Rattle.go_used_core.specs.fault_core.TypeFaults.{faults_of_types}
 use Rattle.go_known_core.specs.names_core.Scope.{beyond_in}
 use Rattle.go_known_core.specs.inline_core.Types.{InlineOf}
 use Rattle.go_known_core.specs.inline_core.Functions.{AreInlines, scoped_outside}
 use Rattle.go_ready_core.specs.Inlines.{form_funcs, outline_funcs}
-use Rattle.go_ready_core.specs.Packages.{PackageIn, entries_in, outlines_in}
+use Rattle.go_ready_core.specs.Packages.{PackageIn, entries_in, outlines_in, shows_in, targets_in, written_in}
 use Rattle.go_ready_core.specs.Types.{AreTypes}
 use Rattle.go_ready_core.specs.mirrors.Adding.{Adds}
 use Rattle.go_ready_core.proofs.Lists.{zip_both}
@@ -49,22 +52,32 @@ all_outlines os fs is = subst (All IsOutline) (sym is) (All-map IsOutline outlin
 
 -- types
 
-pub types_are : (p : PackageIn) (far own table : List Entry) (path : List ℕ) (os : List FileOutline) (written built faulted : List Entry) (loops found : List TypeFault) (faults : List PackageFault)
-    → path ≡ p.path → os ≡ outlines_in p → written ≡ declared_entries p.shows path p.blocks os → built ≡ written → IsBuilt (find_entry far) built own loops → table ≡ far ++ own → faulted ≡ written → found ≡ loops
-    → faults ≡ faults_of_types table (package_meanings p.shows path p.blocks) path os faulted found → AreTypes p far own faults
-types_are p far own table path os written built faulted loops found faults path_is os_is written_is built_is is table_is faulted_is found_is faults_is =
-    let entries : written ≡ entries_in p = written_is ∙ (ap (λ q. declared_entries p.shows q p.blocks os) path_is ∙ ap (declared_entries p.shows p.path p.blocks) os_is) in
+-- what is amiss, by what its names lead to
+abbrev faults_by : BlocksModel → List Entry → Shows → List ℕ → List FileOutline → List Entry → List DeclRef → List TypeFault → List PackageFault
+faults_by b table shows path os written looped loops = faults_of_types table (package_meanings (raw shows) path b) (package_meanings shows path b) path os written looped loops
+
+pub types_are : (p : PackageIn) (shows : Shows) (far own table : List Entry) (path : List ℕ) (os : List FileOutline) (written built faulted : List Entry) (looped said : List DeclRef) (loops found : List TypeFault) (faults : List PackageFault)
+    → shows ≡ shows_in p → path ≡ p.path → os ≡ outlines_in p → written ≡ declared_entries shows path p.blocks os → built ≡ written → IsBuilt (find_entry far) built own loops → table ≡ far ++ own → faulted ≡ written
+    → AreLoopedAliases (written_in p) (targets_in p) looped → said ≡ looped → found ≡ loops → faults ≡ faults_of_types table (package_meanings (raw shows) path p.blocks) (package_meanings shows path p.blocks) path os faulted said found
+    → AreTypes p far own faults
+types_are p shows far own table path os written built faulted looped said loops found faults shows_is path_is os_is written_is built_is is table_is faulted_is looped_are said_is found_is faults_is =
+    let entries : written ≡ entries_in p = written_is ∙ (λ i. declared_entries (shows_is i) (path_is i) p.blocks (os_is i)) in
+    let listed : faulted ≡ entries_in p = faulted_is ∙ entries in
     record {
       loops = loops;
+      looped = looped;
+      looped_are = looped_are;
       built = subst (λ w. IsBuilt (find_entry far) w own loops) (built_is ∙ entries) is;
-      faults_are =
-          faults_is
-          ∙ (ap (λ t. faults_of_types t (package_meanings p.shows path p.blocks) path os faulted found) table_is
-          ∙ (ap (λ q. faults_of_types (far ++ own) (package_meanings p.shows q p.blocks) q os faulted found) path_is
-          ∙ (ap (λ q. faults_of_types (far ++ own) (package_meanings p.shows p.path p.blocks) p.path q faulted found) os_is
-          ∙ (ap (λ q. faults_of_types (far ++ own) (package_meanings p.shows p.path p.blocks) p.path (outlines_in p) q found) (faulted_is ∙ entries)
-          ∙ ap (λ q. faults_of_types (far ++ own) (package_meanings p.shows p.path p.blocks) p.path (outlines_in p) (entries_in p) q) found_is))));
+      faults_are = faults_is ∙ (λ i. faults_by p.blocks (table_is i) (shows_is i) (path_is i) (os_is i) (listed i) (said_is i) (found_is i));
     }
+
+-- aliases
+
+pub looped_in : (p : PackageIn) (written : List Entry) (path : List ℕ) (os : List FileOutline) (xs : List (DeclRef × Term)) (looped : List DeclRef) → written ≡ all_entries p.shows path p.blocks os → path ≡ p.path → os ≡ outlines_in p → xs ≡ targets_in p
+    → AreLoopedAliases written xs looped → AreLoopedAliases (written_in p) (targets_in p) looped
+looped_in p written path os xs looped written_is path_is os_is xs_is are =
+    let entries : written ≡ written_in p = written_is ∙ (λ i. all_entries p.shows (path_is i) p.blocks (os_is i)) in
+    subst (λ x. AreLoopedAliases (written_in p) x looped) xs_is (subst (λ w. AreLoopedAliases w xs looped) entries are)
 
 -- types inside functions
 

@@ -4,6 +4,7 @@ pub mod Packages
 pub mod Types
 pub mod Values
 pub mod mirrors
+pub mod alias_core
 pub mod alike_core
 pub mod answer_core
 pub mod block_core

@@ -1,17 +1,22 @@
 -- A package, as its check sees it.
 --
--- The Go specification, "Packages", "Declarations and scope".
+-- The Go specification, "Packages", "Declarations and scope", "Alias declarations".
 use Rattle.std.specs.Prelude.{ℕ, List, Option, map}
 use Rattle.go_tree_nodes.specs.Trees.{FileTree}
+use Rattle.go_term_core.specs.decl_core.declared.keys.DeclRef.{DeclRef}
+use Rattle.go_term_core.specs.Terms.{Term}
 use Rattle.go_used_core.specs.graph_core.Packages.{trees_of, tree_shown}
 use Rattle.go_used_core.specs.graph_core.Workspaces.{PackageModel}
 use Rattle.go_used_core.specs.block_core.declared.imports.Imported.{Imported}
 use Rattle.go_used_core.specs.block_core.Blocks.{BlocksModel}
 use Rattle.go_known_core.specs.table_core.Entries.{Entry}
-use Rattle.go_known_core.specs.entry_core.Meanings.{Shows, file_meaning}
+use Rattle.go_known_core.specs.entry_core.Meanings.{Shown, Shows, file_meaning}
 use Rattle.go_known_core.specs.entry_core.Outlines.{FileOutline, outline_of}
-use Rattle.go_known_core.specs.entry_core.Entries.{declared_entries, file_at}
+use Rattle.go_known_core.specs.entry_core.Entries.{all_entries, declared_entries, file_at}
+use Rattle.go_used_core.specs.alias_core.Aliases.{alias_ends}
+use Rattle.go_used_core.specs.alias_core.Outlined.{written_aliases}
 use Rattle.go_used_core.specs.face_core.Faces.{TheFace}
+use Rattle.go_used_core.specs.face_core.Here.{names_here}
 use Rattle.go_used_core.specs.face_core.Packages.{PackageFacesModel}
 use Rattle.go_used_core.specs.face_core.Written.{package_written}
 use Rattle.go_known_core.specs.env_core.Scenes.{SceneModel}
@@ -27,7 +32,7 @@ pub record PackageIn : Type 0 where
   -- of each file what its imports come to, in order of place
   pub imports : List (List Imported)
   -- the names that other packages show, and what they are
-  pub shows : Shows
+  pub shows : Shown
   pub others : List PackageFacesModel
 
 abbrev pub trees_in : PackageModel → List FileTree
@@ -39,21 +44,37 @@ package_in_shown shows p = record {
   trees = trees_in p.package.now;
   blocks = p.blocks.now;
   imports = map (λ i. i.items) p.imports.now;
-  shows = shows p.shown.now;
+  shows = (shows p.shown.now).shown;
   others = p.faces.now;
 }
 
 abbrev pub outlines_in : PackageIn → List FileOutline
 outlines_in p = map outline_of p.trees
 
--- the types that it declares, as they are written
+-- its aliases, each with what the name behind its `=` denotes, where the name of an alias means the alias
+abbrev pub aliases_in : PackageIn → List (DeclRef × Term)
+aliases_in p = written_aliases p.shows p.path p.blocks (outlines_in p)
+
+-- the same with their targets
+abbrev pub targets_in : PackageIn → List (DeclRef × Term)
+targets_in p = alias_ends (aliases_in p) p.path
+
+-- what the names of types lead to in it: what other packages show, and the targets of aliases
+abbrev pub shows_in : PackageIn → Shows
+shows_in p = names_here p.shows p.others p.path p.blocks (outlines_in p)
+
+-- the types that it declares, as they are written with the targets of all names
 abbrev pub entries_in : PackageIn → List Entry
-entries_in p = declared_entries p.shows p.path p.blocks (outlines_in p)
+entries_in p = declared_entries (shows_in p) p.path p.blocks (outlines_in p)
+
+-- all types and aliases that it declares, where each name means the declaration that it denotes
+abbrev pub written_in : PackageIn → List Entry
+written_in p = all_entries p.shows p.path p.blocks (outlines_in p)
 
 -- what is known of it, where these are its types and those of the packages that it reaches
 abbrev pub scene_in : PackageIn → List Entry → SceneModel
-scene_in p types = record { path = p.path; blocks = p.blocks; types = types; others = p.others; written = package_written p.shows p.path p.blocks types (outlines_in p) }
+scene_in p types = record { path = p.path; blocks = p.blocks; types = types; others = p.others; written = package_written (shows_in p) p.path p.blocks types (outlines_in p) }
 
 -- where the file of a number, from 0, is checked, and its outline, where this is known of the package's declarations
 abbrev pub stand_in : PackageIn → List Entry → List (Option TheFace) → ℕ → FileOutline → FileStand
-stand_in p types known n o = record { scene = scene_in p types; known = known; file = file_at p.path n o; top = file_meaning p.shows p.path p.blocks n }
+stand_in p types known n o = record { scene = scene_in p types; known = known; file = file_at p.path n o; top = file_meaning (shows_in p) p.path p.blocks n }

@@ -1,18 +1,24 @@
 -- The types of a package, with their faults.
 --
--- docs/RULES.md, "Types". The Go specification, "Type declarations", "Underlying types".
+-- docs/RULES.md, "Types". The Go specification, "Type declarations", "Alias declarations", "Underlying types".
 use Rattle.std.specs.Prelude.{◌≡◌, ◌++◌, List}
+use Rattle.go_term_core.specs.decl_core.declared.keys.DeclRef.{DeclRef}
 use Rattle.go_known_core.specs.table_core.Entries.{Entry, find_entry}
 use Rattle.go_used_core.specs.type_core.declared.build.TypeFault.{TypeFault}
 use Rattle.go_used_core.specs.type_core.Built.{IsBuilt}
 use Rattle.go_known_core.specs.entry_core.Entries.{package_meanings}
+use Rattle.go_known_core.specs.entry_core.Meanings.{declared_alone}
+use Rattle.go_used_core.specs.alias_core.Laws.{AreLoopedAliases}
 use Rattle.go_used_core.specs.fault_core.declared.places.PackageFault.{PackageFault}
 use Rattle.go_used_core.specs.fault_core.TypeFaults.{faults_of_types}
-use Rattle.go_ready_core.specs.Packages.{PackageIn, outlines_in, entries_in}
+use Rattle.go_ready_core.specs.Packages.{PackageIn, entries_in, outlines_in, shows_in, targets_in, written_in}
 
 -- what the types of a package are over those of the packages that it reaches, and the faults of their declarations
 pub record AreTypes (p : PackageIn) (far own : List Entry) (faults : List PackageFault) : Type 0 where
   -- those that reach themselves
   pub loops : List TypeFault
   pub built : IsBuilt (find_entry far) (entries_in p) own loops
-  pub faults_are : faults ≡ faults_of_types (far ++ own) (package_meanings p.shows p.path p.blocks) p.path (outlines_in p) (entries_in p) loops
+  -- and the aliases that do, by what is written
+  pub looped : List DeclRef
+  pub looped_are : AreLoopedAliases (written_in p) (targets_in p) looped
+  pub faults_are : faults ≡ faults_of_types (far ++ own) (package_meanings (declared_alone p.shows) p.path p.blocks) (package_meanings (shows_in p) p.path p.blocks) p.path (outlines_in p) (entries_in p) looped loops

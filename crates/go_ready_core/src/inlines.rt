@@ -6,7 +6,7 @@ ghost use Rattle.go_local_core.specs.Tables.{IsFuncPlaced};
 ghost use Rattle.go_known_core.specs.entry_core.Outlines.{outline_shown};
 ghost use Rattle.go_known_core.specs.inline_core.Functions as functions;
 ghost use Rattle.go_ready_core.specs.Inlines.{AreOutlinedTypes, AreFunctionsIn, IsPlacedOutline, form_funcs, initial_in, initial_types, outline_funcs};
-ghost use Rattle.go_ready_core.specs.Packages.{outlines_in, package_in_shown, stand_in};
+ghost use Rattle.go_ready_core.specs.Packages.{outlines_in, package_in_shown, shows_in, stand_in};
 ghost use Rattle.go_ready_core.specs.mirrors.Adding.{Adds};
 
 use crate::package_at::PackageAt;
@@ -18,21 +18,23 @@ use go_used_core::type_core::TypeTable;
 use std::alloc::{AllocError, Global};
 
 // The types in the initialisers of a file.
-fn file_initial<P: ImportedNames>(
+fn file_initial<P: ImportedNames, N: ImportedNames>(
     alloc: Global,
     at: &PackageAt<'_, P>,
+    names: &N,
     types: &TypeTable,
     file: usize,
     outline: &Outline<'_>,
 ) -> Result<InlineTypes, AllocError>
-    requires { IsPlacedOutline (outline_shown outline.now) }
+    requires names { N.shows names.now ≡ shows_in (package_in_shown P.shows at.now) }
+    requires placed { IsPlacedOutline (outline_shown outline.now) }
     ensures { IfOk result (λ written. written ≡ initial_types (stand_in (package_in_shown P.shows at.now) types.now [] file (outline_shown outline.now)) (outline_shown outline.now)) }
 {
     let ground = Ground {
         path: at.package.path(),
         blocks: at.blocks,
         file,
-        imported: at.shown,
+        imported: names,
         places: &outline.places,
         types,
     };
@@ -40,26 +42,32 @@ fn file_initial<P: ImportedNames>(
 }
 
 /// The types that each file of a package writes in the specifications of constants and variables outside functions, in order of name.
-/// `outlines` are those of the package's files, and `types` has the types of the package and of those that it reaches.
+/// `names` says what names of types lead to in the package, `outlines` are those of its files, and `types` has the types of the package and of
+/// those that it reaches.
 ///
 /// The Go specification, "Constant declarations", "Variable declarations", "Composite literals".
 ///
 /// # Errors
 ///
 /// `AllocError` where memory is wanting.
-pub fn package_initial<P: ImportedNames>(
+pub fn package_initial<P: ImportedNames, N: ImportedNames>(
     alloc: Global,
     at: &PackageAt<'_, P>,
+    names: &N,
     outlines: &[Outline<'_>],
     types: &TypeTable,
 ) -> Result<Vec<InlineTypes>, AllocError>
+    requires names { N.shows names.now ≡ shows_in (package_in_shown P.shows at.now) }
     requires outlines { map outline_shown outlines.now ≡ outlines_in (package_in_shown P.shows at.now) }
     requires placed { AllByRecursion IsPlacedOutline (map outline_shown outlines.now) }
     ensures { IfOk result (λ written. written.items ≡ initial_in (package_in_shown P.shows at.now) types.now) }
 {
     let mut written = Vec::new(alloc);
     for (file, outline) in outlines.iter().enumerate() {
-        add(&mut written, file_initial(alloc, at, types, file, outline)?)?;
+        add(
+            &mut written,
+            file_initial(alloc, at, names, types, file, outline)?,
+        )?;
     }
     Ok(written)
 }
@@ -98,21 +106,23 @@ fn decl_functions<P: ImportedNames>(
 }
 
 // The types of the functions of a file.
-fn file_functions<P: ImportedNames>(
+fn file_functions<P: ImportedNames, N: ImportedNames>(
     alloc: Global,
     at: &PackageAt<'_, P>,
+    names: &N,
     types: &TypeTable,
     file: usize,
     outline: &Outline<'_>,
 ) -> Result<Vec<InlineTypes>, AllocError>
-    requires { IsPlacedOutline (outline_shown outline.now) }
+    requires names { N.shows names.now ≡ shows_in (package_in_shown P.shows at.now) }
+    requires placed { IsPlacedOutline (outline_shown outline.now) }
     ensures { IfOk result (λ written. AreOutlinedTypes (stand_in (package_in_shown P.shows at.now) types.now [] file (outline_shown outline.now)) (outline_shown outline.now) written.items) }
 {
     let ground = Ground {
         path: at.package.path(),
         blocks: at.blocks,
         file,
-        imported: at.shown,
+        imported: names,
         places: &outline.places,
         types,
     };
@@ -120,19 +130,22 @@ fn file_functions<P: ImportedNames>(
 }
 
 /// The types that each file of a package writes in each of its functions: the files in order of name, the functions of each in order of place.
-/// `outlines` are those of the package's files, and `types` has the types of the package and of those that it reaches.
+/// `names` says what names of types lead to in the package, `outlines` are those of its files, and `types` has the types of the package and of
+/// those that it reaches.
 ///
 /// The Go specification, "Types", "Declarations and scope", "Composite literals".
 ///
 /// # Errors
 ///
 /// `AllocError` where memory is wanting.
-pub fn package_functions<P: ImportedNames>(
+pub fn package_functions<P: ImportedNames, N: ImportedNames>(
     alloc: Global,
     at: &PackageAt<'_, P>,
+    names: &N,
     outlines: &[Outline<'_>],
     types: &TypeTable,
 ) -> Result<Vec<Vec<InlineTypes>>, AllocError>
+    requires names { N.shows names.now ≡ shows_in (package_in_shown P.shows at.now) }
     requires outlines { map outline_shown outlines.now ≡ outlines_in (package_in_shown P.shows at.now) }
     requires placed { AllByRecursion IsPlacedOutline (map outline_shown outlines.now) }
     ensures { IfOk result (λ written. AreFunctionsIn (package_in_shown P.shows at.now) types.now (map (λ of_file. of_file.items) written.items)) }
@@ -141,7 +154,7 @@ pub fn package_functions<P: ImportedNames>(
     for (file, outline) in outlines.iter().enumerate() {
         add(
             &mut written,
-            file_functions(alloc, at, types, file, outline)?,
+            file_functions(alloc, at, names, types, file, outline)?,
         )?;
     }
     Ok(written)

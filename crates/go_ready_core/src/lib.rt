@@ -4,17 +4,24 @@
 //! The Go specification, "Declarations and scope", "Types", "Package initialization".
 #![tactic(auto)]
 
+mod aliases;
 mod inlines;
 mod laws;
 mod package_at;
 mod ready;
 mod types;
 
+pub use aliases::package_aliases;
 pub use inlines::{package_functions, package_initial};
-pub use laws::{declarations_have_one_table, values_are_as_written};
+pub use laws::{declarations_have_one_table, loops_are_faults, values_are_as_written};
 pub use package_at::{PackageAt, package_outlines};
 pub use ready::{Ready, make_ready};
 pub use types::{OwnTypes, package_types};
+
+/// What the crates above name of `go_alias_core`.
+pub mod alias_core {
+    pub use go_used_core::alias_core::Aliases;
+}
 
 /// What the crates above name of `go_alike_core`.
 pub mod alike_core {
@@ -60,7 +67,9 @@ pub mod env_core {
 
 /// What the crates above name of `go_face_core`.
 pub mod face_core {
-    pub use go_used_core::face_core::{Face, FaceTable, PackageFaces, WrittenFaces, lend};
+    pub use go_used_core::face_core::{
+        Face, FaceTable, PackageFaces, TypesHere, WrittenFaces, lend,
+    };
 }
 
 /// What the crates above name of `go_fault_core`.

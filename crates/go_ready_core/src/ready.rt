@@ -3,7 +3,7 @@ ghost use Rattle.std.specs.Prelude.{◌≡◌, IfOk, map};
 ghost use Rattle.std.specs.List.{AllByRecursion};
 ghost use Rattle.go_known_core.specs.entry_core.Outlines.{outline_shown};
 ghost use Rattle.go_ready_core.specs.Inlines.{AreFunctionsIn, IsPlacedOutline, initial_in};
-ghost use Rattle.go_ready_core.specs.Packages.{outlines_in, package_in_shown, scene_in};
+ghost use Rattle.go_ready_core.specs.Packages.{outlines_in, package_in_shown, scene_in, shows_in};
 
 use crate::inlines::{package_functions, package_initial};
 use crate::package_at::PackageAt;
@@ -38,20 +38,22 @@ impl Drop for Ready {
     }
 }
 
-/// Makes what is to be known of a package before its files are checked. `outlines` are those of its files, in order of name, and `types` has
-/// the types of the package and of those that it reaches.
+/// Makes what is to be known of a package before its files are checked. `names` says what names of types lead to in it, `outlines` are those of
+/// its files, in order of name, and `types` has the types of the package and of those that it reaches.
 ///
 /// The Go specification, "Declarations and scope", "Types".
 ///
 /// # Errors
 ///
 /// `AllocError` where memory is wanting.
-pub fn make_ready<P: ImportedNames>(
+pub fn make_ready<P: ImportedNames, N: ImportedNames>(
     alloc: Global,
     at: &PackageAt<'_, P>,
+    names: &N,
     outlines: &[Outline<'_>],
     types: &TypeTable,
 ) -> Result<Ready, AllocError>
+    requires names { N.shows names.now ≡ shows_in (package_in_shown P.shows at.now) }
     requires outlines { map outline_shown outlines.now ≡ outlines_in (package_in_shown P.shows at.now) }
     requires placed { AllByRecursion IsPlacedOutline (map outline_shown outlines.now) }
     ensures home { IfOk result (λ ready. ready.home ≡ (package_in_shown P.shows at.now).path) }
@@ -60,9 +62,9 @@ pub fn make_ready<P: ImportedNames>(
     ensures functions { IfOk result (λ ready. AreFunctionsIn (package_in_shown P.shows at.now) types.now (map (λ of_file. of_file.items) ready.functions.items)) }
 {
     let path = at.package.path();
-    let initial = package_initial(alloc, at, outlines, types)?;
-    let functions = package_functions(alloc, at, outlines, types)?;
-    let written = written_faces(alloc, path, at.blocks, at.shown, types, outlines)?;
+    let initial = package_initial(alloc, at, names, outlines, types)?;
+    let functions = package_functions(alloc, at, names, outlines, types)?;
+    let written = written_faces(alloc, path, at.blocks, names, types, outlines)?;
     Ok(Ready {
         home: Home::new(alloc, path.share()?)?,
         written,

@@ -13,7 +13,7 @@ use Rattle.go_tree_nodes.specs.declared.files.ImportName.{ImportName}
 use Rattle.go_tree_nodes.specs.declared.files.ImportName.TheVariants as import_name
 use Rattle.go_tree_nodes.specs.declared.files.Receiver.{Receiver}
 use Rattle.go_tree_nodes.specs.declared.types.TypeName.{TypeName}
-use Rattle.go_tree_nodes.specs.Rules.{Wf, Wf_exprs, Wf_values, Wf_value_spec, Wf_group, Wf_specs, Wf_simple, Wf_some_simple, Wf_some_expr, Wf_init, Wf_if, Wf_for, Wf_some_exprs, Wf_stmt, Wf_branch, Wf_else, Wf_lines, Wf_decl, Wf_tops, Wf_imports, Wf_file, Wf_type}
+use Rattle.go_tree_nodes.specs.Rules.{Wf, Wf_exprs, Wf_values, Wf_value_spec, Wf_group, Wf_specs, Wf_simple, Wf_some_simple, Wf_some_expr, Wf_init, Wf_if, Wf_for, Wf_some_exprs, Wf_stmt, Wf_branch, Wf_else, Wf_lines, Wf_decl, Wf_tops, Wf_imports, Wf_file, Wf_type_spec}
 use Rattle.go_tree_nodes.specs.Terminals.{Terminal, TerminalKind, Spelled, Number, Quoted, Word, Mark, Stray, InOrder, least_width}
 use Rattle.go_tree_nodes.specs.Spelling.{mark, spell_ident, spell_some, spell, spell_exprs, spell_some_type, spell_values, spell_value_spec, spell_specs_of, spell_specs, spell_type_spec, spell_simple, spell_some_simple, spell_some_expr, spell_init, spell_if, spell_for, spell_some_exprs, spell_stmt, spell_branch, spell_else, spell_lines, spell_receiver_name, spell_receiver, spell_func, spell_decl, spell_tops, spell_import_name, spell_import, spell_imports, spell_file, IsPlaced, word}
 use Rattle.go_tree_nodes.specs.Trees as tree
@@ -324,11 +324,12 @@ module _ (start : ℕ) (name : List ℕ) (named : is_blank name ≡ false) where
     AtType : {t : TypeSpecTree} {u : TypeTree} → OfType start name o t.type_expr u → OfTypeSpec o t (type_spec_of t u)
 
   abbrev IsFine : TypeSpecTree → Type 0
-  IsFine t = Wf_type t.type_expr
+  IsFine t = Wf_type_spec t
 
   type_spec_anew : (t : TypeSpecTree) → IsFine t → Anew start name OfTypeSpec (spell_type_spec t) (type_spec_occs t) t (type_spec_with r t)
   type_spec_anew t w =
-      pair start name {P = Never} {Q = OfType start name} {R = OfTypeSpec} {ts = spell_ident t.name ∷ []} {os = []} {a = t.name} {b = t.type_expr} (λ y u. record t { name = y; type_expr = u }) (λ o x y b k. absurd k) (λ o a x y k. AtType {t = record t { name = a; type_expr = x }} k) (declared start name t.name) (type_anew start name t.type_expr)
+      pair start name {P = Never} {Q = OfType start name} {R = OfTypeSpec} {ts = spell_ident t.name ∷ []} {os = []} {a = t.name} {b = t.type_expr} (λ y u. record t { name = y; type_expr = u }) (λ o x y b k. absurd k) (λ o a x y k. AtType {t = record t { name = a; type_expr = x }} k) (declared start name t.name)
+      (behind start name _ (some_quiet start name operator.Assign t.alias) (type_anew start name t.type_expr))
 
   abbrev OfTypeSpecs : Occ → Specs TypeSpecTree → Specs TypeSpecTree → Type 0
   OfTypeSpecs o vs ws = OfSpecs spell_type_spec type_spec_occs (type_spec_with r) OfTypeSpec IsFine type_spec_anew o vs ws

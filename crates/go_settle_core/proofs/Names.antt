@@ -1,10 +1,12 @@
 -- Names among others.
 use Rattle.std.proofs.Common.{◌≡◌, ℕ, Bool, true, false, not, ◌&&◌, ◌||◌, List, [], ◌∷◌, ◌++◌, map, if◌then◌else◌, refl, sym, ap, ◌∙◌, subst}
 use Rattle.std.specs.Borrow.{Bor}
-use Rattle.std.specs.HashSet.{HashSet, Updates}
+use Rattle.std.specs.BTreeSet.{BTreeSet, Updates}
+use Rattle.std.specs.Cmp.Lexicographic.{slice_cmp}
 use Rattle.std.specs.List.{list_any}
-use Rattle.std.proofs.lemmas.List.{map-append}
+use Rattle.std.specs.Ordering.{is_eq, nat_cmp}
 use Rattle.std.specs.Str.{bytes_eq}
+use Rattle.std.proofs.lemmas.Map.Text.{is_eq-slice_cmp}
 use Rattle.std.proofs.lemmas.Slice.Eq.{bytes_eq-Decides}
 use Rattle.go_term_core.specs.text_core.Text.{is_blank}
 use Rattle.go_settle_core.specs.Settled.{is_among_names, repeats_earlier}
@@ -75,29 +77,23 @@ has_last xs y n = has_append xs (y ∷ []) n ∙ by (is_among_names xs n) (bytes
     by false true = refl
     by false false = refl
 
--- names behind references
-pub any_named : (name : List ℕ) (xs : List (Bor (List ℕ))) → list_any (λ x. bytes_eq name x.now) xs ≡ is_among_names (map (λ x. x.now) xs) name
+-- names behind references, in the order of their bytes
+pub any_named : (name : List ℕ) (xs : List (Bor (List ℕ))) → list_any (λ x. is_eq (slice_cmp nat_cmp name x.now)) xs ≡ is_among_names (map (λ x. x.now) xs) name
 any_named name [] = refl
-any_named name (x ∷ xs) = ap (λ b. b || list_any (λ x. bytes_eq name x.now) xs) (bytes_turned name x.now) ∙ by (bytes_eq x.now name) (any_named name xs)
+any_named name (x ∷ xs) =
+    ap (λ b. b || list_any (λ y. is_eq (slice_cmp nat_cmp name y.now)) xs) (is_eq-slice_cmp name x.now ∙ bytes_turned name x.now) ∙ by (bytes_eq x.now name) (any_named name xs)
   where
-    by : (b : Bool) → list_any (λ x. bytes_eq name x.now) xs ≡ is_among_names (map (λ x. x.now) xs) name → (b || list_any (λ x. bytes_eq name x.now) xs) ≡ (if b then true else is_among_names (map (λ x. x.now) xs) name)
+    by : (b : Bool) → list_any (λ y. is_eq (slice_cmp nat_cmp name y.now)) xs ≡ is_among_names (map (λ y. y.now) xs) name
+        → (b || list_any (λ y. is_eq (slice_cmp nat_cmp name y.now)) xs) ≡ (if b then true else is_among_names (map (λ y. y.now) xs) name)
     by true rest = refl
     by false rest = rest
 
--- a list of them with one more behind
-pub inserted : (xs ys : List (Bor (List ℕ))) (x : Bor (List ℕ)) → ys ≡ (if list_any (λ y. bytes_eq x.now y.now) xs then xs else xs ++ x ∷ []) → SameNames (map (λ y. y.now) ys) (x.now ∷ map (λ y. y.now) xs)
-inserted xs ys x is n =
-    ap (λ l. is_among_names (map (λ y. y.now) l) n) is ∙ by (list_any (λ y. bytes_eq x.now y.now) xs) (any_named x.now xs)
-  where
-    by : (b : Bool) → b ≡ is_among_names (map (λ y. y.now) xs) x.now → is_among_names (map (λ y. y.now) (if b then xs else xs ++ x ∷ [])) n ≡ is_among_names (x.now ∷ map (λ y. y.now) xs) n
-    by true h = sym (seen_again x.now (map (λ y. y.now) xs) (sym h) n)
-    by false h = ap (λ l. is_among_names l n) (map-append (λ y. y.now) xs (x ∷ [])) ∙ has_last (map (λ y. y.now) xs) x.now n
-
 -- a set of them with one more
-pub put_among : {S : Type 0} (old new : HashSet (Bor (List ℕ)) S) (x : Bor (List ℕ)) → Updates (λ y z. bytes_eq y.now z.now) old new x true → SameNames (map (λ y. y.now) new.keys) (x.now ∷ map (λ y. y.now) old.keys)
+pub put_among : (old new : BTreeSet (Bor (List ℕ))) (x : Bor (List ℕ)) → Updates (λ y z. slice_cmp nat_cmp y.now z.now) old new x true → SameNames (map (λ y. y.now) new.keys) (x.now ∷ map (λ y. y.now) old.keys)
 put_among old new x put n =
     sym (any_named n new.keys)
-    ∙ (put.0 (record { ref_ptr = (0, 0); now = n }) ∙ ap (λ b. if bytes_eq x.now n then true else b) (any_named n old.keys))
+    ∙ (put.0 (record { ref_ptr = (0, 0); now = n })
+    ∙ (ap (λ b. if b then true else list_any (λ y. is_eq (slice_cmp nat_cmp n y.now)) old.keys) (is_eq-slice_cmp x.now n) ∙ ap (λ b. if bytes_eq x.now n then true else b) (any_named n old.keys)))
 
 -- two lists of names, of which the first has the name
 pub among_few : (xs ys : List (List ℕ)) (n : List ℕ) → is_among_names xs n ≡ true → is_among_names (xs ++ ys) n ≡ true

@@ -3,18 +3,18 @@ ghost use Rattle.std.specs.Prelude.{◌≡◌, ℕ, List, [], ◌∷◌, ◌++�
 ghost use Rattle.go_settle_core.specs.Settled.{is_among_names};
 
 use std::alloc::{AllocError, Global};
-use std::collections::HashSet;
+use std::collections::BTreeSet;
 use std::marker::Model;
 
 /// How many names are searched one by one.
 const FEW: usize = 8;
 
 /// A set of names. Contracts see a list that has them, and promise of it which names it has. The first few are searched one by one, the
-/// others by their hash.
+/// others by their order.
 #[derive(Drop)]
 pub struct SeenNames<'a> {
     few: Vec<&'a str>,
-    more: HashSet<&'a str>,
+    more: BTreeSet<&'a str>,
 }
 
 impl<'a> Model for SeenNames<'a> {
@@ -38,7 +38,7 @@ fn is_among(names: &[&str], name: &str) -> bool
 }
 
 // Adds a name to a set, unless it is there, and answers whether it was not.
-fn insert<'a>(names: &mut HashSet<&'a str>, name: &'a str) -> Result<bool, AllocError>
+fn insert<'a>(names: &mut BTreeSet<&'a str>, name: &'a str) -> Result<bool, AllocError>
     ensures added { IfOk result (λ is_new. is_new ≡ not (is_among_names (map (λ n. n.now) names.old.keys) name.now)) }
     ensures seen { OnOk result ((n : List ℕ) → is_among_names (map (λ n. n.now) names.new.keys) n ≡ is_among_names (name.now ∷ map (λ n. n.now) names.old.keys) n) }
 {
@@ -63,11 +63,11 @@ impl<'a> SeenNames<'a> {
     {
         SeenNames {
             few: Vec::new(alloc),
-            more: HashSet::new(alloc),
+            more: BTreeSet::new(alloc),
         }
     }
 
-    /// Adds a name, unless it is there, and answers whether it was not. It takes constant expected time for a name.
+    /// Adds a name, unless it is there, and answers whether it was not. Time grows with the logarithm of how many there are.
     pub fn add(&mut self, name: &'a str) -> Result<bool, AllocError>
         ensures added { IfOk result (λ is_new. is_new ≡ not (is_among_names self.old name.now)) }
         ensures seen { OnOk result ((n : List ℕ) → is_among_names self.new n ≡ is_among_names (name.now ∷ self.old) n) }

@@ -4,6 +4,7 @@ pub mod mirrors
 pub mod SnapshotCodes
 pub mod Snapshots
 pub mod Staying
+pub mod alias_core
 pub mod locality_core
 pub mod answer_core
 pub mod block_core

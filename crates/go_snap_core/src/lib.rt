@@ -36,7 +36,7 @@ pub mod emit_core {
 
 /// What the crates above name of `go_face_core`.
 pub mod face_core {
-    pub use go_make_core::face_core::Face;
+    pub use go_make_core::face_core::{Face, TypesHere};
 }
 
 /// What the crates above name of `go_graph_core`.
@@ -69,7 +69,7 @@ pub mod part_core {
 
 /// What the crates above name of `go_ready_core`.
 pub mod ready_core {
-    pub use go_make_core::ready_core::{PackageAt, package_outlines};
+    pub use go_make_core::ready_core::{PackageAt, package_aliases, package_outlines};
 }
 
 /// What the crates above name of `go_table_core`.

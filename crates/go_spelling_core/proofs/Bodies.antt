@@ -15,8 +15,9 @@ use Rattle.go_snap_core.specs.table_core.Entries.{Entry}
 use Rattle.go_snap_core.specs.face_core.Faces.{TheFace}
 use Rattle.go_snap_core.specs.face_core.Written.{WrittenOf, written_of, file_written, package_written}
 use Rattle.go_snap_core.specs.func_core.Stands.{FileStand}
-use Rattle.go_snap_core.specs.ready_core.Packages.{PackageIn, stand_in}
+use Rattle.go_snap_core.specs.ready_core.Packages.{PackageIn, shows_in, stand_in}
 use Rattle.go_spelling_core.specs.Files.{WritesBody, InFunc, BehindTop, with_decls, with_trees}
+use Rattle.go_spelling_core.proofs.Names.{names_other}
 
 module _ (f : FuncTree) (body : Lines) where
   -- the identifiers that it declares outside bodies
@@ -57,12 +58,12 @@ module _ (f : FuncTree) (body : Lines) where
 
   -- where it is checked
 
-  abbrev stand_by : PackageIn → List Entry → List WrittenOf → List (Option TheFace) → ℕ → List Place → FileStand
-  stand_by p types written known n places = record {
+  abbrev stand_by : PackageIn → Shows → List Entry → List WrittenOf → List (Option TheFace) → ℕ → List Place → FileStand
+  stand_by p shows types written known n places = record {
     scene = record { path = p.path; blocks = p.blocks; types = types; others = p.others; written = written };
     known = known;
     file = record { path = p.path; file = n; places = places };
-    top = file_meaning p.shows p.path p.blocks n;
+    top = file_meaning shows p.path p.blocks n;
   }
 
   pub stands_same : (p q : PackageIn) (types others : List Entry) (known known' : List (Option TheFace)) (n : ℕ) (front back : List FileTree) (g : FileTree) (ds : List TopTree) → WritesBody f body g.decls ds
@@ -70,11 +71,15 @@ module _ (f : FuncTree) (body : Lines) where
       → stand_in q others known' n (outline_of (with_decls g ds)) ≡ stand_in p types known n (outline_of g)
   stands_same p q types others known known' n front back g ds r before after same_types same_known =
       let new = with_decls g ds in
-      let write : List Entry → List FileTree → List WrittenOf = λ es fs. package_written p.shows p.path p.blocks es (map outline_of fs) in
-      let news = front ++ new ∷ back in
+      let news : List FileTree = front ++ new ∷ back in
+      let names : List FileTree → Shows = λ fs. shows_in (with_trees p fs) in
+      let write : Shows → List Entry → List FileTree → List WrittenOf = λ shows es fs. package_written shows p.path p.blocks es (map outline_of fs) in
+      let stand : Shows → List Entry → List FileTree → List (Option TheFace) → List Place → FileStand = λ shows es fs ks ps. stand_by p shows es (write shows es fs) ks n ps in
+      let old = names (front ++ g ∷ back) in
       ap (λ (k : PackageIn). stand_in k others known' n (outline_of new)) after
-      ∙ (ap (λ es. stand_by p es (write es news) known' n (places_of new)) (sym same_types)
-      ∙ (ap (λ ks. stand_by p types (write types news) ks n (places_of new)) (sym same_known)
-      ∙ (ap (stand_by p types (write types news) known n) (sym (places_same g ds r))
-      ∙ (ap (λ ws. stand_by p types ws known n (places_of g)) (sym (files_same p.shows p.path p.blocks types 0 front back g ds r))
-      ∙ ap (λ fs. stand_by p types (write types fs) known n (places_of g)) (sym before)))))
+      ∙ (ap (λ (k : Shows). stand k others news known' (places_of new)) (sym (names_other p front back g ds f body r))
+      ∙ (ap (λ es. stand old es news known' (places_of new)) (sym same_types)
+      ∙ (ap (λ ks. stand old types news ks (places_of new)) (sym same_known)
+      ∙ (ap (stand old types news known) (sym (places_same g ds r))
+      ∙ (ap (λ ws. stand_by p old types ws known n (places_of g)) (sym (files_same old p.path p.blocks types 0 front back g ds r))
+      ∙ ap (λ fs. stand (names fs) types fs known (places_of g)) (sym before))))))

@@ -1,6 +1,6 @@
 -- A package in which one identifier of an initialiser is spelled anew, or which has another body of a function, has the types that it had.
-use Rattle.std.proofs.Common.{◌≡◌, ◌⊎◌, ℕ, inl, inr, List, [], ◌∷◌, ◌++◌, map, refl, sym, ap, subst, ◌∙◌}
-use Rattle.std.specs.List.{flat_map, enumerate_from}
+use Rattle.std.proofs.Common.{◌≡◌, ℕ, inl, inr, List, ◌∷◌, ◌++◌, sym, ap, subst, ◌∙◌}
+use Rattle.std.specs.List.{enumerate_from}
 use Rattle.go_tree_nodes.specs.declared.names.Ident.{Ident}
 use Rattle.go_tree_nodes.specs.Trees.{ValueSpecTree, FuncTree, Lines, FileTree}
 use Rattle.go_term_core.specs.decl_core.declared.places.Place.{Place}
@@ -10,30 +10,19 @@ use Rattle.go_snap_core.specs.fault_core.declared.places.PackageFault.{PackageFa
 use Rattle.go_snap_core.specs.type_core.Built.{IsBuilt}
 use Rattle.go_snap_core.specs.type_core.Meanings.{one_settled}
 use Rattle.go_snap_core.specs.written_core.Written.{InFile}
-use Rattle.go_snap_core.specs.entry_core.Entries.{Received, Meanings, file_at, decl_methods, package_methods, entry_of, entries_with, package_meanings}
+use Rattle.go_snap_core.specs.entry_core.Entries.{Received, Meanings, file_at, decl_methods, package_methods, entry_of, entries_with, package_meanings, declared_entries}
+use Rattle.go_snap_core.specs.entry_core.Meanings.{Shows}
 use Rattle.go_snap_core.specs.entry_core.Outlines.{FileOutline}
-use Rattle.go_snap_core.specs.entry_core.Numbered.{flat_map-append}
-use Rattle.go_snap_core.specs.face_core.Laws.{FileDecl, file_decl, package_decls}
-use Rattle.go_snap_core.specs.ready_core.Packages.{PackageIn, outlines_in, entries_in}
+use Rattle.go_snap_core.specs.face_core.Laws.{FileDecl, package_decls}
+use Rattle.go_snap_core.specs.ready_core.Packages.{PackageIn, outlines_in, shows_in, entries_in}
 use Rattle.go_snap_core.specs.ready_core.Types.{AreTypes}
 use Rattle.go_snap_core.specs.ready_core.Values.{decls_in}
 use Rattle.go_spelling_core.specs.Files.{with_decls, with_trees}
 use Rattle.go_spelling_core.specs.Packages.{TypesStay}
-use Rattle.go_spelling_core.proofs.FileBodies.{IsOther, AllOther, files_other}
-use Rattle.go_spelling_core.proofs.FileListed.{IsAnew, IsPlacedAnew, AllAnew, package_anew}
-
--- what the declarations of files give, by the list of all of them
-
-each_of : {A : Type 0} (give : FileDecl → List A) (n : ℕ) (o : FileOutline) (ds : List TopDeclTree) → flat_map give (map (file_decl n o) ds) ≡ flat_map (λ d. give (file_decl n o d)) ds
-each_of give n o [] = refl
-each_of give n o (d ∷ ds) = ap (λ l. give (file_decl n o d) ++ l) (each_of give n o ds)
-
-of_files : {A : Type 0} (give : FileDecl → List A) (os : List (ℕ × FileOutline)) → flat_map give (flat_map (λ p. map (file_decl p.0 p.1) p.1.decls) os) ≡ flat_map (λ p. flat_map (λ d. give (file_decl p.0 p.1 d)) p.1.decls) os
-of_files give [] = refl
-of_files give (p ∷ os) =
-    flat_map-append give (map (file_decl p.0 p.1) p.1.decls) (flat_map (λ p. map (file_decl p.0 p.1) p.1.decls) os)
-    ∙ (ap (λ l. l ++ flat_map give (flat_map (λ p. map (file_decl p.0 p.1) p.1.decls) os)) (each_of give p.0 p.1 p.1.decls)
-    ∙ ap (λ l. flat_map (λ d. give (file_decl p.0 p.1 d)) p.1.decls ++ l) (of_files give os))
+use Rattle.go_spelling_core.proofs.BodyListed.{IsOther, AllOther, files_other}
+use Rattle.go_spelling_core.proofs.FileListed.{IsAnew, AllAnew, package_anew}
+use Rattle.go_spelling_core.proofs.Given.{of_files, AllGive, all_anew, all_other}
+use Rattle.go_spelling_core.proofs.Names.{anew_names, other_names}
 
 module _ (means : Meanings) (path : List ℕ) where
   -- by the number of the file, the places of what it declares, and the declaration
@@ -46,44 +35,12 @@ module _ (means : Meanings) (path : List ℕ) where
   abbrev entries_of : List Received → FileDecl → List Entry
   entries_of rs d = entry_of (means d.file) (file_at path d.file d.outline) rs d.decl d.decl.form
 
-  -- a rule of what declarations give is the same of all
-  abbrev AllGive : {A : Type 0} → (FileDecl → List A) → List FileDecl → List FileDecl → Type 0
-  AllGive give ds es = flat_map give ds ≡ flat_map give es
-
   entries_are : (ds es : List FileOutline) → AllGive methods_of (package_decls ds) (package_decls es) → ((rs : List Received) → AllGive (entries_of rs) (package_decls ds) (package_decls es))
       → entries_with means path (package_methods means path ds) ds ≡ entries_with means path (package_methods means path es) es
   entries_are ds es methods entries =
       let same : package_methods means path ds ≡ package_methods means path es = sym (of_files methods_of (enumerate_from 0 ds)) ∙ (methods ∙ of_files methods_of (enumerate_from 0 es)) in
       ap (λ rs. entries_with means path rs ds) same
       ∙ (sym (of_files (entries_of (package_methods means path es)) (enumerate_from 0 ds)) ∙ (entries (package_methods means path es) ∙ of_files (entries_of (package_methods means path es)) (enumerate_from 0 es)))
-
-  -- one declaration
-
-  module _ {A : Type 0} (give : ℕ → List Place → TopDeclTree → List A) where
-    abbrev given : FileDecl → List A
-    given d = give d.file d.outline.places d.decl
-
-    by_place : (d e : FileDecl) → d.file ≡ e.file → d.outline.places ≡ e.outline.places → given d ≡ give e.file e.outline.places d.decl
-    by_place d e files places = ap (λ k. give k d.outline.places d.decl) files ∙ ap (λ ps. give e.file ps d.decl) places
-
-    module _ (n : ℕ) (v w : ValueSpecTree) (none : (file : ℕ) (places : List Place) (d e : TopDeclTree) → IsAnew v w d e → give file places d ≡ give file places e) where
-      one_anew : (d e : FileDecl) → IsPlacedAnew n v w d e → ((d.decl ≡ e.decl) ⊎ ((d.file ≡ n) × IsAnew v w d.decl e.decl)) → given d ≡ given e
-      one_anew d e h (inl same) = by_place d e h.files h.places ∙ ap (give e.file e.outline.places) same
-      one_anew d e h (inr anew) = by_place d e h.files h.places ∙ none e.file e.outline.places d.decl e.decl anew.1
-
-      all_anew : (ds es : List FileDecl) → AllAnew n v w ds es → AllGive given ds es
-      all_anew [] [] h = refl
-      all_anew [] (e ∷ es) h = elim h [ ]
-      all_anew (d ∷ ds) [] h = elim h [ ]
-      all_anew (d ∷ ds) (e ∷ es) h = ap (λ l. l ++ flat_map given ds) (one_anew d e h.0 h.0.decls) ∙ ap (λ l. given e ++ l) (all_anew ds es h.1)
-
-    module _ (f : FuncTree) (body : Lines) (other : (file : ℕ) (places : List Place) (d e : TopDeclTree) → IsOther f body d e → give file places d ≡ give file places e) where
-      all_other : (ds es : List FileDecl) → AllOther f body ds es → AllGive given ds es
-      all_other [] [] h = refl
-      all_other [] (e ∷ es) h = elim h [ ]
-      all_other (d ∷ ds) [] h = elim h [ ]
-      all_other (d ∷ ds) (e ∷ es) h =
-          ap (λ l. l ++ flat_map given ds) (by_place d e h.0.files h.0.places ∙ other e.file e.outline.places d.decl e.decl h.0.decls) ∙ ap (λ l. given e ++ l) (all_other ds es h.1)
 
   -- methods and types
 
@@ -126,20 +83,26 @@ module _ (p : PackageIn) (front back : List FileTree) (g h : FileTree) where
   abbrev new : PackageIn
   new = with_trees p (front ++ h ∷ back)
 
+  -- by what names mean in the first
   abbrev means : Meanings
-  means = package_meanings p.shows p.path p.blocks
+  means = package_meanings (shows_in old) p.path p.blocks
+
+  with_names : shows_in old ≡ shows_in new → declared_entries (shows_in old) p.path p.blocks (outlines_in new) ≡ entries_in new
+  with_names same = ap (λ (k : Shows). declared_entries k p.path p.blocks (outlines_in new)) same
 
   pub anew_same : (n : ℕ) (v w : ValueSpecTree) → AllAnew n v w (decls_in old) (decls_in new) → entries_in old ≡ entries_in new
   anew_same n v w all =
       entries_are means p.path (outlines_in old) (outlines_in new)
-      (all_anew means p.path (give_methods means p.path) n v w (anew_methods means p.path v w) (decls_in old) (decls_in new) all)
-      (λ rs. all_anew means p.path (give_entries means p.path rs) n v w (anew_entries means p.path rs v w) (decls_in old) (decls_in new) all)
+      (all_anew (give_methods means p.path) n v w (anew_methods means p.path v w) (decls_in old) (decls_in new) all)
+      (λ rs. all_anew (give_entries means p.path rs) n v w (anew_entries means p.path rs v w) (decls_in old) (decls_in new) all)
+      ∙ with_names (anew_names p front back g h n v w all)
 
   pub other_same : (f : FuncTree) (body : Lines) → AllOther f body (decls_in old) (decls_in new) → entries_in old ≡ entries_in new
   other_same f body all =
       entries_are means p.path (outlines_in old) (outlines_in new)
-      (all_other means p.path (give_methods means p.path) f body (other_methods means p.path f body) (decls_in old) (decls_in new) all)
-      (λ rs. all_other means p.path (give_entries means p.path rs) f body (other_entries means p.path rs f body) (decls_in old) (decls_in new) all)
+      (all_other (give_methods means p.path) f body (other_methods means p.path f body) (decls_in old) (decls_in new) all)
+      (λ rs. all_other (give_entries means p.path rs) f body (other_entries means p.path rs f body) (decls_in old) (decls_in new) all)
+      ∙ with_names (other_names p front back g h f body all)
 
 pub types_stay : TypesStay
 types_stay = record {

@@ -1,21 +1,20 @@
 -- A package in which one identifier of the body of a function is spelled anew.
-use Rattle.std.proofs.Common.{◌≡◌, ◌⊎◌, ℕ, zero, suc, ◌+◌, inl, inr, List, [], ◌∷◌, ◌++◌, map, length, slice_get, refl, sym, ap, subst, ◌∙◌}
-use Rattle.std.specs.Prelude.{⊤, Option, Some}
-use Rattle.std.specs.List.{flat_map, enumerate_from}
+use Rattle.std.proofs.Common.{◌≡◌, ℕ, zero, suc, inl, inr, List, [], ◌∷◌, ◌++◌, map, slice_get, refl, sym, ap, subst, ◌∙◌}
+use Rattle.std.specs.Prelude.{Option, Some}
 use Rattle.go_tree_nodes.specs.declared.names.Ident.{Ident}
 use Rattle.go_tree_nodes.specs.Trees.{FuncTree, Lines, TopTree, FileTree}
 use Rattle.go_term_core.specs.decl_core.declared.places.Place.{Place}
-use Rattle.go_term_core.specs.decl_core.Outer.{decl_outers, tops_outers, places_of, place_of}
-use Rattle.go_term_core.specs.decl_core.TopDecls.{TopDeclTree, FormTree, FuncForm, kind_of_form, decl_decls, tops_decls}
+use Rattle.go_term_core.specs.decl_core.Outer.{places_of, place_of}
+use Rattle.go_term_core.specs.decl_core.TopDecls.{TopDeclTree, FormTree, FuncForm, kind_of_form}
 use Rattle.go_snap_core.specs.block_core.Blocks.{BlocksModel}
 use Rattle.go_snap_core.specs.table_core.Entries.{Entry}
 use Rattle.go_term_core.specs.Terms.{Term, Sign}
 use Rattle.go_snap_core.specs.entry_core.Meanings.{Shows, file_meaning}
 use Rattle.go_snap_core.specs.written_core.Written.{InFile}
-use Rattle.go_snap_core.specs.entry_core.Outlines.{FileOutline, outline_of}
+use Rattle.go_snap_core.specs.entry_core.Outlines.{outline_of}
 use Rattle.go_snap_core.specs.handle_core.Declarations.{Declaration}
 use Rattle.go_snap_core.specs.face_core.Faces.{TheFace}
-use Rattle.go_snap_core.specs.face_core.Laws.{FileDecl, file_decl, written_there}
+use Rattle.go_snap_core.specs.face_core.Laws.{FileDecl, written_there}
 use Rattle.go_snap_core.specs.face_core.Written.{WrittenOf, form_as_written, package_written}
 use Rattle.go_snap_core.specs.face_core.Places.{positions_are_exact}
 use Rattle.go_snap_core.specs.env_core.Scenes.{SceneModel}
@@ -23,7 +22,7 @@ use Rattle.go_needs_core.specs.Needs.{AreValues, known_in}
 use Rattle.go_needs_core.proofs.Needed.{one_table}
 use Rattle.go_snap_core.specs.func_core.Stands.{FileStand, looks_where}
 use Rattle.go_snap_core.specs.func_core.Functions.{checked_func}
-use Rattle.go_snap_core.specs.ready_core.Packages.{PackageIn, outlines_in, scene_in, stand_in}
+use Rattle.go_snap_core.specs.ready_core.Packages.{PackageIn, outlines_in, shows_in, scene_in, stand_in}
 use Rattle.go_snap_core.specs.ready_core.Values.{decls_in, AreDeclared}
 use Rattle.go_spelling_core.specs.Contexts.{ContextStays}
 use Rattle.go_spelling_core.specs.Package.{FileForm, all_needs, form_needs, face_of, face_at_position, AreFacesOf}
@@ -32,88 +31,17 @@ use Rattle.go_local_core.specs.Outline.{func_steps}
 use Rattle.go_snap_core.specs.file_core.Files.{tops_uses}
 use Rattle.go_spelling_core.specs.Spots.{tops_spots}
 use Rattle.go_spelling_core.proofs.Looking.{looks_at_needs}
-use Rattle.go_spelling_core.specs.Files.{WritesBody, InFunc, BehindTop, with_decls, with_trees}
+use Rattle.go_spelling_core.specs.Files.{WritesBody, with_decls, with_trees}
 use Rattle.go_spelling_core.specs.Functions.{func_spots, names_before}
 use Rattle.go_spelling_core.specs.Packages.{PackageBodiesStay}
 use Rattle.go_spelling_core.proofs.Checked.{checked_stay}
 use Rattle.go_spelling_core.proofs.InFiles.{in_bodies}
+use Rattle.go_spelling_core.proofs.BodyListed.{IsOther, IsPlacedOther, AllOther, outers_same, files_other}
 use Rattle.go_spelling_core.proofs.Initials.{stand_for, rules_for, form_in, all_fixed, faces_of}
+use Rattle.go_spelling_core.proofs.Names.{names_other}
 use Rattle.go_snap_core.specs.block_core.Declarations.{decl_ref}
 
--- one declaration of both: the same, or the function
-abbrev pub IsOther : FuncTree → Lines → TopDeclTree → TopDeclTree → Type 0
-IsOther f body d e = (d ≡ e) ⊎ ((d.number ≡ e.number) × (d.form ≡ FuncForm f) × (e.form ≡ FuncForm (with_body f body)) × (d.ident ≡ e.ident))
-
-abbrev DeclsOther : FuncTree → Lines → List TopDeclTree → List TopDeclTree → Type 0
-DeclsOther f body [] [] = ⊤
-DeclsOther f body [] (e ∷ es) = ⊥
-DeclsOther f body (d ∷ ds) [] = ⊥
-DeclsOther f body (d ∷ ds) (e ∷ es) = IsOther f body d e × DeclsOther f body ds es
-
-pub record IsPlacedOther (f : FuncTree) (body : Lines) (d e : FileDecl) : Type 0 where
-  pub files : d.file ≡ e.file
-  pub places : d.outline.places ≡ e.outline.places
-  pub decls : IsOther f body d.decl e.decl
-
-abbrev pub AllOther : FuncTree → Lines → List FileDecl → List FileDecl → Type 0
-AllOther f body [] [] = ⊤
-AllOther f body [] (e ∷ es) = ⊥
-AllOther f body (d ∷ ds) [] = ⊥
-AllOther f body (d ∷ ds) (e ∷ es) = IsPlacedOther f body d e × AllOther f body ds es
-
 module _ (f : FuncTree) (body : Lines) where
-  -- in a file
-
-  decls_same : (ds : List TopDeclTree) → DeclsOther f body ds ds
-  decls_same [] = tt
-  decls_same (d ∷ ds) = (inl refl, decls_same ds)
-
-  decls_behind : (ds fs gs : List TopDeclTree) → DeclsOther f body fs gs → DeclsOther f body (ds ++ fs) (ds ++ gs)
-  decls_behind [] fs gs k = k
-  decls_behind (d ∷ ds) fs gs k = (inl refl, decls_behind ds fs gs k)
-
-  tops_other : (n : ℕ) (ds es : List TopTree) → WritesBody f body ds es → DeclsOther f body (tops_decls n ds) (tops_decls n es)
-  tops_other n ds es (InFunc {semicolon = s} {more = more}) = (inr (refl, refl, refl, refl), decls_same _)
-  tops_other n ds es (BehindTop {d = d} {more = more} {rest = rest} r) =
-      let next = n + length (decl_outers d.decl) in
-      decls_behind (decl_decls n d.decl) (tops_decls next more) (tops_decls next rest) (tops_other next more rest r)
-
-  outers_same : (ds es : List TopTree) → WritesBody f body ds es → tops_outers ds ≡ tops_outers es
-  outers_same ds es (InFunc {more = more}) = refl
-  outers_same ds es (BehindTop {d = d} {more = more} {rest = rest} r) = ap (λ l. decl_outers d.decl ++ l) (outers_same more rest r)
-
-  -- in a package
-
-  all_same : (ds : List FileDecl) → AllOther f body ds ds
-  all_same [] = tt
-  all_same (d ∷ ds) = (record { files = refl; places = refl; decls = inl refl }, all_same ds)
-
-  all_both : (ds es fs gs : List FileDecl) → AllOther f body ds es → AllOther f body fs gs → AllOther f body (ds ++ fs) (es ++ gs)
-  all_both [] [] fs gs h k = k
-  all_both [] (e ∷ es) fs gs h k = elim h [ ]
-  all_both (d ∷ ds) [] fs gs h k = elim h [ ]
-  all_both (d ∷ ds) (e ∷ es) fs gs h k = (h.0, all_both ds es fs gs h.1 k)
-
-  in_file : (k : ℕ) (o p : FileOutline) → o.places ≡ p.places → (ds es : List TopDeclTree) → DeclsOther f body ds es → AllOther f body (map (file_decl k o) ds) (map (file_decl k p) es)
-  in_file k o p q [] [] h = tt
-  in_file k o p q [] (e ∷ es) h = elim h [ ]
-  in_file k o p q (d ∷ ds) [] h = elim h [ ]
-  in_file k o p q (d ∷ ds) (e ∷ es) h = (record { files = refl; places = q; decls = h.0 }, in_file k o p q ds es h.1)
-
-  abbrev of_files : ℕ → List FileOutline → List FileDecl
-  of_files k os = flat_map (λ p. map (file_decl p.0 p.1) p.1.decls) (enumerate_from k os)
-
-  pub files_other : (k : ℕ) (front back : List FileTree) (g : FileTree) (ds : List TopTree) → WritesBody f body g.decls ds
-      → AllOther f body (of_files k (map outline_of (front ++ g ∷ back))) (of_files k (map outline_of (front ++ with_decls g ds ∷ back)))
-  files_other k [] back g ds r =
-      let rest = of_files (k + 1) (map outline_of back) in
-      all_both (map (file_decl k (outline_of g)) (tops_decls 0 g.decls)) (map (file_decl k (outline_of (with_decls g ds))) (tops_decls 0 ds)) rest rest
-      (in_file k (outline_of g) (outline_of (with_decls g ds)) (ap (map place_of) (outers_same g.decls ds r)) (tops_decls 0 g.decls) (tops_decls 0 ds) (tops_other 0 g.decls ds r))
-      (all_same rest)
-  files_other k (h ∷ hs) back g ds r =
-      let first = map (file_decl k (outline_of h)) (tops_decls 0 h.decls) in
-      all_both first first (of_files (k + 1) (map outline_of (hs ++ g ∷ back))) (of_files (k + 1) (map outline_of (hs ++ with_decls g ds ∷ back))) (all_same first) (files_other (k + 1) hs back g ds r)
-
   -- what is written of a declaration, what it needs and what it is
 
   module _ (shows : Shows) (path : List ℕ) (blocks : BlocksModel) (types : List Entry) where
@@ -196,10 +124,18 @@ module _ (x : Ident) (name : List ℕ) (f : FuncTree) (body : Lines) (r : Respel
   others : AllOther f body (decls_in old) (decls_in new)
   others = files_other f body 0 front back g ds writes
 
-  written_same : package_written p.shows p.path p.blocks types (outlines_in new) ≡ package_written p.shows p.path p.blocks types (outlines_in old)
+  -- what names of types mean, before and after
+  abbrev names : Shows
+  names = shows_in old
+
+  names_same : shows_in new ≡ names
+  names_same = sym (names_other p front back g ds f body writes)
+
+  written_same : package_written (shows_in new) p.path p.blocks types (outlines_in new) ≡ package_written names p.path p.blocks types (outlines_in old)
   written_same =
-      positions_are_exact.listed p.shows p.path p.blocks types (outlines_in new)
-      ∙ (sym (all_written f body p.shows p.path p.blocks types (decls_in old) (decls_in new) others) ∙ sym (positions_are_exact.listed p.shows p.path p.blocks types (outlines_in old)))
+      ap (λ (k : Shows). package_written k p.path p.blocks types (outlines_in new)) names_same
+      ∙ (positions_are_exact.listed names p.path p.blocks types (outlines_in new)
+      ∙ (sym (all_written f body names p.path p.blocks types (decls_in old) (decls_in new) others) ∙ sym (positions_are_exact.listed names p.path p.blocks types (outlines_in old))))
 
   abbrev scene_with : List WrittenOf → SceneModel
   scene_with ws = record { path = p.path; blocks = p.blocks; types = types; others = p.others; written = ws }
@@ -214,8 +150,10 @@ module _ (x : Ident) (name : List ℕ) (f : FuncTree) (body : Lines) (r : Respel
     pub tables_same : t ≡ u
     tables_same =
         let s = scene_in old types in
-        known_same f body s p.shows p.path p.blocks (decls_in old) (decls_in new) t u others (faces_of old types t at)
-        (subst (λ k. AreFacesOf k (map (form_in k p.shows p.path p.blocks) (decls_in new)) u) scene_same (faces_of new types u au))
+        let in_scene : AreFacesOf s (map (form_in s (shows_in new) p.path p.blocks) (decls_in new)) u =
+        subst (λ k. AreFacesOf k (map (form_in k (shows_in new) p.path p.blocks) (decls_in new)) u) scene_same (faces_of new types u au) in
+        known_same f body s names p.path p.blocks (decls_in old) (decls_in new) t u others (faces_of old types t at)
+        (subst (λ (k : Shows). AreFacesOf s (map (form_in s k p.path p.blocks) (decls_in new)) u) names_same in_scene)
 
     abbrev before : FileStand
     before = stand_in old types t n (outline_of g)
@@ -225,9 +163,10 @@ module _ (x : Ident) (name : List ℕ) (f : FuncTree) (body : Lines) (r : Respel
 
     stands_same : after ≡ before
     stands_same =
-        ap (λ s. stand_for s p.shows p.path p.blocks u n (places_of (with_decls g ds))) scene_same
-        ∙ (ap (λ known. stand_for (scene_in old types) p.shows p.path p.blocks known n (places_of (with_decls g ds))) (sym tables_same)
-        ∙ ap (stand_for (scene_in old types) p.shows p.path p.blocks t n) (sym places_same))
+        ap (λ s. stand_for s (shows_in new) p.path p.blocks u n (places_of (with_decls g ds))) scene_same
+        ∙ (ap (λ (k : Shows). stand_for (scene_in old types) k p.path p.blocks u n (places_of (with_decls g ds))) names_same
+        ∙ (ap (λ known. stand_for (scene_in old types) names p.path p.blocks known n (places_of (with_decls g ds))) (sym tables_same)
+        ∙ ap (stand_for (scene_in old types) names p.path p.blocks t n) (sym places_same)))
 
     -- among all that the file has
     file_stays : InFileStays x name f body types n t u g ds old new

@@ -25,7 +25,7 @@ use Rattle.go_needs_core.specs.Needs.{AreValues, known_in}
 use Rattle.go_snap_core.specs.piece_core.Specifications.{spec_uses}
 use Rattle.go_snap_core.specs.value_core.Laws.{FormsAlike}
 use Rattle.go_snap_core.specs.func_core.Stands.{FileStand, types_where, outer_look, outer_looks}
-use Rattle.go_snap_core.specs.ready_core.Packages.{PackageIn, outlines_in, scene_in, stand_in}
+use Rattle.go_snap_core.specs.ready_core.Packages.{PackageIn, outlines_in, shows_in, scene_in, stand_in}
 use Rattle.go_snap_core.specs.ready_core.Values.{file_decl_needs, decls_in, some_decl_face, AreDeclared}
 use Rattle.go_spelling_core.specs.Contexts.{ContextStays}
 use Rattle.go_spelling_core.specs.Package.{FileForm, AllFixed, all_needs, face_of, face_at_position, AreFacesOf, IsAsItWas, IsWrittenAnew, AreWrittenAnew}
@@ -37,6 +37,7 @@ use Rattle.go_spelling_core.specs.Packages.{PackageInitialisersStay, FileInitial
 use Rattle.go_spelling_core.proofs.InFiles.{in_tops}
 use Rattle.go_spelling_core.proofs.Places.{tops_same}
 use Rattle.go_spelling_core.proofs.FileListed.{IsAnew, IsPlacedAnew, AllAnew, type_same, package_anew}
+use Rattle.go_spelling_core.proofs.Names.{names_anew}
 use Rattle.go_snap_core.specs.block_core.Declarations.{decl_ref}
 
 -- a declaration with what the types are that its file writes
@@ -123,7 +124,7 @@ module _ (p : PackageIn) (types : List Entry) where
   s = scene_in p types
 
   abbrev form : FileDecl → FileForm
-  form d = form_in s p.shows p.path p.blocks d
+  form d = form_in s (shows_in p) p.path p.blocks d
 
   rows_same : (ds : List FileDecl) → map (file_decl_needs s) ds ≡ all_needs s (map form ds)
   rows_same [] = refl
@@ -153,10 +154,18 @@ module _ (x : Ident) (name : List ℕ) (v w : ValueSpecTree) (r : RespellsValues
   anew : AllAnew n v w (decls_in old) (decls_in new)
   anew = package_anew x name v w r front back f ds writes n here
 
-  written_same : package_written p.shows p.path p.blocks types (outlines_in new) ≡ package_written p.shows p.path p.blocks types (outlines_in old)
+  -- what names of types mean, before and after
+  abbrev names : Shows
+  names = shows_in old
+
+  names_same : shows_in new ≡ names
+  names_same = sym (names_anew p front back f ds x name v w r writes)
+
+  written_same : package_written (shows_in new) p.path p.blocks types (outlines_in new) ≡ package_written names p.path p.blocks types (outlines_in old)
   written_same =
-      positions_are_exact.listed p.shows p.path p.blocks types (outlines_in new)
-      ∙ (sym (all_written p.shows p.path p.blocks types n v w (type_same x name v w r) (decls_in old) (decls_in new) anew) ∙ sym (positions_are_exact.listed p.shows p.path p.blocks types (outlines_in old)))
+      ap (λ (k : Shows). package_written k p.path p.blocks types (outlines_in new)) names_same
+      ∙ (positions_are_exact.listed names p.path p.blocks types (outlines_in new)
+      ∙ (sym (all_written names p.path p.blocks types n v w (type_same x name v w r) (decls_in old) (decls_in new) anew) ∙ sym (positions_are_exact.listed names p.path p.blocks types (outlines_in old))))
 
   abbrev scene_with : List WrittenOf → SceneModel
   scene_with ws = record { path = p.path; blocks = p.blocks; types = types; others = p.others; written = ws }
@@ -164,24 +173,28 @@ module _ (x : Ident) (name : List ℕ) (v w : ValueSpecTree) (r : RespellsValues
   scene_same : scene_in new types ≡ scene_in old types
   scene_same = ap scene_with written_same
 
-  abbrev looks_for : SceneModel → List Place → List (Option TheFace) → TheLooks
-  looks_for s places known = outer_looks (stand_for s p.shows p.path p.blocks known n places)
+  abbrev looks_for : SceneModel → Shows → List Place → List (Option TheFace) → TheLooks
+  looks_for s shows places known = outer_looks (stand_for s shows p.path p.blocks known n places)
 
   places_same : places_of f ≡ places_of g
   places_same = tops_same x name v w r f.decls ds writes
 
-  new_looks : looks_for (scene_in new types) (places_of g) u ≡ looks_for (scene_in old types) (places_of f) u
-  new_looks = ap (λ s. looks_for s (places_of g) u) scene_same ∙ ap (λ ps. looks_for (scene_in old types) ps u) (sym places_same)
+  new_looks : looks_for (scene_in new types) (shows_in new) (places_of g) u ≡ looks_for (scene_in old types) names (places_of f) u
+  new_looks =
+      ap (λ s. looks_for s (shows_in new) (places_of g) u) scene_same
+      ∙ (ap (λ (k : Shows). looks_for (scene_in old types) k (places_of g) u) names_same ∙ ap (λ ps. looks_for (scene_in old types) names ps u) (sym places_same))
 
   pub stays : AreDeclared old types t → AreDeclared new types u
       → ContextStays Term Sign Declaration (List ℕ) (outer_looks (stand_in new types u n (outline_of g))) x name (spec_spots (outer_looks (stand_in old types t n (outline_of f))) v) (spec_uses (outer_looks (stand_in new types u n (outline_of g))) w)
   stays at au =
       let s = scene_in old types in
-      let forms : List FileDecl → List FileForm = map (form_in s p.shows p.path p.blocks) in
-      let au' : AreFacesOf s (forms (decls_in new)) u = subst (λ k. AreFacesOf k (map (form_in k p.shows p.path p.blocks) (decls_in new)) u) scene_same (faces_of new types u au) in
-      subst (λ k. ContextStays Term Sign Declaration (List ℕ) k x name (spec_spots (looks_for s (places_of f) t) v) (spec_uses k w)) (sym new_looks)
-      (initial_stays s (forms (decls_in old)) (forms (decls_in new)) t u n (rules_for s p.shows p.path p.blocks n (places_of f)) x name v w r
-      (forms_anew s p.shows p.path p.blocks n v w (decls_in old) (decls_in new) anew) (all_fixed s p.shows p.path p.blocks (decls_in old)) (all_fixed s p.shows p.path p.blocks (decls_in new)) (λ named other k. (refl, refl))
+      let forms : List FileDecl → List FileForm = map (form_in s names p.path p.blocks) in
+      let in_scene : AreFacesOf s (map (form_in s (shows_in new) p.path p.blocks) (decls_in new)) u =
+      subst (λ k. AreFacesOf k (map (form_in k (shows_in new) p.path p.blocks) (decls_in new)) u) scene_same (faces_of new types u au) in
+      let au' : AreFacesOf s (forms (decls_in new)) u = subst (λ (k : Shows). AreFacesOf s (map (form_in s k p.path p.blocks) (decls_in new)) u) names_same in_scene in
+      subst (λ k. ContextStays Term Sign Declaration (List ℕ) k x name (spec_spots (looks_for s names (places_of f) t) v) (spec_uses k w)) (sym new_looks)
+      (initial_stays s (forms (decls_in old)) (forms (decls_in new)) t u n (rules_for s names p.path p.blocks n (places_of f)) x name v w r
+      (forms_anew s names p.path p.blocks n v w (decls_in old) (decls_in new) anew) (all_fixed s names p.path p.blocks (decls_in old)) (all_fixed s names p.path p.blocks (decls_in new)) (λ named other k. (refl, refl))
       (faces_of old types t at) au')
 
 pub initialisers_stay : PackageInitialisersStay

@@ -18,7 +18,7 @@ use Rattle.go_spelling_core.specs.Trees.{value_spec_with, with_base, with_receiv
 use Rattle.go_spelling_core.specs.Files.{WritesInSpecs}
 use Rattle.go_spelling_core.specs.Spots.{tops_spots}
 
--- a declaration of a type, with another type
+-- a declaration of a type, with another type: an alias stays one
 abbrev pub type_spec_with : TypeSpecTree → TypeTree → TypeSpecTree
 type_spec_with t u = record t { type_expr = u }
 

@@ -3,6 +3,7 @@ pub mod Summaries
 pub mod Told
 pub mod Views
 pub mod codes
+pub mod alias_core
 pub mod alike_core
 pub mod block_core
 pub mod decide_core

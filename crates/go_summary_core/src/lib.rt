@@ -21,6 +21,11 @@ pub use reached::ReachedSummaries;
 pub use summary::{Summary, import_view, summarize};
 pub use view::{View, view_of};
 
+/// What the crates above name of `go_alias_core`.
+pub mod alias_core {
+    pub use go_alike_core::alias_core::{Aliases, alias_loops, aliases_of, written_aliases};
+}
+
 /// What the crates above name of `go_alike_core`.
 pub mod alike_core {
     pub use go_alike_core::same_exports;
@@ -43,14 +48,14 @@ pub mod embed_core {
 
 /// What the crates above name of `go_entry_core`.
 pub mod entry_core {
-    pub use go_alike_core::entry_core::{FileNames, ImportedNames};
+    pub use go_alike_core::entry_core::{DeclaredNames, FileNames, ImportedNames};
 }
 
 /// What the crates above name of `go_face_core`.
 pub mod face_core {
     pub use go_alike_core::face_core::{
-        DeclaredFace, Face, FaceTable, PackageFaces, ShownFace, WrittenFaces, hold, lend,
-        written_faces,
+        DeclaredFace, Face, FaceTable, PackageFaces, ShownFace, TypesHere, WrittenFaces, hold,
+        lend, written_faces,
     };
 }
 

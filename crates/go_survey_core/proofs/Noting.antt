@@ -1,8 +1,11 @@
 -- Identifiers by their names, as a package has them.
 use Rattle.std.proofs.Common.{◌≡◌, ℕ, Bool, true, false, not, ◌&&◌, ◌||◌, List, ◌∷◌, Option, Some, None, is_some, cond, if◌then◌else◌, refl, sym, ap, ◌∙◌, inl, inr}
 use Rattle.std.specs.Borrow.{Bor}
+use Rattle.std.specs.Cmp.Lexicographic.{slice_cmp}
+use Rattle.std.specs.Ordering.{is_eq, nat_cmp}
 use Rattle.std.specs.Str.{bytes_eq, chars}
 use Rattle.std.proofs.lemmas.Bool.{true≢false, false≢true}
+use Rattle.std.proofs.lemmas.Map.Text.{is_eq-slice_cmp}
 use Rattle.std.proofs.lemmas.Slice.Eq.{bytes_eq-Decides}
 use Rattle.go_text_core.specs.Text.{exported}
 use Rattle.go_text_core.proofs.Each.{true_or_false}
@@ -27,9 +30,11 @@ unknown : (o : Option Known) → false ≡ is_some o → o ≡ None
 unknown None h = refl
 unknown (Some k) h = absurd (false≢true h)
 
-pub name_added : (old new : Entries) (k : Bor (List ℕ)) (v : Known) → false ≡ is_some (seen_of old k.now) → ((q : Bor (List ℕ)) → seen_of new q.now ≡ (if bytes_eq k.now q.now then Some v else seen_of old q.now))
+pub name_added : (old new : Entries) (k : Bor (List ℕ)) (v : Known) → false ≡ is_some (seen_of old k.now) → ((q : Bor (List ℕ)) → seen_of new q.now ≡ (if is_eq (slice_cmp nat_cmp k.now q.now) then Some v else seen_of old q.now))
     → (n : List ℕ) → seen_of new n ≡ first_seen (seen_of old n) (if bytes_eq k.now n then Some v else None)
-name_added old new k v absent adds n = adds (record { ref_ptr = (0, 0); now = n }) ∙ by (bytes_eq k.now n) (bytes_eq-Decides k.now n).0
+name_added old new k v absent adds n =
+    adds (record { ref_ptr = (0, 0); now = n })
+    ∙ (ap (λ b. if b then Some v else seen_of old n) (is_eq-slice_cmp k.now n) ∙ by (bytes_eq k.now n) (bytes_eq-Decides k.now n).0)
   where
     by : (b : Bool) → (b ≡ true → k.now ≡ n) → (if b then Some v else seen_of old n) ≡ first_seen (seen_of old n) (if b then Some v else None)
     by true same = sym (ap (λ o. first_seen o (Some v)) (ap (seen_of old) (sym (same refl)) ∙ unknown (seen_of old k.now) absent))
@@ -105,8 +110,11 @@ bytes_turned a b = agree (bytes_eq a b) (bytes_eq b a) (λ h. (bytes_eq-Decides 
 
 -- 3. One name of a set.
 
-pub word_added : (old new : List (Bor (List ℕ))) (name n : List ℕ) (e : Bool) → has_word new n ≡ (if bytes_eq name n then true else has_word old n) → e ≡ false → has_word new n ≡ (has_word old n || (bytes_eq n name && not e))
-word_added old new name n e adds off = adds ∙ (ap (λ b. if b then true else has_word old n) (bytes_turned name n) ∙ (by (bytes_eq n name) (has_word old n) ∙ ap (λ x. has_word old n || (bytes_eq n name && not x)) (sym off)))
+pub word_added : (old new : List (Bor (List ℕ))) (name n : List ℕ) (e : Bool) → has_word new n ≡ (if is_eq (slice_cmp nat_cmp name n) then true else has_word old n) → e ≡ false → has_word new n ≡ (has_word old n || (bytes_eq n name && not e))
+word_added old new name n e adds off =
+    adds
+    ∙ (ap (λ b. if b then true else has_word old n) (is_eq-slice_cmp name n ∙ bytes_turned name n)
+    ∙ (by (bytes_eq n name) (has_word old n) ∙ ap (λ x. has_word old n || (bytes_eq n name && not x)) (sym off)))
   where
     by : (b w : Bool) → (if b then true else w) ≡ (w || (b && true))
     by true true = refl

@@ -9,7 +9,7 @@ use go_level_core::path_core::ImportPath;
 use go_select_core::{Id, Known, Names};
 use go_text_core::is_exported;
 use std::alloc::{AllocError, Global};
-use std::collections::{HashMap, HashSet};
+use std::collections::{BTreeMap, BTreeSet};
 
 // Whether an identifier is the one that its name is in a package.
 fn is_of(id: Id<'_>, from: &ImportPath) -> bool
@@ -25,7 +25,7 @@ fn is_of(id: Id<'_>, from: &ImportPath) -> bool
 
 // Notes what is known of a name, unless it is there.
 fn put<'a>(
-    known: &mut HashMap<&'a str, Known<'a>>,
+    known: &mut BTreeMap<&'a str, Known<'a>>,
     name: &'a str,
     new: Known<'a>,
 ) -> Result<(), AllocError>
@@ -42,7 +42,7 @@ fn put<'a>(
 
 // Notes what is known of an identifier by its name, where it is the one that the name is in a package.
 fn put_if<'a>(
-    known: &mut HashMap<&'a str, Known<'a>>,
+    known: &mut BTreeMap<&'a str, Known<'a>>,
     id: Id<'a>,
     new: Known<'a>,
     from: &ImportPath,
@@ -60,10 +60,10 @@ pub(crate) fn known_from<'a>(
     alloc: Global,
     names: &Names<'a>,
     from: &ImportPath,
-) -> Result<HashMap<&'a str, Known<'a>>, AllocError>
+) -> Result<BTreeMap<&'a str, Known<'a>>, AllocError>
     ensures { IfOk result (λ known. (n : List ℕ) → seen_of known.entries n ≡ known_of (names_of names.now) (identifier_of n from.now)) }
 {
-    let mut known = HashMap::new(alloc);
+    let mut known = BTreeMap::new(alloc);
     'names: for (id, new) in &names.known {
         put_if(&mut known, *id, *new, from)?;
     }
@@ -71,7 +71,7 @@ pub(crate) fn known_from<'a>(
 }
 
 // Adds the name of an identifier, unless it is exported.
-fn add_if<'a>(hidden: &mut HashSet<&'a str>, id: Id<'a>) -> Result<(), AllocError>
+fn add_if<'a>(hidden: &mut BTreeSet<&'a str>, id: Id<'a>) -> Result<(), AllocError>
     ensures { OnOk result ((n : List ℕ) → has_word hidden.new.keys n ≡ (has_word hidden.old.keys n || (bytes_eq n id.entry.0.now && not (exported (chars id.entry.0.now))))) }
 {
     if is_exported(id.0) {
@@ -87,10 +87,10 @@ fn add_if<'a>(hidden: &mut HashSet<&'a str>, id: Id<'a>) -> Result<(), AllocErro
 pub(crate) fn hidden_in<'a>(
     alloc: Global,
     names: &Names<'a>,
-) -> Result<HashSet<&'a str>, AllocError>
+) -> Result<BTreeSet<&'a str>, AllocError>
     ensures { IfOk result (λ hidden. (n : List ℕ) → has_word hidden.keys n ≡ has_hidden (names_of names.now) n) }
 {
-    let mut hidden = HashSet::new(alloc);
+    let mut hidden = BTreeSet::new(alloc);
     'names: for (id, _) in &names.known {
         add_if(&mut hidden, *id)?;
     }

@@ -21,7 +21,7 @@ use go_level_core::{Levels, Selected};
 use go_select_core::Known;
 use go_text_core::Rule;
 use std::alloc::{AllocError, Global};
-use std::collections::{HashMap, HashSet};
+use std::collections::{BTreeMap, BTreeSet};
 use std::marker::Model;
 
 /// What selectors denote behind operands of one type, which are written in one package. Contracts see the table, the type and the package's path.
@@ -31,9 +31,9 @@ pub struct Survey<'a> {
     from: &'a ImportPath,
     levels: Levels<'a>,
     /// What is known of the names that members have which the package sees.
-    known: HashMap<&'a str, Known<'a>>,
+    known: BTreeMap<&'a str, Known<'a>>,
     /// The names that members have which are not exported.
-    hidden: HashSet<&'a str>,
+    hidden: BTreeSet<&'a str>,
 }
 
 impl Drop for Survey<'_> {
@@ -89,7 +89,7 @@ fn denoted<'a>(
 }
 
 // Why a name denotes nothing that no member has, by the names that are not exported.
-fn missing(hidden: &HashSet<&str>, name: &str) -> Rule
+fn missing(hidden: &BTreeSet<&str>, name: &str) -> Rule
     ensures { result ≡ if has_word hidden.now.keys name.now then Rule.S3 else Rule.S1 }
 {
     if hidden.contains(name) {
@@ -188,8 +188,8 @@ impl<'a> Survey<'a> {
         }
     }
 
-    /// What the selector `x.name` denotes for an operand `x` of the type, as [`select`](go_level_core::select) answers it. It takes constant
-    /// expected time beside that of the path.
+    /// What the selector `x.name` denotes for an operand `x` of the type, as [`select`](go_level_core::select) answers it. Beside that
+    /// of the path, time grows with the logarithm of the number of names.
     ///
     /// # Errors
     ///
@@ -201,7 +201,8 @@ impl<'a> Survey<'a> {
     }
 
     /// What the selector `x.name` denotes for an operand `x` whose type is a pointer to the type, as
-    /// [`select_behind_pointer`](go_level_core::select_behind_pointer) answers it. It takes constant expected time beside that of the path.
+    /// [`select_behind_pointer`](go_level_core::select_behind_pointer) answers it. Beside that of the path, time grows with the logarithm of
+    /// the number of names.
     ///
     /// # Errors
     ///

@@ -2,15 +2,12 @@
 use Rattle.std.proofs.Common.{◌≡◌, ℕ, ◌+◌, ◌<◌, Bool, true, false, List, [], ◌∷◌, ◌++◌, length, Some, None, Result, Ok, Err, refl, sym, ap, ◌∙◌, arith, cond, append_assoc, subst}
 use Rattle.std.specs.Result.{OnErr}
 use Rattle.std.specs.Str.{bytes_eq}
-use Rattle.std.proofs.lemmas.List.{length-append, map-append, append-nil}
+use Rattle.std.proofs.lemmas.List.{length-append, append-nil}
 use Rattle.go_table_core.specs.declared.table.Numbered.{Numbered}
 use Rattle.go_table_core.specs.Tables.{ArePackageTypes, AreOthers}
-use Rattle.go_table_core.specs.mirrors.Holding.{packages_of, all_entries, package_at, AreKept, IsTable}
+use Rattle.go_table_core.specs.mirrors.Holding.{all_entries, package_at, AreKept, IsTable}
 use Rattle.go_table_core.proofs.Finding.{bytes_turned, none_there}
 use Rattle.go_term_core.specs.Terms.{Term}
-
-packages_of-push : (ps : List Numbered) (p : Numbered) → packages_of (ps ++ p ∷ []) ≡ packages_of ps ++ (p.types.path, p) ∷ []
-packages_of-push ps p = map-append (λ q. (q.types.path, q)) ps (p ∷ [])
 
 package_at-apart : (ps : List (List ℕ × Numbered)) (q path : List ℕ) (p : Numbered) → package_at ps q ≡ None → bytes_eq q path ≡ false → package_at (ps ++ (path, p) ∷ []) q ≡ None
 package_at-apart [] q path p none apart = ap (λ b. cond b (Some p) None) apart
@@ -35,20 +32,19 @@ all_entries-more [] path p = append-nil p.types.entries
 all_entries-more (q ∷ ps) path p = ap (λ l. q.1.types.entries ++ l) (all_entries-more ps path p) ∙ sym (append_assoc q.1.types.entries (all_entries ps) p.types.entries)
 
 -- the table with a package more, and what it shows
-pub table_more : (old new : List Numbered) (path : List ℕ) (p : Numbered) (len more : ℕ) (nothing : Term)
-    → IsTable len (packages_of old) nothing → AreOthers path (all_entries (packages_of old)) → new ≡ old ++ p ∷ []
+pub table_more : (old new : List (List ℕ × Numbered)) (path : List ℕ) (p : Numbered) (len more : ℕ) (nothing : Term)
+    → IsTable len old nothing → AreOthers path (all_entries old) → new ≡ old ++ (path, p) ∷ []
     → p.first ≡ len → path ≡ p.types.path → ArePackageTypes p.types.path p.types.entries → 0 < length p.types.entries → more ≡ len + length p.types.entries
-    → IsTable more (packages_of new) nothing × (all_entries (packages_of new) ≡ all_entries (packages_of old) ++ p.types.entries)
-table_more old new path p len more nothing was others e first keyed well some counted =
-    let absent : package_at (packages_of old) p.types.path ≡ None = ap (package_at (packages_of old)) (sym keyed) ∙ none_there 0 (packages_of old) path was.kept others in
-    let now : packages_of new ≡ packages_of old ++ (p.types.path, p) ∷ [] = ap packages_of e ∙ packages_of-push old p in
-    let shown : all_entries (packages_of new) ≡ all_entries (packages_of old) ++ p.types.entries = ap all_entries now ∙ all_entries-more (packages_of old) p.types.path p in
-    let at : p.first ≡ 0 + length (all_entries (packages_of old)) = omega (arith, first, was.counted) in
-    let kept : AreKept 0 (packages_of old ++ (p.types.path, p) ∷ []) = kept_more 0 (packages_of old) p.types.path p was.kept absent at refl well some in (
+    → IsTable more new nothing × (all_entries new ≡ all_entries old ++ p.types.entries)
+table_more old new path p len more nothing was others now first keyed well some counted =
+    let absent : package_at old path ≡ None = none_there 0 old path was.kept others in
+    let shown : all_entries new ≡ all_entries old ++ p.types.entries = ap all_entries now ∙ all_entries-more old path p in
+    let at : p.first ≡ 0 + length (all_entries old) = omega (arith, first, was.counted) in
+    let kept : AreKept 0 (old ++ (path, p) ∷ []) = kept_more 0 old path p was.kept absent at keyed well some in (
       record {
         kept = subst (λ (ps : List (List ℕ × Numbered)). AreKept 0 ps) (sym now) kept;
         none = was.none;
-        counted = omega (arith, counted, was.counted, ap length shown, length-append (all_entries (packages_of old)) p.types.entries);
+        counted = omega (arith, counted, was.counted, ap length shown, length-append (all_entries old) p.types.entries);
       },
       shown,
     )

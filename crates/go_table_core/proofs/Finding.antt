@@ -1,6 +1,7 @@
 -- What is found among the types of packages.
 use Rattle.std.proofs.Common.{◌≡◌, ℕ, ◌+◌, ◌-◌, ◌<◌, ◌≤◌, zero, suc, Bool, true, false, ◌&&◌, List, [], ◌∷◌, ◌++◌, length, All, Option, Some, None, is_some, ◌↔◌, refl, sym, ap, ◌∙◌, arith, cond, if◌then◌else◌}
-use Rattle.std.specs.Prelude.{slice_get}
+use Rattle.std.specs.Prelude.{slice_get, option_copied}
+use Rattle.std.specs.Borrow.{Bor}
 use Rattle.std.specs.Str.{bytes_eq}
 use Rattle.std.proofs.lemmas.Bool.{true≢false}
 use Rattle.std.proofs.lemmas.Slice.Eq.{bytes_eq-Decides}
@@ -150,6 +151,10 @@ none_there n (p ∷ ps) path kept others =
     by : (b : Bool) → bytes_eq path p.0 ≡ b → package_at ps path ≡ None → cond b (Some p.1) (package_at ps path) ≡ None
     by true e rest = absurd (first_own p.1.types.entries (all_entries ps) path p.1.types.path kept.0.some kept.0.well.own others (same_bytes path p.0 e ∙ kept.0.keyed))
     by false e rest = rest
+
+pub some_copied : {X : Type 0} (o : Option (Bor X)) → is_some o ≡ is_some (option_copied o)
+some_copied None = refl
+some_copied (Some x) = refl
 
 none_from_test : {X : Type 0} (o : Option X) → is_some o ≡ false → o ≡ None
 none_from_test None h = refl

@@ -2,7 +2,6 @@ pub mod Keys
 pub mod Finding
 pub mod Searching
 pub mod Adding
-pub mod Placing
 pub mod Spelled
 pub mod Ordering
 pub mod Underlying

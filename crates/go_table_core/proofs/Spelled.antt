@@ -4,13 +4,15 @@ use Rattle.std.specs.Prelude.{nat_lt, nat_eq}
 use Rattle.std.specs.Bool.{Decides}
 use Rattle.std.specs.Cmp.{both_ways}
 use Rattle.std.specs.Str.{bytes_eq, chars}
-use Rattle.std.specs.HashMap.{HashMap, Updates}
+use Rattle.std.specs.BTreeMap.{BTreeMap, Updates}
+use Rattle.std.specs.Cmp.Lexicographic.{slice_cmp}
+use Rattle.std.specs.Ordering.{is_eq, nat_cmp}
 use Rattle.std.specs.Map.{lookup}
 use Rattle.std.specs.Borrow.{Bor}
 use Rattle.std.proofs.lemmas.Bool.{true≢false, cases_lt}
 use Rattle.std.proofs.lemmas.Bool.Decides.{Decides-and, Decides-or, Decides-ltb, Decides-eqb}
 use Rattle.std.proofs.lemmas.List.{drop_more, drop_all}
-use Rattle.std.proofs.lemmas.Map.Text.{hash_map_updates_str}
+use Rattle.std.proofs.lemmas.Map.Text.{btree_map_updates_str, is_eq-slice_cmp}
 use Rattle.go_settle_core.specs.text_core.Text.{exported}
 use Rattle.go_term_core.specs.declared.term.Field.{Field}
 use Rattle.go_term_core.specs.declared.term.MemberPlace.{MemberPlace}
@@ -160,17 +162,19 @@ places_end ls ps fs i all past so_far =
 
 -- tables over names behind references
 
-pub in_names : (name : List ℕ) (es : List (Bor (List ℕ) × Earliest)) → lookup (λ k. bytes_eq name k.now) es ≡ found_places (map (λ e. (e.0.now, e.1)) es) name
+pub in_names : (name : List ℕ) (es : List (Bor (List ℕ) × Earliest)) → lookup (λ k. is_eq (slice_cmp nat_cmp name k.now)) es ≡ found_places (map (λ e. (e.0.now, e.1)) es) name
 in_names name [] = refl
-in_names name (e ∷ es) = ap (λ o. cond (bytes_eq name e.0.now) (Some e.1) o) (in_names name es)
+in_names name (e ∷ es) =
+    ap (λ b. cond b (Some e.1) (lookup (λ k. is_eq (slice_cmp nat_cmp name k.now)) es)) (is_eq-slice_cmp name e.0.now)
+    ∙ ap (λ o. cond (bytes_eq name e.0.now) (Some e.1) o) (in_names name es)
 
-pub adds_field : {S : Type 0} (old new : HashMap (Bor (List ℕ)) Earliest S) (k : Bor (List ℕ)) (name : List ℕ) (so_far v : Earliest) (place : MemberPlace)
-    → k.now ≡ name → Updates (λ x y. bytes_eq x.now y.now) old new k (Some v) → so_far ≡ found_or_none (found_places (named_places old) name) → v ≡ earliest_with so_far place
+pub adds_field : (old new : BTreeMap (Bor (List ℕ)) Earliest) (k : Bor (List ℕ)) (name : List ℕ) (so_far v : Earliest) (place : MemberPlace)
+    → k.now ≡ name → Updates (λ x y. slice_cmp nat_cmp x.now y.now) old new k (Some v) → so_far ≡ found_or_none (found_places (named_places old) name) → v ≡ earliest_with so_far place
     → AddsField (named_places old) (named_places new) name place
 adds_field old new k name so_far v place is put before now = record {
   at = λ other.
       sym (in_names other new.entries)
-      ∙ (hash_map_updates_str k.now old new (Some v) put other
+      ∙ (btree_map_updates_str k.now old new (Some v) put other
       ∙ (ap (cond (bytes_eq k.now other) (Some v)) (in_names other old.entries)
       ∙ (ap (λ n. cond (bytes_eq n other) (Some v) (found_places (named_places old) other)) is
       ∙ by other (bytes_eq name other) refl)));

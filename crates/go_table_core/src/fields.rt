@@ -13,7 +13,7 @@ use go_settle_core::path_core::ImportPath;
 use go_settle_core::text_core::is_exported;
 use go_term_core::{Field, FieldLine, MemberPlace, TypeTerm};
 use std::alloc::{AllocError, Global};
-use std::collections::HashMap;
+use std::collections::BTreeMap;
 use std::marker::Model;
 
 /// A place by its file, and by what counts there.
@@ -33,7 +33,7 @@ struct Earliest {
 /// What fields are found by.
 enum FieldPlaces<'a> {
     /// The earliest places of each name.
-    Made(HashMap<&'a str, Earliest>),
+    Made(BTreeMap<&'a str, Earliest>),
     /// Where each name stands among the fields, which stand in order of their places.
     Indexed(&'a Spellings),
 }
@@ -238,7 +238,7 @@ fn home_of(term: &TypeTerm) -> Option<&ImportPath>
 
 /// Adds a field to a table of names.
 fn add_field<'a>(
-    places: &mut HashMap<&'a str, Earliest>,
+    places: &mut BTreeMap<&'a str, Earliest>,
     field: &'a Field,
 ) -> Result<(), AllocError>
     ensures { OnOk result (AddsField (named_places places.old) (named_places places.new) field.now.name field.now.place) }
@@ -261,10 +261,10 @@ fn add_field<'a>(
 fn places_of<'a>(
     alloc: Global,
     all: StructFields<'a>,
-) -> Result<HashMap<&'a str, Earliest>, AllocError>
+) -> Result<BTreeMap<&'a str, Earliest>, AllocError>
     ensures { IfOk result (λ places. HasPlaces (named_places places) (fields_in (line_shapes all.entry.lines.now) all.entry.fields.now)) }
 {
-    let mut places = HashMap::new(alloc);
+    let mut places = BTreeMap::new(alloc);
     for field in all.fields {
         add_field(&mut places, field)?;
     }
@@ -334,7 +334,7 @@ fn first_is_before(fields: &[Field], spelling: Option<Spelling>, place: MemberPl
 }
 
 /// Whether the earliest place of a name stands before a place.
-fn earliest_is_before(places: &HashMap<&str, Earliest>, name: &str, place: MemberPlace) -> bool
+fn earliest_is_before(places: &BTreeMap<&str, Earliest>, name: &str, place: MemberPlace) -> bool
     ensures { result ≡ found_before (found_places (named_places places.now) name.now) place }
 {
     match places.get(name) {
@@ -374,7 +374,8 @@ impl<'a> FieldTable<'a> {
         self.underlying
     }
 
-    /// Whether a field is spelled so, be it of the same package or not. It takes constant expected time and no memory.
+    /// Whether a field is spelled so, be it of the same package or not. It takes no memory; time grows with the logarithm of the number of
+    /// fields.
     pub fn has_spelled(&self, name: &str) -> bool
         ensures { result ≡ field_spelled (term_fields self.now) name.now }
     {
@@ -397,8 +398,8 @@ impl<'a> FieldTable<'a> {
     }
 
     /// Whether a field comes before a method of a package that has its identifier: it stands before it, or in another package. Then the
-    /// field is kept and the method is not. It takes constant expected time and no memory. The Go specification, "Method
-    /// declarations", "Uniqueness of identifiers".
+    /// field is kept and the method is not. It takes no memory; time grows with the logarithm of the number of fields. The Go
+    /// specification, "Method declarations", "Uniqueness of identifiers".
     pub fn comes_before(&self, path: &ImportPath, method: &DeclaredMethod) -> bool
         ensures { result ≡ has_field_before path.now self.now (member_shown method.now) }
     {

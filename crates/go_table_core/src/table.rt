@@ -1,16 +1,15 @@
 //! Tables of defined types.
-ghost use Rattle.std.specs.Prelude.{◌≡◌, ◌↔◌, ◌++◌, [], ◌∷◌, length, IfOk, OnOk, OnErr, IfSome, None, option_map, option_copied, string_bytes, false, All};
+ghost use Rattle.std.specs.Prelude.{◌≡◌, ◌↔◌, ◌++◌, [], length, IfOk, OnOk, OnErr, IfSome, option_map, false, All};
 ghost use Rattle.go_table_core.specs.Entries.{find_entry, underlying_in, IsUnnamed};
 ghost use Rattle.go_term_core.specs.Shapes.{shape};
 ghost use Rattle.go_table_core.specs.Tables.{package_types, AreOf, KeysRise, ArePackageTypes, IsPlaceOf, AreOthers};
-ghost use Rattle.go_table_core.specs.mirrors.Holding.{packages_of, package_at, ArePlaced};
 
 use crate::entry::DefinedType;
+use go_named_core::NameTable;
 use go_settle_core::decl_core::{DeclKey, place_order};
 use go_settle_core::path_core::ImportPath;
 use go_term_core::TypeTerm;
 use std::alloc::{AllocError, Global};
-use std::collections::HashMap;
 use std::marker::Model;
 use std::sync::Arc;
 
@@ -57,12 +56,11 @@ struct Numbered {
 pub struct TypeTable {
     /// How many types there are.
     len: usize,
-    /// The packages that have types, in the order in which they were added.
-    packages: Vec<Numbered>,
-    /// Where they stand there, by their paths.
-    places: HashMap<String, usize>,
+    /// The packages that have types, by their paths, in the order in which they were added.
+    packages: NameTable<Numbered>,
     /// The term of what is no type, to be lent.
     nothing: TypeTerm,
+    alloc: Global,
 }
 
 impl Drop for TypeTable {
@@ -70,8 +68,8 @@ impl Drop for TypeTable {
         let TypeTable {
             len: _,
             packages: _,
-            places: _,
             nothing: _,
+            alloc: _,
         } = self;
     }
 }
@@ -82,15 +80,15 @@ impl Model for TypeTable {
     ghost use Rattle.go_term_core.specs.Shapes.{shape};
     ghost use Rattle.go_table_core.specs.Entries.{Entry};
     ghost use Rattle.go_table_core.specs.codes.EntryCodes.{coded_entry};
-    ghost use Rattle.go_table_core.specs.mirrors.Holding.{packages_of, all_entries, ArePlaced, IsTable};
+    ghost use Rattle.go_table_core.specs.mirrors.Holding.{all_entries, IsTable};
 
     ghost Value = { List Entry };
 
     ghost coded = { coded_list coded_entry };
 
-    ghost view = { λ t. all_entries (packages_of t.packages.items) };
+    ghost view = { λ t. all_entries t.packages.names };
 
-    ghost invariant = { λ t. IsTable t.len (packages_of t.packages.items) (shape t.nothing) × ArePlaced t.places t.packages.items };
+    ghost invariant = { λ t. IsTable t.len t.packages.names (shape t.nothing) };
 }
 
 /// A defined type of a table, with its place in the table's list of entries.
@@ -169,41 +167,6 @@ fn locate_in<'a>(types: &'a [DefinedType], key: &DeclKey) -> Option<Located<'a>>
     }
 }
 
-/// The types of the package of a path among packages that stand at these places.
-fn package_at<'a>(
-    packages: &'a [Numbered],
-    places: &HashMap<String, usize>,
-    path: &ImportPath,
-) -> Option<&'a Numbered>
-    requires { ArePlaced places.now packages.now }
-    ensures { option_copied result ≡ package_at (packages_of packages.now) path.now }
-{
-    let place = places.get(path.as_str())?;
-    packages.get(*place)
-}
-
-/// Adds the types of a package behind others, and notes where they stand. Where memory is wanting, all is as it was.
-fn add_package(
-    packages: &mut Vec<Numbered>,
-    places: &mut HashMap<String, usize>,
-    path: String,
-    numbered: Numbered,
-) -> Result<(), AllocError>
-    requires path { string_bytes path ≡ numbered.types.path }
-    requires absent { package_at (packages_of packages.old.items) numbered.types.path ≡ None }
-    requires placed { ArePlaced places.old packages.old.items }
-    ensures ok { OnOk result ((packages.new.items ≡ packages.old.items ++ numbered ∷ []) × ArePlaced places.new packages.new.items) }
-    ensures err { OnErr result ((packages.new.items ≡ packages.old.items) × ArePlaced places.new packages.new.items) }
-{
-    let place = packages.len();
-    packages.push(numbered)?;
-    let Ok(_) = places.insert(path, place) else {
-        let _ = packages.pop();
-        return Err(AllocError);
-    };
-    Ok(())
-}
-
 impl TypeTable {
     /// A table without types.
     pub fn new(alloc: Global) -> TypeTable
@@ -211,9 +174,9 @@ impl TypeTable {
     {
         TypeTable {
             len: 0,
-            packages: Vec::new(alloc),
-            places: HashMap::new(alloc),
+            packages: NameTable::new(alloc),
             nothing: TypeTerm::NoType,
+            alloc,
         }
     }
 
@@ -243,13 +206,13 @@ impl TypeTable {
             Some(len) => len,
             None => return Err(AllocError),
         };
-        let alloc = *self.packages.allocator();
-        let path = String::from_str(alloc, types.path().as_str())?;
+        let named = types.share()?;
         let numbered = Numbered {
             first: self.len,
             types,
         };
-        add_package(&mut self.packages, &mut self.places, path, numbered)?;
+        self.packages
+            .add(self.alloc, named.path().as_str(), numbered)?;
         self.len = len;
         Ok(())
     }
@@ -258,7 +221,7 @@ impl TypeTable {
     pub fn has_package(&self, path: &ImportPath) -> bool
         ensures { (result ≡ false) ↔ AreOthers path.now self.now }
     {
-        self.places.contains_key(path.as_str())
+        self.packages.find(path.as_str()).is_some()
     }
 
     /// The defined type of a declaration, with its place in the table's list, or none where the table has none.
@@ -269,7 +232,7 @@ impl TypeTable {
         if self.len == 0 {
             return None;
         }
-        let numbered = package_at(&self.packages, &self.places, &key.path)?;
+        let numbered = self.packages.find(key.path.as_str())?;
         let found = locate_in(numbered.types.types(), key)?;
         Some(Located {
             number: numbered.first + found.number,

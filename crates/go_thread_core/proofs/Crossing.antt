@@ -4,6 +4,7 @@ use denote.Param.{param}
 use denote.Param.Send.{IsSend, IsSync, param_send, param_sync, sendable}
 pub use Rattle.go_path_core.proofs.modules.Module.TheSendSync as path_Module
 use Rattle.std.proofs.Crossing as std
+use Rattle.std.proofs.MapsCrossing as maps
 use Rattle.std.proofs.MapsCrossing.{HashMap-send, HashMap-sync}
 use Rattle.go_tree_nodes.proofs.types.Fields.TheLaws.TheKnot as types
 use Rattle.go_tree_nodes.proofs.exprs.Expr.TheLaws.TheKnot as exprs
@@ -32,10 +33,13 @@ pub use Rattle.go_decl_core.proofs.places.DeclKind.TheSendSync as decl_DeclKind
 pub use Rattle.go_denote_core.proofs.things.Outcome.TheSendSync as denote_Outcome
 pub use Rattle.go_expr_core.proofs.things.Use.TheSendSync as expr_Use
 pub use Rattle.go_face_core.proofs.face.Face.TheSendSync as face_Face
+pub use Rattle.go_face_core.proofs.seen.SeenNames.TheSendSync as face_SeenNames
 pub use Rattle.go_index_core.proofs.spellings.Spelling.TheSendSync as index_Spelling
 pub use Rattle.go_index_core.proofs.spellings.Spellings.TheSendSync as index_Spellings
 pub use Rattle.go_instruction_core.proofs.instruction.Instruction.TheSendSync as instruction_Instruction
 pub use Rattle.go_level_core.proofs.path.EmbedPath.TheSendSync as level_EmbedPath
+pub use Rattle.go_named_core.proofs.named.NameTable.TheSendSync as named_NameTable
+pub use Rattle.go_named_core.proofs.places.Places.TheSendSync as named_Places
 pub use Rattle.go_local_core.proofs.Fault.TheSendSync as local_Fault
 pub use Rattle.go_operand_core.proofs.types.Operand.TheSendSync as operand_Operand
 pub use Rattle.go_operand_core.proofs.types.ValueType.TheSendSync as operand_ValueType
@@ -122,6 +126,8 @@ use Rattle.go_level_core.specs.table_core.contracts.entry.DefinedType as defined
 use Rattle.go_level_core.specs.table_core.contracts.table.PackageTypes as package_types
 use Rattle.go_face_core.specs.contracts.shown.DeclaredFace as declared_face
 use Rattle.go_face_core.specs.contracts.shown.PackageFaces as package_faces
+use Rattle.go_face_core.specs.contracts.seen.SeenNames as seen_names
+use Rattle.go_named_core.specs.contracts.places.Places as name_places
 use Rattle.go_snap_core.specs.summary_core.contracts.summary.Summary as summary
 use Rattle.go_snap_core.specs.summary_core.contracts.list.SummaryList as summary_list
 use Rattle.go_snap_core.specs.summary_core.contracts.reached.ReachedSummaries as reached
@@ -618,11 +624,37 @@ declared_face_row_sync = first_of (search (term_row_send, term_row_sync, term_se
 pub declared_face_sync : IsSync (declared_face.the_field).row
 declared_face_sync = first_of (search (declared_face_row_sync, term_row_send, term_row_sync, term_send, term_sync, term_signature_row_send, term_signature_row_sync, term_signature_send, term_signature_sync, path_ImportPath.the_send, path_ImportPath.the_sync, text_Name.the_send, text_Name.the_sync, std.crosses, sendable) depth 60 fits 20000, search (declared_face_row_sync, term_row_send, term_row_sync, term_send, term_sync, term_signature_row_send, term_signature_row_sync, term_signature_send, term_signature_sync, leaves, std.crosses, sendable) depth 60 fits 20000, search (declared_face_row_sync, term_row_send, term_row_sync, term_send, term_sync, term_signature_row_send, term_signature_row_sync, term_signature_send, term_signature_sync, declared_method_row_send, declared_method_row_sync, declared_method_send, declared_method_sync, type_entry_row_send, type_entry_row_sync, type_entry_send, type_entry_sync, defined_row_send, defined_row_sync, package_types_row_send, package_types_row_sync, leaves, std.crosses, sendable) depth 60 fits 20000)
 
+-- names as other packages see them, with the places where they stand
+
+name_places_row_send : IsSend name_places.the_row
+name_places_row_send = first_of (search (named_Places.the_send, maps.crosses, std.crosses, sendable) depth 60 fits 20000, search (maps.crosses, std.crosses, sendable) depth 60 fits 20000)
+
+name_places_send : IsSend (name_places.the_field).row
+name_places_send = first_of (search (named_Places.the_field_send, maps.crosses, std.crosses, sendable) depth 60 fits 20000, search (name_places_row_send, maps.crosses, std.crosses, sendable) depth 60 fits 20000)
+
+seen_names_row_send : IsSend seen_names.the_row
+seen_names_row_send = first_of (search (face_SeenNames.the_send, named_NameTable.the_send, name_places_row_send, name_places_send, decl_DeclRef.the_field_send, decl_DeclRef.the_send, std_Option.the_field_send, std_Option.the_send, maps.crosses, std.crosses, sendable) depth 60 fits 20000, search (name_places_row_send, name_places_send, leaves, maps.crosses, std.crosses, sendable) depth 60 fits 20000)
+
+seen_names_send : IsSend (seen_names.the_field).row
+seen_names_send = search (seen_names_row_send, std.crosses, sendable) depth 60 fits 20000
+
+name_places_row_sync : IsSync name_places.the_row
+name_places_row_sync = first_of (search (named_Places.the_sync, maps.crosses, std.crosses, sendable) depth 60 fits 20000, search (maps.crosses, std.crosses, sendable) depth 60 fits 20000)
+
+name_places_sync : IsSync (name_places.the_field).row
+name_places_sync = first_of (search (named_Places.the_field_sync, maps.crosses, std.crosses, sendable) depth 60 fits 20000, search (name_places_row_sync, maps.crosses, std.crosses, sendable) depth 60 fits 20000)
+
+seen_names_row_sync : IsSync seen_names.the_row
+seen_names_row_sync = first_of (search (face_SeenNames.the_sync, named_NameTable.the_sync, name_places_row_sync, name_places_sync, decl_DeclRef.the_field_sync, decl_DeclRef.the_sync, std_Option.the_field_sync, std_Option.the_sync, maps.crosses, std.crosses, sendable) depth 60 fits 20000, search (name_places_row_sync, name_places_sync, leaves, maps.crosses, std.crosses, sendable) depth 60 fits 20000)
+
+seen_names_sync : IsSync (seen_names.the_field).row
+seen_names_sync = search (seen_names_row_sync, std.crosses, sendable) depth 60 fits 20000
+
 pub package_faces_row_send : IsSend package_faces.the_row
-package_faces_row_send = first_of (search (declared_face_row_send, declared_face_row_sync, declared_face_send, declared_face_sync, path_ImportPath.the_send, path_ImportPath.the_sync, text_Name.the_send, text_Name.the_sync, std.crosses, sendable) depth 60 fits 20000, search (declared_face_row_send, declared_face_row_sync, declared_face_send, declared_face_sync, leaves, std.crosses, sendable) depth 60 fits 20000, search (declared_face_row_send, declared_face_row_sync, declared_face_send, declared_face_sync, term_row_send, term_row_sync, term_send, term_sync, term_signature_row_send, term_signature_row_sync, term_signature_send, term_signature_sync, declared_method_row_send, declared_method_row_sync, declared_method_send, declared_method_sync, type_entry_row_send, type_entry_row_sync, type_entry_send, type_entry_sync, defined_row_send, defined_row_sync, package_types_row_send, package_types_row_sync, leaves, std.crosses, sendable) depth 60 fits 20000)
+package_faces_row_send = first_of (search (seen_names_row_send, seen_names_row_sync, seen_names_send, seen_names_sync, declared_face_row_send, declared_face_row_sync, declared_face_send, declared_face_sync, path_ImportPath.the_send, path_ImportPath.the_sync, text_Name.the_send, text_Name.the_sync, std.crosses, sendable) depth 60 fits 20000, search (seen_names_row_send, seen_names_row_sync, seen_names_send, seen_names_sync, declared_face_row_send, declared_face_row_sync, declared_face_send, declared_face_sync, leaves, std.crosses, sendable) depth 60 fits 20000, search (seen_names_row_send, seen_names_row_sync, seen_names_send, seen_names_sync, declared_face_row_send, declared_face_row_sync, declared_face_send, declared_face_sync, term_row_send, term_row_sync, term_send, term_sync, term_signature_row_send, term_signature_row_sync, term_signature_send, term_signature_sync, declared_method_row_send, declared_method_row_sync, declared_method_send, declared_method_sync, type_entry_row_send, type_entry_row_sync, type_entry_send, type_entry_sync, defined_row_send, defined_row_sync, package_types_row_send, package_types_row_sync, leaves, std.crosses, sendable) depth 60 fits 20000)
 
 pub package_faces_row_sync : IsSync package_faces.the_row
-package_faces_row_sync = first_of (search (declared_face_row_send, declared_face_row_sync, declared_face_send, declared_face_sync, path_ImportPath.the_send, path_ImportPath.the_sync, text_Name.the_send, text_Name.the_sync, std.crosses, sendable) depth 60 fits 20000, search (declared_face_row_send, declared_face_row_sync, declared_face_send, declared_face_sync, leaves, std.crosses, sendable) depth 60 fits 20000, search (declared_face_row_send, declared_face_row_sync, declared_face_send, declared_face_sync, term_row_send, term_row_sync, term_send, term_sync, term_signature_row_send, term_signature_row_sync, term_signature_send, term_signature_sync, declared_method_row_send, declared_method_row_sync, declared_method_send, declared_method_sync, type_entry_row_send, type_entry_row_sync, type_entry_send, type_entry_sync, defined_row_send, defined_row_sync, package_types_row_send, package_types_row_sync, leaves, std.crosses, sendable) depth 60 fits 20000)
+package_faces_row_sync = first_of (search (seen_names_row_send, seen_names_row_sync, seen_names_send, seen_names_sync, declared_face_row_send, declared_face_row_sync, declared_face_send, declared_face_sync, path_ImportPath.the_send, path_ImportPath.the_sync, text_Name.the_send, text_Name.the_sync, std.crosses, sendable) depth 60 fits 20000, search (seen_names_row_send, seen_names_row_sync, seen_names_send, seen_names_sync, declared_face_row_send, declared_face_row_sync, declared_face_send, declared_face_sync, leaves, std.crosses, sendable) depth 60 fits 20000, search (seen_names_row_send, seen_names_row_sync, seen_names_send, seen_names_sync, declared_face_row_send, declared_face_row_sync, declared_face_send, declared_face_sync, term_row_send, term_row_sync, term_send, term_sync, term_signature_row_send, term_signature_row_sync, term_signature_send, term_signature_sync, declared_method_row_send, declared_method_row_sync, declared_method_send, declared_method_sync, type_entry_row_send, type_entry_row_sync, type_entry_send, type_entry_sync, defined_row_send, defined_row_sync, package_types_row_send, package_types_row_sync, leaves, std.crosses, sendable) depth 60 fits 20000)
 
 pub summary_row_send : IsSend summary.the_row
 summary_row_send = first_of (search (package_types_row_send, package_types_row_sync, package_faces_row_send, package_faces_row_sync, path_ImportPath.the_send, path_ImportPath.the_sync, text_Name.the_send, text_Name.the_sync, std.crosses, sendable) depth 60 fits 20000, search (package_types_row_send, package_types_row_sync, package_faces_row_send, package_faces_row_sync, leaves, std.crosses, sendable) depth 60 fits 20000, search (package_types_row_send, package_types_row_sync, package_faces_row_send, package_faces_row_sync, term_row_send, term_row_sync, term_send, term_sync, term_signature_row_send, term_signature_row_sync, term_signature_send, term_signature_sync, declared_method_row_send, declared_method_row_sync, declared_method_send, declared_method_sync, type_entry_row_send, type_entry_row_sync, type_entry_send, type_entry_sync, defined_row_send, defined_row_sync, declared_face_row_send, declared_face_row_sync, declared_face_send, declared_face_sync, leaves, std.crosses, sendable) depth 60 fits 20000)

@@ -47,8 +47,8 @@ value_spec_of xs t vs = record { names = xs; type_expr = t; values = vs }
 abbrev pub value_of : ValueKind → Span → Specs ValueSpecTree → ValueTree
 value_of kind keyword specs = record { kind = kind; keyword = keyword; specs = specs }
 
-abbrev type_spec_of : Ident → TypeTree → TypeSpecTree
-type_spec_of x t = record { name = x; type_expr = t }
+abbrev type_spec_of : Option Span → Ident → TypeTree → TypeSpecTree
+type_spec_of alias x t = record { name = x; alias = alias; type_expr = t }
 
 abbrev pub type_decl_of : Span → Specs TypeSpecTree → TypeDeclTree
 type_decl_of keyword specs = record { keyword = keyword; specs = specs }
@@ -151,7 +151,7 @@ module _ (h : Ident → Ident) (k : (x : Ident) → h x ≡ x) where
   keeps_value v = ap (value_of v.kind v.keyword) (keeps_specs (value_spec_with h) keeps_value_spec v.specs)
 
   keeps_type_spec : Keeps (type_spec_with h)
-  keeps_type_spec t = ap (λ x. type_spec_of x (type_with h t.type_expr)) (k t.name) ∙ ap (type_spec_of t.name) (keeps_type t.type_expr)
+  keeps_type_spec t = ap (λ x. type_spec_of t.alias x (type_with h t.type_expr)) (k t.name) ∙ ap (type_spec_of t.alias t.name) (keeps_type t.type_expr)
 
   keeps_type_decl : Keeps (type_decl_with h)
   keeps_type_decl t = ap (type_decl_of t.keyword) (keeps_specs (type_spec_with h) keeps_type_spec t.specs)

@@ -119,7 +119,7 @@ abbrev pub value_with : (Ident → Ident) → ValueTree → ValueTree
 value_with h v = record { kind = v.kind; keyword = v.keyword; specs = specs_with (value_spec_with h) v.specs }
 
 abbrev pub type_spec_with : (Ident → Ident) → TypeSpecTree → TypeSpecTree
-type_spec_with h t = record { name = h t.name; type_expr = type_with h t.type_expr }
+type_spec_with h t = record { name = h t.name; alias = t.alias; type_expr = type_with h t.type_expr }
 
 abbrev pub type_decl_with : (Ident → Ident) → TypeDeclTree → TypeDeclTree
 type_decl_with h t = record { keyword = t.keyword; specs = specs_with (type_spec_with h) t.specs }

@@ -106,7 +106,11 @@ fn copy_type_spec(copier: &Copier<'_>, spec: &TypeSpec) -> Result<TypeSpec, Allo
 {
     let name = copy_ident(copier, &spec.name);
     let (name, type_expr) = copied!(both(name, copy_type(copier, &spec.type_expr)));
-    Ok(TypeSpec { name, type_expr })
+    Ok(TypeSpec {
+        name,
+        alias: spec.alias,
+        type_expr,
+    })
 }
 
 // The same specifications of types in parentheses.

@@ -167,7 +167,7 @@ value_makes : (v : ValueTree) → Makes (spell_value v) (value_occs v)
 value_makes v = makes_skip (specs_makes spell_value_spec value_spec_occs value_spec_makes v.specs)
 
 type_spec_makes : (t : TypeSpecTree) → Makes (spell_type_spec t) (type_spec_occs t)
-type_spec_makes t = makes_skip (type_makes t.type_expr)
+type_spec_makes t = makes_skip (makes_second _ (type_makes t.type_expr))
 
 type_decl_makes : (t : TypeDeclTree) → Makes (spell_types t) (type_decl_occs t)
 type_decl_makes t = makes_skip (specs_makes spell_type_spec type_spec_occs type_spec_makes t.specs)

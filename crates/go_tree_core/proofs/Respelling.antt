@@ -142,7 +142,7 @@ module _ (start : ℕ) (name : List ℕ) where
   value_anew v = next (specs_anew spell_value_spec (value_spec_with h) value_spec_anew v.specs)
 
   type_spec_anew : (t : TypeSpecTree) → spell_type_spec (type_spec_with h t) ≡ anew (spell_type_spec t)
-  type_spec_anew t = next (type_anew t.type_expr)
+  type_spec_anew t = next (both _ _ (spell_some operator.Assign t.alias) _ (some_anew operator.Assign t.alias) (type_anew t.type_expr))
 
   types_anew : (t : TypeDeclTree) → spell_types (type_decl_with h t) ≡ anew (spell_types t)
   types_anew t = next (specs_anew spell_type_spec (type_spec_with h) type_spec_anew t.specs)

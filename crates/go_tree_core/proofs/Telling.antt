@@ -337,7 +337,7 @@ value_decl_tells : (v : ValueTree) → Tells (spell_value v) (value_occs v) (tak
 value_decl_tells v = tells_skip refl (plain_tell v.specs (specs_tell spell_value_spec value_spec_occs (take_value_spec taking_names) (take_value_spec taking_blanks) (take_value_spec taking_calls) nothing value_spec_tells v.specs))
 
 type_spec_tells : (t : TypeSpecTree) → Tells (spell_type_spec t) (type_spec_occs t) (take_type_spec taking_names t) (take_type_spec taking_blanks t) (take_type_spec taking_calls t) []
-type_spec_tells t = tells_declared (type_tells t.type_expr)
+type_spec_tells t = tells_declared (tells_second _ (some_quiet operator.Assign t.alias) (type_tells t.type_expr))
 
 type_decl_tells : (t : TypeDeclTree) → Tells (spell_types t) (type_decl_occs t) (take_types taking_names t) (take_types taking_blanks t) (take_types taking_calls t) []
 type_decl_tells t = tells_skip refl (plain_tell t.specs (specs_tell spell_type_spec type_spec_occs (take_type_spec taking_names) (take_type_spec taking_blanks) (take_type_spec taking_calls) nothing type_spec_tells t.specs))

@@ -218,8 +218,14 @@ Wf_specs P (Group first xs last) = Wf_group P xs
 abbrev pub Wf_value : ValueTree → Type 0
 Wf_value v = Wf_specs (Wf_value_spec v.kind) v.specs
 
+-- an alias is one of a type's name, without parentheses
+abbrev pub IsAliasOfName : Option Span → TypeTree → Type 0
+IsAliasOfName None t = Unit {0}
+IsAliasOfName (Some s) (NamedType n) = Unit {0}
+IsAliasOfName (Some s) _ = ⊥
+
 abbrev pub Wf_type_spec : TypeSpecTree → Type 0
-Wf_type_spec t = Wf_type t.type_expr
+Wf_type_spec t = Wf_type t.type_expr × IsAliasOfName t.alias t.type_expr
 
 abbrev pub Wf_types : TypeDeclTree → Type 0
 Wf_types t = Wf_specs Wf_type_spec t.specs

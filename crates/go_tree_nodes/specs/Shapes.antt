@@ -125,7 +125,7 @@ abbrev pub shape_value : ValueDecl → ValueTree
 shape_value v = record { kind = v.kind; keyword = v.keyword; specs = shape_value_specs v.specs }
 
 abbrev pub shape_type_spec : TypeSpec → TypeSpecTree
-shape_type_spec t = record { name = t.name; type_expr = shape_type t.type_expr }
+shape_type_spec t = record { name = t.name; alias = t.alias; type_expr = shape_type t.type_expr }
 
 abbrev pub shape_type_line : TypeLine → TypeSpecTree × Option Span
 shape_type_line l = (shape_type_spec l.spec, l.semicolon)

@@ -138,7 +138,7 @@ abbrev pub spell_value : ValueTree → List Terminal
 spell_value v = word (keyword_of v.kind) v.keyword ∷ spell_specs spell_value_spec v.specs
 
 abbrev pub spell_type_spec : TypeSpecTree → List Terminal
-spell_type_spec t = spell_ident t.name ∷ spell_type t.type_expr
+spell_type_spec t = spell_ident t.name ∷ (spell_some operator.Assign t.alias ++ spell_type t.type_expr)
 
 abbrev pub spell_types : TypeDeclTree → List Terminal
 spell_types t = word keyword.«Type» t.keyword ∷ spell_specs spell_type_spec t.specs

@@ -85,8 +85,10 @@ pub record ValueTree : Type 0 where
   pub keyword : Span
   pub specs : Specs ValueSpecTree
 
+-- the name of a type, the place of `=` where it is an alias, and the type
 pub record TypeSpecTree : Type 0 where
   pub name : Ident
+  pub alias : Option Span
   pub type_expr : TypeTree
 
 -- a declaration of types

@@ -95,6 +95,8 @@ impl Drop for ValueDecl {
 /// The name of a type, and the type that it stands for.
 pub struct TypeSpec {
     pub name: Ident,
+    /// The place of `=` where it is an alias, whose type is a name.
+    pub alias: Option<Span>,
     pub type_expr: TypeExpr,
 }
 
@@ -102,6 +104,7 @@ impl Drop for TypeSpec {
     fn drop(self) {
         let TypeSpec {
             name: _,
+            alias: _,
             type_expr: _,
         } = self;
     }

@@ -1,5 +1,5 @@
 -- What a text names where a type is written at the top of a file that imports nothing.
-use Rattle.std.proofs.Common.{◌≡◌, ◌⊎◌, inl, inr, ℕ, ◌++◌, ◌≤◌, true, false, List, [], ◌∷◌, length, Option, Some, None, refl, sym, ap, ◌∙◌, subst, arith, if◌then◌else◌}
+use Rattle.std.proofs.Common.{◌≡◌, ◌⊎◌, inl, inr, ℕ, ◌≤◌, true, false, List, [], ◌∷◌, length, Option, Some, None, sym, ap, ◌∙◌, subst, arith, if◌then◌else◌}
 use Rattle.std.proofs.lemmas.List.{length-map}
 use Rattle.go_text_core.specs.Text.{is_blank}
 use Rattle.go_text_core.specs.declared.rule.Rule.{Rule}
@@ -15,19 +15,18 @@ use Rattle.go_query_core.specs.scope_core.Laws.{denotes}
 use Rattle.go_query_core.specs.scope_core.Models.{ScopesModel, scopes_model}
 use Rattle.go_query_core.specs.scope_core.Scopes.{Denoted, scope_blocks}
 use Rattle.go_term_core.specs.Terms.{Term}
-use Rattle.go_member_core.specs.table_core.Entries.{Entry}
 use Rattle.go_member_core.specs.denote_core.declared.things.Stand.TheVariants as stands
 use Rattle.go_member_core.specs.denote_core.Answers.{found_answer, refused}
+use Rattle.go_decl_core.specs.declared.keys.DeclRef.{DeclRef}
+use Rattle.go_query_core.specs.env_core.Found.{face_at}
 use Rattle.go_query_core.specs.face_core.Faces.{TheFace}
+use Rattle.go_query_core.specs.face_core.Written.{WrittenOf}
 use Rattle.go_query_core.specs.ready_core.Packages.{PackageIn}
-use Rattle.go_query_core.specs.ready_core.Values.{AreDeclared}
-use Rattle.go_query_core.specs.summary_core.Summaries.{SummaryModel}
-use Rattle.go_query_core.specs.summary_core.Views.{types_told}
 use Rattle.go_query_core.specs.part_core.Inputs.{path_in}
 use Rattle.go_query_core.specs.part_core.Parts.{IsPart, PartModel, package_seen, seen_by}
 use Rattle.go_type_doc_core.specs.Naming.{IsOwnRefusal, IsOwnType, fresh_look, own_answer, types_seen}
 use Rattle.go_type_doc_core.specs.Names.{BreaksRule, NamesType, TheAnswer}
-use Rattle.go_type_doc_core.specs.mirrors.Named.{IsRuleOf, IsTypeOf}
+use Rattle.go_type_doc_core.specs.mirrors.Named.{HasOwnPlaces, IsRuleIn, IsRuleOf, IsTypeIn, IsTypeOf, known_of, own_known}
 use Rattle.go_type_doc_core.proofs.Fresh.{given, refused_given, typed_given}
 
 -- files have no more blocks than there are files
@@ -52,16 +51,8 @@ module _ (p : PartModel) (made : IsPart p.input p.content) (have : AllHaveTrees 
   abbrev seen : PackageIn
   seen = package_seen p.input p.content.blocks (seen_by p.input)
 
-  types_are : types_seen p ≡ types_told p.input.reached ++ made.checked.types
-  types_are = ap (λ (s : SummaryModel). types_told p.input.reached ++ s.types.entries) made.summary
-
-  declared_are : AreDeclared seen (types_seen p) p.content.declared
-  declared_are =
-      subst (λ (l : List Entry). AreDeclared seen l p.content.declared) (sym types_are)
-      (subst (λ (k : List (Option TheFace)). AreDeclared seen (types_told p.input.reached ++ made.checked.types) k) (sym made.declared) made.is_checked.declared)
-
   abbrev answer : Option Denoted → TheAnswer
-  answer o = given seen (trees_of p.input.source.1) refl made.blocks.package_names (types_seen p) p.content.declared declared_are number few name o
+  answer o = given seen (types_seen p) p.content.declared number few name o
 
   module _ (plain : is_blank name ≡ false) where
     answer_is : (o : Option Denoted) → denotes (scopes_model p.content.blocks number []) name ≡ o → own_answer p name ≡ answer o
@@ -70,20 +61,26 @@ module _ (p : PartModel) (made : IsPart p.input p.content) (have : AllHaveTrees 
     pub undeclared : denotes (scopes_model p.content.blocks number []) name ≡ None → IsOwnRefusal p name N1
     undeclared e = ap (λ (a : TheAnswer). a.outcome) (answer_is None e)
 
-    -- as the code says it
-    module _ (den : Denoted) (e : denotes (scopes_model p.content.blocks number []) name ≡ Some den) (path : List ℕ) (is : path ≡ path_in p.input) (es : List Entry) (types : es ≡ types_seen p) where
-      pub typed_in : (t : Option Term) → IsTypeOf path es den t → IsOwnType p name t
-      typed_in t h =
-          subst (λ (a : TheAnswer). NamesType a t) (sym (answer_is (Some den) e))
-          (typed_given seen (trees_of p.input.source.1) refl made.blocks.package_names (types_seen p) p.content.declared declared_are number few name den e t
-          (subst (λ (q : List ℕ). IsTypeOf q (types_seen p) den t) is (subst (λ (l : List Entry). IsTypeOf path l den t) types h)))
+    -- by what is known of the package's own declarations
+    module _ (den : Denoted) (e : denotes (scopes_model p.content.blocks number []) name ≡ Some den) where
+      pub typed_in : (t : Option Term) → IsTypeIn p den t → IsOwnType p name t
+      typed_in t h = subst (λ (a : TheAnswer). NamesType a t) (sym (answer_is (Some den) e)) (typed_given seen (types_seen p) p.content.declared number few name den e t h)
 
-      pub refused_in : (rule : Rule) → (rule ≡ M0) ⊎ IsRuleOf path den rule → (rule ≡ M0) ⊎ IsOwnRefusal p name rule
+      pub refused_in : (rule : Rule) → (rule ≡ M0) ⊎ IsRuleIn p den rule → (rule ≡ M0) ⊎ IsOwnRefusal p name rule
       refused_in rule (inl memory) = inl memory
-      refused_in rule (inr h) =
-          let named = subst (λ (q : List ℕ). IsRuleOf q den rule) is h in
-          inr (subst (λ (a : TheAnswer). BreaksRule a rule) (sym (answer_is (Some den) e))
-          (refused_given seen (trees_of p.input.source.1) refl made.blocks.package_names (types_seen p) p.content.declared declared_are number few name den e rule named))
+      refused_in rule (inr h) = inr (subst (λ (a : TheAnswer). BreaksRule a rule) (sym (answer_is (Some den) e)) (refused_given seen (types_seen p) p.content.declared number few name den e rule h))
+
+-- the same by any list that has the declarations at their places
+module _ (p : PartModel) (den : Denoted) (path : List ℕ) (is : path ≡ path_in p.input) (ws : List WrittenOf) (placed : HasOwnPlaces p ws) (known : List (Option TheFace)) (all : known ≡ p.content.declared) where
+  own_is : known_of ws known ≡ own_known p
+  own_is = λ j d. face_at (all j) (placed d j)
+
+  pub typed_own : (t : Option Term) → IsTypeOf path (known_of ws known) den t → IsTypeIn p den t
+  typed_own t h = subst (λ (q : List ℕ). IsTypeOf q (own_known p) den t) is (subst (λ (f : DeclRef → Option TheFace). IsTypeOf path f den t) own_is h)
+
+  pub refused_own : (rule : Rule) → (rule ≡ M0) ⊎ IsRuleOf path (known_of ws known) den rule → (rule ≡ M0) ⊎ IsRuleIn p den rule
+  refused_own rule (inl memory) = inl memory
+  refused_own rule (inr h) = inr (subst (λ (q : List ℕ). IsRuleOf q (own_known p) den rule) is (subst (λ (f : DeclRef → Option TheFace). IsRuleOf path f den rule) own_is h))
 
 pub own_blank : (p : PartModel) (name : List ℕ) → is_blank name ≡ true → IsOwnRefusal p name N8
 own_blank p name is =

@@ -1,14 +1,12 @@
 -- What a text stands for where a type is written at the top of a file that imports nothing.
-use Rattle.std.proofs.Common.{◌≡◌, ℕ, ◌≤◌, Bool, true, false, List, [], length, map, Option, Some, None, slice_get, refl, sym, ap, ◌∙◌, subst, if◌then◌else◌}
+use Rattle.std.proofs.Common.{◌≡◌, ℕ, ◌≤◌, Bool, true, false, List, [], length, Option, Some, None, slice_get, refl, sym, ap, ◌∙◌, subst, if◌then◌else◌}
 use Rattle.std.proofs.lemmas.Option.{same_Some, slice_get_past}
 use Rattle.go_text_core.specs.declared.rule.Rule.{Rule}
 use Rattle.go_text_core.specs.declared.rule.Rule.TheVariants.{N6}
 use Rattle.go_universe_core.specs.declared.Predeclared.{Predeclared}
 use Rattle.go_universe_core.specs.Universe.{found}
 use Rattle.go_decl_core.specs.declared.keys.DeclRef.{DeclRef}
-use Rattle.go_query_core.specs.graph_core.Packages.{Trees, tree_shown}
 use Rattle.go_query_core.specs.block_core.Blocks.{file_binding, in_some}
-use Rattle.go_query_core.specs.block_core.Holding.{package_block}
 use Rattle.go_query_core.specs.block_core.Tables.{has, in_block}
 use Rattle.go_query_core.specs.scope_core.Laws.{denotes}
 use Rattle.go_query_core.specs.scope_core.Models.{scopes_model}
@@ -29,10 +27,8 @@ use Rattle.go_query_core.specs.face_core.Faces.{TheFace}
 use Rattle.go_query_core.specs.env_core.declared.meaning.Meaning.TheVariants as meanings
 use Rattle.go_query_core.specs.env_core.Found.{TheFound, found_face, found_of, own_face}
 use Rattle.go_query_core.specs.ready_core.Packages.{PackageIn, scene_in}
-use Rattle.go_query_core.specs.ready_core.Values.{AreDeclared}
 use Rattle.go_type_doc_core.specs.Names.{BreaksRule, NamesType, TheAnswer}
-use Rattle.go_type_doc_core.specs.mirrors.Named.{IsRuleOf, IsTypeOf}
-use Rattle.go_type_doc_core.proofs.Known.{IsNoType, face_plain, face_typed}
+use Rattle.go_type_doc_core.specs.mirrors.Named.{IsNoType, IsRuleOf, IsTypeOf}
 
 -- what something has where a type is written; what is no type breaks N6
 abbrev pub named_by : TheFound → TheAnswer
@@ -44,7 +40,7 @@ none_named d (Some (faces.«Type» t)) h = absurd h
 none_named d (Some (faces.Func g)) h = refl
 none_named d (Some (faces.«Value» o)) h = refl
 
-module _ (seen : PackageIn) (ts : Trees) (trees : seen.trees ≡ map tree_shown ts) (names : seen.blocks.names ≡ package_block ts) (es : List Entry) (known : List (Option TheFace)) (declared : AreDeclared seen es known)
+module _ (seen : PackageIn) (es : List Entry) (known : List (Option TheFace))
     (number : ℕ) (few : length seen.blocks.files ≤ number) (name : List ℕ)
   where
     abbrev block : Option DeclRef
@@ -81,22 +77,23 @@ module _ (seen : PackageIn) (ts : Trees) (trees : seen.trees ≡ map tree_shown 
       by_block P None (Some u) at is own universe = subst P (same_Some (Universe u) den is) (universe u)
       by_block P None None at is own universe = (let empty : ◌≡◌ {A = Option Denoted} None (Some den) = is in cc)
 
-      package_typed : (t : Option Term) (d : DeclRef) → block ≡ Some d → IsTypeOf seen.path es (Package d) t → NamesType (given (Some (Package d))) t
-      package_typed t d at h =
-          let decl : Declaration = InFile seen.path (places.Declared d) in
-          (decl, ap (λ (o : Option TheFace). (named_by (found_face decl o)).denoted) (face_typed seen ts trees names es known declared name d at h.0) ∙ ap (denotes_as.«Type» decl) (sym h.1))
+      abbrev own : DeclRef → Option TheFace
+      own d = own_face (scene_in seen es) known d
 
-      universe_typed : (t : Option Term) (u : Predeclared) → IsTypeOf seen.path es (Universe u) t → NamesType (given (Some (Universe u))) t
+      package_typed : (t : Option Term) (d : DeclRef) → block ≡ Some d → IsTypeOf seen.path own (Package d) t → NamesType (given (Some (Package d))) t
+      package_typed t d at h = (let decl : Declaration = InFile seen.path (places.Declared d) in (decl, ap (λ (o : Option TheFace). (named_by (found_face decl o)).denoted) h))
+
+      universe_typed : (t : Option Term) (u : Predeclared) → IsTypeOf seen.path own (Universe u) t → NamesType (given (Some (Universe u))) t
       universe_typed t u h = (declarations.Universe u, ap (λ (f : TheFound). (named_by f).denoted) h.2 ∙ ap (denotes_as.«Type» (declarations.Universe u)) (sym h.1))
 
-      pub typed_given : (t : Option Term) → IsTypeOf seen.path es den t → NamesType (given (Some den)) t
-      typed_given t h = by_block (λ x. IsTypeOf seen.path es x t → NamesType (given (Some x)) t) block (found name) refl (sym denoted_is ∙ e) (package_typed t) (universe_typed t) h
+      pub typed_given : (t : Option Term) → IsTypeOf seen.path own den t → NamesType (given (Some den)) t
+      typed_given t h = by_block (λ x. IsTypeOf seen.path own x t → NamesType (given (Some x)) t) block (found name) refl (sym denoted_is ∙ e) (package_typed t) (universe_typed t) h
 
-      package_refused : (rule : Rule) (d : DeclRef) → block ≡ Some d → IsRuleOf seen.path (Package d) rule → BreaksRule (given (Some (Package d))) rule
-      package_refused rule d at h = none_named (InFile seen.path (places.Declared d)) (own_face (scene_in seen es) known d) (face_plain seen ts trees names es known declared name d at h.1) ∙ ap outcomes.Refused (sym h.0)
+      package_refused : (rule : Rule) (d : DeclRef) → block ≡ Some d → IsRuleOf seen.path own (Package d) rule → BreaksRule (given (Some (Package d))) rule
+      package_refused rule d at h = none_named (InFile seen.path (places.Declared d)) (own_face (scene_in seen es) known d) h.1 ∙ ap outcomes.Refused (sym h.0)
 
-      universe_refused : (rule : Rule) (u : Predeclared) → IsRuleOf seen.path (Universe u) rule → BreaksRule (given (Some (Universe u))) rule
+      universe_refused : (rule : Rule) (u : Predeclared) → IsRuleOf seen.path own (Universe u) rule → BreaksRule (given (Some (Universe u))) rule
       universe_refused rule u h = h
 
-      pub refused_given : (rule : Rule) → IsRuleOf seen.path den rule → BreaksRule (given (Some den)) rule
-      refused_given rule h = by_block (λ x. IsRuleOf seen.path x rule → BreaksRule (given (Some x)) rule) block (found name) refl (sym denoted_is ∙ e) (package_refused rule) (universe_refused rule) h
+      pub refused_given : (rule : Rule) → IsRuleOf seen.path own den rule → BreaksRule (given (Some den)) rule
+      refused_given rule h = by_block (λ x. IsRuleOf seen.path own x rule → BreaksRule (given (Some x)) rule) block (found name) refl (sym denoted_is ∙ e) (package_refused rule) (universe_refused rule) h

@@ -1,70 +1,43 @@
 -- What is known of the declarations of a package, by their kinds.
 use Rattle.std.proofs.Common.{◌≡◌, ℕ, true, false, List, [], ◌∷◌, length, map, Option, Some, None, slice_get, refl, sym, ap, ◌∙◌, subst, arith}
-use Rattle.std.specs.Prelude.{All, Contains, option_map}
+use Rattle.std.specs.Prelude.{All, option_map}
 use Rattle.std.proofs.lemmas.Bool.{true≢false}
 use Rattle.std.proofs.lemmas.List.Elements.{All-cons}
-use Rattle.std.proofs.lemmas.Option.{get_or_from_slice_get, slice_get-map, slice_get_within}
+use Rattle.std.proofs.lemmas.Option.{slice_get-map}
 use Rattle.go_tree_nodes.specs.declared.decls.ValueKind.{ValueKind}
 use Rattle.go_tree_nodes.specs.declared.decls.ValueKind.TheVariants as value_kinds
-use Rattle.go_tree_nodes.specs.declared.files.Receiver.{Receiver}
 use Rattle.go_tree_nodes.specs.Trees.{FileTree, TypeTree, ValueSpecTree}
-use Rattle.go_decl_core.specs.declared.keys.DeclKey.{DeclKey}
 use Rattle.go_decl_core.specs.declared.keys.DeclRef.{DeclRef}
-use Rattle.go_decl_core.specs.declared.places.DeclKind.{DeclKind}
-use Rattle.go_decl_core.specs.declared.places.DeclKind.TheVariants as kinds
-use Rattle.go_decl_core.specs.Outer.{kind_of_func, kind_of_value}
 use Rattle.go_decl_core.specs.TopDecls.{FormTree, FuncForm, TypeForm, ValueForm, kind_of_form, top_decls}
 use Rattle.go_query_core.specs.graph_core.Packages.{Trees, tree_shown}
-use Rattle.go_query_core.specs.block_core.Bindings.{key_of}
 use Rattle.go_query_core.specs.block_core.Declarations.{decl_ref}
 use Rattle.go_query_core.specs.block_core.Holding.{package_block}
 use Rattle.go_query_core.specs.block_core.Tables.{in_block}
-use Rattle.go_term_core.specs.Terms.{Defined}
-use Rattle.go_member_core.specs.table_core.Entries.{Entry, find_entry}
-use Rattle.go_member_core.specs.decide_core.Rules.{typed}
+use Rattle.go_member_core.specs.table_core.Entries.{Entry}
 use Rattle.go_written_core.specs.Written.{InFile, Meaning}
-use Rattle.go_query_core.specs.entry_core.Entries.{file_at, type_key}
+use Rattle.go_query_core.specs.entry_core.Entries.{file_at}
 use Rattle.go_query_core.specs.entry_core.Laws.{IsDeclaredInFile}
 use Rattle.go_query_core.specs.entry_core.Meanings.{file_meaning}
 use Rattle.go_query_core.specs.entry_core.Outlines.{FileOutline, IsOutline, outline_of}
 use Rattle.go_query_core.specs.entry_core.Among.{among_to}
-use Rattle.go_needs_core.specs.Needs.{known_in, needed}
-use Rattle.go_needs_core.proofs.Needed.{endless_never}
-use Rattle.go_query_core.specs.face_core.declared.face.Face.TheVariants as faces
+use Rattle.go_needs_core.specs.Needs.{known_in}
 use Rattle.go_query_core.specs.face_core.Faces.{TheFace}
 use Rattle.go_query_core.specs.face_core.Laws.{FileDecl, Stands, package_decls, written_there}
-use Rattle.go_query_core.specs.face_core.Written.{WrittenOf, face_found, form_as_written, package_written, type_face, value_as_written, written_at, written_of}
+use Rattle.go_query_core.specs.face_core.Written.{WrittenOf, face_found, form_as_written, package_written, value_as_written, written_at, written_of}
 use Rattle.go_query_core.specs.face_core.Places.{positions_are_exact}
 use Rattle.go_query_core.specs.env_core.Found.{face_at, own_face}
 use Rattle.go_query_core.specs.env_core.Looks.{TheLooks}
 use Rattle.go_query_core.specs.env_core.Scenes.{SceneModel}
-use Rattle.go_query_core.specs.value_core.Package.{first_values, form_face, form_idents, idents_need, value_face}
+use Rattle.go_query_core.specs.value_core.Package.{first_values, form_face, value_face}
 use Rattle.go_query_core.specs.func_core.Stands.{outer_looks}
-use Rattle.go_query_core.specs.ready_core.Packages.{PackageIn, outlines_in, scene_in, stand_in}
-use Rattle.go_query_core.specs.ready_core.Values.{AreDeclared, file_decl_needs, needs_in, some_decl_face}
-use Rattle.go_type_doc_core.specs.mirrors.Named.{IsNoTypeFace, is_type}
+use Rattle.go_query_core.specs.ready_core.Packages.{PackageIn, outlines_in, scene_in, shows_in, stand_in}
+use Rattle.go_query_core.specs.ready_core.Values.{AreDeclared, some_decl_face}
+use Rattle.go_type_doc_core.specs.mirrors.Named.{IsNoType, IsNoTypeFace, is_type}
 use Rattle.go_type_doc_core.proofs.Blocked.{IsDeclOf, block_declares}
 
 -- by the form of a declaration
 
-type_kind : (k : DeclKind) → is_type k ≡ true → k ≡ kinds.«Type»
-type_kind kinds.«Type» h = refl
-type_kind _ h = absurd (true≢false (sym h))
-
-value_is_none : (k : ValueKind) → is_type (kind_of_value k) ≡ true → ⊥
-value_is_none value_kinds.Const h = true≢false (sym h)
-value_is_none value_kinds.Var h = true≢false (sym h)
-
-func_is_none : (r : Option Receiver) → is_type (kind_of_func r) ≡ true → ⊥
-func_is_none None h = true≢false (sym h)
-func_is_none (Some r) h = true≢false (sym h)
-
 module _ (looks : TheLooks) (mean : Meaning) (f : InFile) (es : List Entry) (n : ℕ) where
-  typed_form : (form : FormTree) → is_type (kind_of_form form) ≡ true → form_face looks (form_as_written mean f es n form) form ≡ type_face f es n
-  typed_form (ValueForm k v i) h = absurd (value_is_none k h)
-  typed_form (TypeForm t) h = refl
-  typed_form (FuncForm g) h = absurd (func_is_none g.receiver h)
-
   plain_value : (k : ValueKind) (t : Option TypeTree) (v : ValueSpecTree) (i : ℕ) → IsNoTypeFace (value_face looks (value_as_written mean f es k t) k t v i)
   plain_value value_kinds.Const t v i = tt
   plain_value value_kinds.Var None v i = tt
@@ -74,11 +47,6 @@ module _ (looks : TheLooks) (mean : Meaning) (f : InFile) (es : List Entry) (n :
   plain_form (ValueForm k v i) h = plain_value k v.type_expr v i
   plain_form (TypeForm t) h = absurd (true≢false h)
   plain_form (FuncForm g) h = tt
-
-typed_idents : (form : FormTree) → is_type (kind_of_form form) ≡ true → form_idents form ≡ []
-typed_idents (ValueForm k v i) h = absurd (value_is_none k h)
-typed_idents (TypeForm t) h = refl
-typed_idents (FuncForm g) h = absurd (func_is_none g.receiver h)
 
 -- lists
 
@@ -92,14 +60,6 @@ mapped_back {A} {B} f xs k y h = by (slice_get xs k) refl (sym (slice_get-map f 
 outlines_all : (fs : List FileTree) → All IsOutline (map outline_of fs)
 outlines_all [] = λ k d lt. absurd (omega (arith, lt))
 outlines_all (f ∷ fs) = All-cons IsOutline (outline_of f) (map outline_of fs) (f, refl) (outlines_all fs)
-
-nothing_needed : (rows : List (List ℕ)) (k : ℕ) → needed rows k ≡ [] → (b : ℕ) → Contains (needed rows k) b → ⊥
-nothing_needed rows k none b has = (let h : Contains [] b = subst (λ (ns : List ℕ). Contains ns b) none has in let lt = h.1 in absurd (omega (arith, lt)))
-
--- what is known of a declaration, if anything
-abbrev pub IsNoType : Option TheFace → Type 0
-IsNoType None = Unit {0}
-IsNoType (Some f) = IsNoTypeFace f
 
 -- a package of these trees, whose declarations are this over these types
 module _ (seen : PackageIn) (ts : Trees) (trees : seen.trees ≡ map tree_shown ts) (names : seen.blocks.names ≡ package_block ts) (es : List Entry) (known : List (Option TheFace)) (declared : AreDeclared seen es known) where
@@ -127,16 +87,16 @@ module _ (seen : PackageIn) (ts : Trees) (trees : seen.trees ≡ map tree_shown 
     in_file = (outlined, among_to (top_decls own.tree.1) own.decl own.among)
 
     abbrev w : WrittenOf
-    w = written_of (file_meaning seen.shows seen.path seen.blocks own.file) (file_at seen.path own.file outline) es own.decl
+    w = written_of (file_meaning (shows_in seen) seen.path seen.blocks own.file) (file_at seen.path own.file outline) es own.decl
 
-    stands : Stands (package_written seen.shows seen.path seen.blocks es os) (decl_ref own.file own.decl.number (kind_of_form own.decl.form)) w
-    stands = positions_are_exact.declared seen.shows seen.path seen.blocks es os own.file outline own.decl (outlines_all seen.trees) in_file
+    stands : Stands (package_written (shows_in seen) seen.path seen.blocks es os) (decl_ref own.file own.decl.number (kind_of_form own.decl.form)) w
+    stands = positions_are_exact.declared (shows_in seen) seen.path seen.blocks es os own.file outline own.decl (outlines_all seen.trees) in_file
 
     abbrev k : ℕ
     k = stands.place
 
-    back : (x : FileDecl) × (slice_get (package_decls os) k ≡ Some x) × (written_there seen.shows seen.path seen.blocks es x ≡ w)
-    back = mapped_back (written_there seen.shows seen.path seen.blocks es) (package_decls os) k w (subst (λ (ws : List WrittenOf). slice_get ws k ≡ Some w) (positions_are_exact.listed seen.shows seen.path seen.blocks es os) stands.there)
+    back : (x : FileDecl) × (slice_get (package_decls os) k ≡ Some x) × (written_there (shows_in seen) seen.path seen.blocks es x ≡ w)
+    back = mapped_back (written_there (shows_in seen) seen.path seen.blocks es) (package_decls os) k w (subst (λ (ws : List WrittenOf). slice_get ws k ≡ Some w) (positions_are_exact.listed (shows_in seen) seen.path seen.blocks es os) stands.there)
 
     abbrev fd : FileDecl
     fd = back.0
@@ -152,7 +112,7 @@ module _ (seen : PackageIn) (ts : Trees) (trees : seen.trees ≡ map tree_shown 
     kind_is = ap (λ (x : DeclRef). x.kind) decl_is
 
     abbrev mean : Meaning
-    mean = file_meaning seen.shows seen.path seen.blocks fd.file
+    mean = file_meaning (shows_in seen) seen.path seen.blocks fd.file
 
     abbrev file : InFile
     file = file_at seen.path fd.file fd.outline
@@ -167,35 +127,7 @@ module _ (seen : PackageIn) (ts : Trees) (trees : seen.trees ≡ map tree_shown 
     face_is : (v : TheFace) → known_in known k ≡ Some v → v ≡ form_face looks (form_as_written mean file es fd.decl.number fd.decl.form) fd.decl.form
     face_is v e = declared.values k v e ∙ (ap (some_decl_face seen es (known_in known) k) back.1 ∙ ap (λ o. form_face looks o fd.decl.form) written)
 
-    abbrev rows : List (List ℕ)
-    rows = needs_in seen es
-
-    row_at : slice_get rows k ≡ Some (file_decl_needs scene fd)
-    row_at = slice_get-map (file_decl_needs scene) (package_decls os) k ∙ ap (option_map (file_decl_needs scene)) back.1
-
-    -- a type is known, since it needs nothing
-    module _ (is : is_type d.kind ≡ true) where
-      form_is : is_type (kind_of_form fd.decl.form) ≡ true
-      form_is = ap is_type kind_is ∙ is
-
-      none : needed rows k ≡ []
-      none = get_or_from_slice_get rows k (file_decl_needs scene fd) [] row_at ∙ ap (idents_need scene fd.file) (typed_idents fd.decl.form form_is)
-
-      key_is : type_key file fd.decl.number ≡ key_of seen.path d
-      key_is = ap (key_of seen.path) (ap (decl_ref fd.file fd.decl.number) (sym (type_kind (kind_of_form fd.decl.form) form_is)) ∙ decl_is)
-
-      abbrev the_type : TheFace
-      the_type = faces.«Type» (typed (find_entry es) (Defined (key_of seen.path d)))
-
-      by_value : (o : Option TheFace) → known_in known k ≡ o → o ≡ Some the_type
-      by_value (Some v) e =
-          ap Some (face_is v e ∙ (typed_form looks mean file es fd.decl.number fd.decl.form form_is ∙ ap (λ (key : DeclKey). faces.«Type» (typed (find_entry es) (Defined key))) key_is))
-      by_value None e = absurd (endless_never rows 1 k (declared.endless k (slice_get_within rows k (file_decl_needs scene fd) row_at) e) (nothing_needed rows k none))
-
-      pub face_typed : own_face scene known d ≡ Some the_type
-      face_typed = positioned ∙ by_value (known_in known k) refl
-
-    -- anything else is no type
+    -- what is no type by its kind is none
     plain_value_of : is_type d.kind ≡ false → (o : Option TheFace) → known_in known k ≡ o → IsNoType o
     plain_value_of other None e = tt
     plain_value_of other (Some v) e = subst IsNoTypeFace (sym (face_is v e)) (plain_form looks mean file es fd.decl.number fd.decl.form (ap is_type kind_is ∙ other))

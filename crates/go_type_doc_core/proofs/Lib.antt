@@ -3,6 +3,7 @@ pub mod Remarks
 pub mod Kept
 pub mod Blocked
 pub mod Known
+pub mod Placed
 pub mod Fresh
 pub mod Answered
 pub mod Lent

@@ -1,11 +1,9 @@
 //! The types that texts name.
-ghost use Rattle.std.specs.Prelude.{◌≡◌, ◌⊎◌, [], IfErr, IfOk, Some, false, length, option_map};
+ghost use Rattle.std.specs.Prelude.{◌≡◌, ◌⊎◌, [], IfErr, IfOk, Some, false, length, map, option_map};
 ghost use Rattle.go_text_core.specs.Text.{is_blank};
 ghost use Rattle.go_term_core.specs.Shapes.{shape};
-ghost use Rattle.go_term_core.specs.Terms.{Defined, Term};
-ghost use Rattle.go_member_core.specs.table_core.Entries.{find_entry};
-ghost use Rattle.go_member_core.specs.decide_core.Rules.{typed};
-ghost use Rattle.go_query_core.specs.block_core.Bindings.{key_of};
+ghost use Rattle.go_term_core.specs.Terms.{Term};
+ghost use Rattle.go_query_core.specs.env_core.Found.{face_at};
 ghost use Rattle.go_query_core.specs.graph_core.Packages.{AllHaveTrees};
 ghost use Rattle.go_query_core.specs.scope_core.Laws.{denotes};
 ghost use Rattle.go_query_core.specs.scope_core.Models.{scopes_model};
@@ -13,18 +11,20 @@ ghost use Rattle.go_query_core.specs.scope_core.Scopes.{Package, denoted_of};
 ghost use Rattle.go_query_core.specs.part_core.Parts.{IsPart};
 ghost use Rattle.go_query_core.specs.face_core.Faces.{face_shown};
 ghost use Rattle.go_query_core.specs.face_core.declared.face.Face.TheVariants as faces;
-ghost use Rattle.go_type_doc_core.specs.Naming.{IsOwnRefusal, IsOwnType, types_seen};
-ghost use Rattle.go_type_doc_core.specs.mirrors.Named.{IsNoTypeFace, IsNoneShown, IsPredeclaredRule, IsPredeclaredType, IsRuleOf, IsTypeOf, IsTypeShown, ShowsNone, ShowsType, is_type};
+ghost use Rattle.go_type_doc_core.specs.Naming.{IsOwnRefusal, IsOwnType};
+ghost use Rattle.go_type_doc_core.specs.mirrors.Named.{HasOwnPlaces, IsNoType, IsNoTypeFace, IsNoneShown, IsPredeclaredRule, IsPredeclaredType, IsRuleIn, IsRuleOf, IsTypeIn, IsTypeOf, IsTypeShown, ShowsNone, ShowsType, known_of};
 ghost use Rattle.go_type_doc_core.specs.mirrors.Shown.{IsShownRefusal, IsShownType};
 
 use go_member_core::handle_core::{SignatureRef, TypeRef};
 use go_member_core::table_core::TypeTable;
 use go_path_core::ImportPath;
-use go_query_core::block_core::{DeclKey, DeclKind, DeclRef};
-use go_query_core::face_core::{Face, ShownFace, hold};
+use go_query_core::block_core::DeclRef;
+use go_query_core::entry_core::ShownPackages;
+use go_query_core::face_core::{Face, FaceTable, ShownFace, WrittenFaces, hold, written_faces};
 use go_query_core::part_core::Part;
+use go_query_core::ready_core::{PackageAt, package_outlines};
 use go_query_core::scope_core::{InScope, Scopes};
-use go_term_core::{Basic, Signature, TypeTerm, is_no_type};
+use go_term_core::{Basic, Signature, TypeTerm, copy};
 use go_text_core::{Rule, is_blank};
 use go_universe_core::Predeclared;
 use std::alloc::{AllocError, Global};
@@ -62,62 +62,62 @@ fn predeclared_type(alloc: Global, path: &ImportPath, name: Predeclared) -> Resu
     }
 }
 
-// A type, where it is one in a table.
-fn typed(table: &TypeTable, term: TypeTerm) -> Option<TypeTerm>
-    ensures { option_map shape result ≡ typed (find_entry table.now) (shape term) }
-{
-    if is_no_type(table.underlying(&term)) {
-        return None;
-    }
-    Some(term)
-}
-
-// The type of a declaration of the package of a path.
-fn defined_term(path: &ImportPath, decl: DeclRef) -> Result<TypeTerm, AllocError>
-    ensures { IfOk result (λ t. shape t ≡ Defined (key_of path.now decl)) }
-{
-    let path = path.share()?;
-    Ok(TypeTerm::Defined(DeclKey { path, decl }))
-}
-
-// The same, where it is one in a table.
-fn defined_type(
-    path: &ImportPath,
-    table: &TypeTable,
-    decl: DeclRef,
-) -> Result<Option<TypeTerm>, Rule>
-    ensures ok { IfOk result (λ t. option_map shape t ≡ typed (find_entry table.now) (Defined (key_of path.now decl))) }
+// A type once more.
+fn type_again(alloc: Global, term: &TypeTerm) -> Result<Option<TypeTerm>, Rule>
+    ensures ok { IfOk result (λ t. option_map shape t ≡ Some (shape term.now)) }
     ensures err { IfErr result (λ rule. rule ≡ Rule.M0) }
 {
-    match defined_term(path, decl) {
-        Ok(term) => Ok(typed(table, term)),
+    match copy(alloc, term) {
+        Ok(term) => Ok(Some(term)),
         Err(AllocError) => Err(Rule::M0),
     }
 }
 
-// Whether a declaration of the package block declares a type.
-fn declares_type(kind: DeclKind) -> bool
-    ensures { result ≡ is_type kind }
+// The type of a declaration of which this is known.
+fn known_type(
+    alloc: Global,
+    face: &Option<Face<TypeTerm, Signature>>,
+) -> Result<Option<TypeTerm>, Rule>
+    ensures ok { IfOk result (λ t. option_map face_shown face.now ≡ Some (faces.«Type» (option_map shape t))) }
+    ensures err { IfErr result (λ rule. (rule ≡ Rule.M0) ⊎ ((rule ≡ Rule.N6) × IsNoType (option_map face_shown face.now))) }
 {
-    match kind {
-        DeclKind::Type => true,
-        _ => false,
+    match face {
+        Some(Face::Type(Some(term))) => type_again(alloc, term),
+        Some(Face::Type(None)) => Ok(None),
+        Some(Face::Func(_)) => Err(Rule::N6),
+        Some(Face::Value(_)) => Err(Rule::N6),
+        None => Err(Rule::N6),
     }
 }
 
-// The type that a declaration of the package block names.
+// The type of the declaration at a place, of all that are known.
+fn type_at(
+    alloc: Global,
+    known: &[Option<Face<TypeTerm, Signature>>],
+    place: usize,
+) -> Result<Option<TypeTerm>, Rule>
+    ensures ok { IfOk result (λ t. face_at (map (option_map face_shown) known.now) (Some place) ≡ Some (faces.«Type» (option_map shape t))) }
+    ensures err { IfErr result (λ rule. (rule ≡ Rule.M0) ⊎ ((rule ≡ Rule.N6) × IsNoType (face_at (map (option_map face_shown) known.now) (Some place)))) }
+{
+    match known.get(place) {
+        Some(face) => known_type(alloc, face),
+        None => Err(Rule::N6),
+    }
+}
+
+// The type that a declaration of the package block names: an alias its target.
 fn declared_type(
-    path: &ImportPath,
-    table: &TypeTable,
+    alloc: Global,
+    written: &WrittenFaces,
+    known: &[Option<Face<TypeTerm, Signature>>],
     decl: DeclRef,
 ) -> Result<Option<TypeTerm>, Rule>
-    ensures ok { IfOk result (λ t. IsTypeOf path.now table.now (Package decl) (option_map shape t)) }
-    ensures err { IfErr result (λ rule. (rule ≡ Rule.M0) ⊎ IsRuleOf path.now (Package decl) rule) }
+    ensures ok { IfOk result (λ t. known_of written.now (map (option_map face_shown) known.now) decl ≡ Some (faces.«Type» (option_map shape t))) }
+    ensures err { IfErr result (λ rule. (rule ≡ Rule.M0) ⊎ ((rule ≡ Rule.N6) × IsNoType (known_of written.now (map (option_map face_shown) known.now) decl))) }
 {
-    if declares_type(decl.kind) {
-        defined_type(path, table, decl)
-    } else {
-        Err(Rule::N6)
+    match written.position(decl) {
+        Some(place) => type_at(alloc, known, place),
+        None => Err(Rule::N6),
     }
 }
 
@@ -140,15 +140,16 @@ fn universe_type(
 fn type_in_scope(
     alloc: Global,
     path: &ImportPath,
-    table: &TypeTable,
+    written: &WrittenFaces,
+    known: &[Option<Face<TypeTerm, Signature>>],
     found: InScope<'_>,
 ) -> Result<Option<TypeTerm>, Rule>
-    ensures ok { IfOk result (λ t. IsTypeOf path.now table.now (denoted_of found.entry) (option_map shape t)) }
-    ensures err { IfErr result (λ rule. (rule ≡ Rule.M0) ⊎ IsRuleOf path.now (denoted_of found.entry) rule) }
+    ensures ok { IfOk result (λ t. IsTypeOf path.now (known_of written.now (map (option_map face_shown) known.now)) (denoted_of found.entry) (option_map shape t)) }
+    ensures err { IfErr result (λ rule. (rule ≡ Rule.M0) ⊎ IsRuleOf path.now (known_of written.now (map (option_map face_shown) known.now)) (denoted_of found.entry) rule) }
 {
     match found {
         InScope::Universe(name) => universe_type(alloc, path, name),
-        InScope::Package(decl) => declared_type(path, table, decl),
+        InScope::Package(decl) => declared_type(alloc, written, known, decl),
         // The file binds nothing, and no block of a function is open.
         InScope::File(_) => Err(Rule::N1),
         InScope::Local(_) => Err(Rule::N1),
@@ -168,6 +169,44 @@ fn denoted<'p>(alloc: Global, part: &'p Part, name: &str) -> Option<InScope<'p>>
     scopes.find(name)
 }
 
+// What is written of the declarations of the package of a part, for their places: what names of types mean is not asked.
+fn own_written(alloc: Global, part: &Part, table: &TypeTable) -> Result<WrittenFaces, AllocError>
+    ensures { IfOk result (HasOwnPlaces part.now) }
+{
+    let input = part.input();
+    let content = part.content();
+    let shown = ShownPackages::new(alloc);
+    let faces = FaceTable::new(alloc);
+    let at = PackageAt {
+        package: input.package(),
+        blocks: &content.blocks,
+        imports: input.imports(),
+        shown: &shown,
+        faces: &faces,
+    };
+    let outlines = package_outlines(alloc, &at)?;
+    let path = part.path();
+    let written = written_faces(alloc, path, &content.blocks, &shown, table, &outlines)?;
+    Ok(written)
+}
+
+// The type that a name names which denotes this.
+fn found_type(
+    alloc: Global,
+    part: &Part,
+    table: &TypeTable,
+    found: InScope<'_>,
+) -> Result<Option<TypeTerm>, Rule>
+    ensures ok { IfOk result (λ t. IsTypeIn part.now (denoted_of found.entry) (option_map shape t)) }
+    ensures err { IfErr result (λ rule. (rule ≡ Rule.M0) ⊎ IsRuleIn part.now (denoted_of found.entry) rule) }
+{
+    let content = part.content();
+    match own_written(alloc, part, table) {
+        Ok(written) => type_in_scope(alloc, part.path(), &written, &content.declared, found),
+        Err(AllocError) => Err(Rule::M0),
+    }
+}
+
 // The type that a text other than `_` names there.
 fn plain_type(
     alloc: Global,
@@ -175,13 +214,12 @@ fn plain_type(
     table: &TypeTable,
     name: &str,
 ) -> Result<Option<TypeTerm>, Rule>
-    requires table { table.now ≡ types_seen part.now }
     requires plain { is_blank name.now ≡ false }
     ensures ok { IfOk result (λ t. IsOwnType part.now name.now (option_map shape t)) }
     ensures err { IfErr result (λ rule. (rule ≡ Rule.M0) ⊎ IsOwnRefusal part.now name.now rule) }
 {
     match denoted(alloc, part, name) {
-        Some(found) => type_in_scope(alloc, part.path(), table, found),
+        Some(found) => found_type(alloc, part, table, found),
         None => Err(Rule::N1),
     }
 }
@@ -198,7 +236,6 @@ pub(crate) fn own_type(
     table: &TypeTable,
     name: &str,
 ) -> Result<Option<TypeTerm>, Rule>
-    requires { table.now ≡ types_seen part.now }
     ensures ok { IfOk result (λ t. IsOwnType part.now name.now (option_map shape t)) }
     ensures err { IfErr result (λ rule. (rule ≡ Rule.M0) ⊎ IsOwnRefusal part.now name.now rule) }
 {

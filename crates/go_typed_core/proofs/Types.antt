@@ -115,7 +115,7 @@ module _ (laws : AreGiven) (i : InputModel) (c : ContentOf) (n : ℕ) (t : FileT
   locals : Each MeansLocal all
   locals = all_local st g all h.right
 
-  answer : (m : TypeName) → SpotsAreMeant (type_name_spots looks m) → AreNamed i c h.part shows n t all locals mean (read laws i c n t f g all h) m
+  answer : (m : TypeName) → SpotsAreMeant (type_name_spots looks m) → AreNamed i c shows n t all locals mean (read laws i c n t f g all h) m
   answer (type_names.Plain x) each = (each _ (inl refl)).declared
   answer (type_names.Qualified q dot x) each = ((each _ (inl refl)).declared, (each _ (inr (inl refl))).declared)
 
@@ -125,7 +125,7 @@ module _ (laws : AreGiven) (i : InputModel) (c : ContentOf) (n : ℕ) (t : FileT
 
   named : (m : TypeName) → SpotsAreMeant (type_name_spots looks m) → (w : Word) → type_name_word code m ≡ Some w → IsOver looks.types w (written_type looks (NamedType m)) × IsOver looks.types w (named_type looks m)
   named m each w e =
-      let a = named_answer i c h.part shows n t all locals mean (read laws i c n t f g all h) m (answer m each) in
+      let a = named_answer i c shows n t all locals mean (read laws i c n t f g all h) m (answer m each) in
       let there : mean (outcomes.Declared a.decl) ≡ meanings.«Type» w = sym (ap mean a.outcome_is) ∙ last_meant m each w e in
       let over_it : IsOver looks.types w a.type_of = subst (λ x. IsTypeMeant looks.types a.type_of x) there a.meant in
       (subst (λ x. IsOver looks.types w x) (sym a.same) over_it, subst (λ d. IsOver looks.types w (literal_type d)) (sym a.denotes_is) over_it)

@@ -1,6 +1,5 @@
 -- A name of a type that denotes a declaration denotes the type that it is where it is written.
-use Rattle.std.proofs.Common.{◌≡◌, ℕ, Bool, true, false, not, List, [], ◌∷◌, ◌++◌, Option, Some, None, is_some, refl, sym, ap, ◌∙◌, subst, append-nil, if◌then◌else◌}
-use Rattle.std.proofs.lemmas.Grind.{flat_map-append}
+use Rattle.std.proofs.Common.{◌≡◌, ℕ, Bool, true, false, List, [], Option, Some, None, is_some, refl, sym, ap, ◌∙◌, subst, if◌then◌else◌}
 use Rattle.go_clear_core.specs.text_core.Text.{is_blank}
 use Rattle.go_clear_core.specs.text_core.declared.rule.Rule.TheVariants.{N8, S8}
 use Rattle.go_clear_core.specs.text_core.declared.span.Span.{Span}
@@ -10,15 +9,11 @@ use Rattle.go_clear_core.specs.universe_core.declared.Predeclared.TheVariants as
 use Rattle.go_clear_core.specs.universe_core.Universe.{found}
 use Rattle.go_clear_core.specs.decl_core.declared.keys.DeclKey.{DeclKey}
 use Rattle.go_clear_core.specs.decl_core.declared.keys.DeclRef.{DeclRef}
-use Rattle.go_clear_core.specs.decl_core.declared.places.DeclKind.{DeclKind}
-use Rattle.go_clear_core.specs.decl_core.declared.places.DeclKind.TheVariants as kinds
 use Rattle.go_tree_nodes.specs.declared.names.Ident.{Ident}
 use Rattle.go_tree_nodes.specs.declared.types.TypeName.{TypeName}
 use Rattle.go_tree_nodes.specs.declared.types.TypeName.TheVariants as type_names
 use Rattle.go_tree_nodes.specs.declared.usage.Usage.TheVariants as usages
 use Rattle.go_tree_nodes.specs.Trees.{FileTree}
-use Rattle.go_graph_core.specs.Packages.{trees_of}
-use Rattle.go_clear_core.specs.block_core.Bindings.{key_of}
 use Rattle.go_clear_core.specs.block_core.Blocks.{file_binding, file_has}
 use Rattle.go_clear_core.specs.block_core.Tables.{in_block}
 use Rattle.go_clear_core.specs.block_core.declared.binding.Binding.{Binding}
@@ -31,11 +26,9 @@ use Rattle.go_names_core.specs.declared.meaning.Outside.{Outside}
 use Rattle.go_names_core.specs.declared.meaning.Outside.TheVariants as outsides
 use Rattle.go_clear_core.specs.local_core.Binding.{Local, NameLook, bound}
 use Rattle.go_term_core.specs.declared.term.MemberPlace.TheVariants as places
-use Rattle.go_term_core.specs.Terms.{Term, NoType, Predeclared as Basic, ErrorType, Defined, PointerTo, StructOf, InterfaceOf, NoMethod, Sign, is_no_type}
-use Rattle.go_settle_core.specs.Settled.{defined_unless, kind_of_term}
-use Rattle.go_clear_core.specs.table_core.Entries.{Entry, find_entry, term_in}
-use Rattle.go_clear_core.specs.decide_core.Rules.{typed}
-use Rattle.go_entry_core.specs.Meanings.{outside_meaning, plain_meaning, qualified_meaning, shown_type, type_in_binding, type_in_target, type_of_key, type_of_kind, type_of_predeclared, type_of_target, type_of_universe}
+use Rattle.go_term_core.specs.Terms.{Term, NoType, ErrorType, InterfaceOf, NoMethod, Sign}
+use Rattle.go_clear_core.specs.table_core.Entries.{Entry}
+use Rattle.go_entry_core.specs.Meanings.{outside_meaning, plain_meaning, qualified_meaning, shown_type, through, type_in_binding, type_in_target, type_of_predeclared, type_of_target, type_of_universe}
 use Rattle.go_entry_core.specs.Showing.{shown_in}
 use Rattle.go_clear_core.specs.denote_core.declared.things.Answer.{Answer}
 use Rattle.go_clear_core.specs.denote_core.declared.things.Denoted.{Denoted}
@@ -61,45 +54,17 @@ use Rattle.go_env_core.specs.Found.{TheExported, TheFound, exported_shown, found
 use Rattle.go_env_core.specs.Looks.{TheLooks}
 use Rattle.go_func_core.specs.Stands.{FileStand, outer_meanings}
 use Rattle.go_func_core.specs.Types.{is_local_meaning, named_where}
-use Rattle.go_ready_core.specs.Packages.{PackageIn}
-use Rattle.go_ready_core.specs.Values.{AreDeclared}
-use Rattle.go_summary_core.specs.Summaries.{SummaryModel}
-use Rattle.go_summary_core.specs.Views.{exports_told, faces_told, types_told}
+use Rattle.go_ready_core.specs.Packages.{shows_in}
+use Rattle.go_summary_core.specs.Views.{exports_told, faces_told}
 use Rattle.go_part_core.specs.Inputs.{InputModel, path_in}
-use Rattle.go_part_core.specs.Parts.{ContentOf, IsPart, package_seen, seen_by}
+use Rattle.go_part_core.specs.Parts.{ContentOf}
 use Rattle.go_clear_core.specs.fragment_core.declared.names.Meaning.{Meaning}
-use Rattle.go_clear_core.specs.emit_core.Emitted.{told_to}
 use Rattle.go_clear_core.specs.fold_core.Laws.{HasDeclaration}
 use Rattle.go_clear_core.specs.fold_core.Reading.{AreNamesRead, IsExportedMeant, IsFoundMeant, IsTypeMeant}
 use Rattle.go_clear_core.specs.laws_core.Standing.{looks_among, stand_in_part}
-use Rattle.go_type_doc_core.specs.mirrors.Named.{IsNoTypeFace, is_type}
-use Rattle.go_type_doc_core.proofs.Known.{face_plain, face_typed}
 use Rattle.go_typed_core.specs.Functions.{known_types}
-use Rattle.go_typed_core.specs.Written.{ShowTheirTypes, typed_in}
+use Rattle.go_typed_core.specs.Written.{ShowTheirTypes, meant_in, seen_in, typed_in}
 use Rattle.go_typed_core.proofs.Outer.{MeansLocal, outside_of}
-
--- settled types
-
-settled_same : (es : List Entry) (k : DeclKey) → typed_in es (Defined k) ≡ typed (find_entry es) (Defined k)
-settled_same es k = by (term_in (find_entry es k)) refl
-  where
-    by : (u : Term) → term_in (find_entry es k) ≡ u → typed (find_entry es) (defined_unless (kind_of_term u) k) ≡ typed (find_entry es) (Defined k)
-    by NoType e = sym (ap (λ (u : Term). if not (is_no_type u) then Some (Defined k) else None) e)
-    by (Basic b) e = refl
-    by ErrorType e = refl
-    by (Defined j) e = refl
-    by (PointerTo u) e = refl
-    by (StructOf path fs) e = refl
-    by (InterfaceOf path ms) e = refl
-
-type_kind : (k : DeclKind) → is_type k ≡ true → k ≡ kinds.«Type»
-type_kind kinds.«Type» h = refl
-type_kind _ h = absurd (cc h)
-
--- what is known is no type
-abbrev IsNoType : Option TheFace → Type 0
-IsNoType None = Unit {0}
-IsNoType (Some f) = IsNoTypeFace f
 
 -- what is found to be a type
 
@@ -123,16 +88,16 @@ shown_face path (shown_faces.Shown d (Some (faces.«Type» u))) e t is = (let sa
 shown_face path (shown_faces.Shown d (Some (faces.Func s))) e t is = absurd (cc is)
 shown_face path (shown_faces.Shown d (Some (faces.«Value» o))) e t is = absurd (cc is)
 
-universe_type : (es : List Entry) (path : List ℕ) (p : Predeclared) (e : Declaration) (t : Option Term) → found_universe path p ≡ founds.«Type» e t → typed_in es (type_of_predeclared path p) ≡ t
-universe_type es path universe.Any e t is = (let same : Some (InterfaceOf path NoMethod) ≡ t = cc is in same)
-universe_type es path universe.Bool e t is = (let same : Some (type_of_predeclared path universe.Bool) ≡ t = cc is in same)
-universe_type es path universe.Error e t is = (let same : Some ErrorType ≡ t = cc is in same)
-universe_type es path universe.Int e t is = (let same : Some (type_of_predeclared path universe.Int) ≡ t = cc is in same)
-universe_type es path universe.String e t is = (let same : Some (type_of_predeclared path universe.String) ≡ t = cc is in same)
-universe_type es path universe.True e t is = absurd (cc is)
-universe_type es path universe.False e t is = absurd (cc is)
-universe_type es path universe.Nil e t is = absurd (cc is)
-universe_type es path _ e t is = absurd (cc is)
+universe_type : (es : List Entry) (mean : DeclKey → Term) (path : List ℕ) (p : Predeclared) (e : Declaration) (t : Option Term) → found_universe path p ≡ founds.«Type» e t → typed_in es (through mean (type_of_predeclared path p)) ≡ t
+universe_type es mean path universe.Any e t is = (let same : Some (InterfaceOf path NoMethod) ≡ t = cc is in same)
+universe_type es mean path universe.Bool e t is = (let same : Some (type_of_predeclared path universe.Bool) ≡ t = cc is in same)
+universe_type es mean path universe.Error e t is = (let same : Some ErrorType ≡ t = cc is in same)
+universe_type es mean path universe.Int e t is = (let same : Some (type_of_predeclared path universe.Int) ≡ t = cc is in same)
+universe_type es mean path universe.String e t is = (let same : Some (type_of_predeclared path universe.String) ≡ t = cc is in same)
+universe_type es mean path universe.True e t is = absurd (cc is)
+universe_type es mean path universe.False e t is = absurd (cc is)
+universe_type es mean path universe.Nil e t is = absurd (cc is)
+universe_type es mean path _ e t is = absurd (cc is)
 
 universe_no_package : (path : List ℕ) (p : Predeclared) (e : Declaration) → found_universe path p ≡ founds.«Package» e → ⊥
 universe_no_package path universe.Any e is = cc is
@@ -146,42 +111,21 @@ universe_no_package path _ e is = cc is
 
 -- a package
 
-module _ (i : InputModel) (c : ContentOf) (part : IsPart i c) (shows : ShowTheirTypes i c) (n : ℕ) (t : FileTree) where
+module _ (i : InputModel) (c : ContentOf) (shows : ShowTheirTypes i c) (n : ℕ) (t : FileTree) where
   abbrev es : List Entry
   es = known_types i c
 
   abbrev own : List ℕ
   own = path_in i
 
-  abbrev seen : PackageIn
-  seen = package_seen i c.blocks (seen_by i)
-
   abbrev st : FileStand
   st = stand_in_part i c n t
 
-  types_are : types_told (told_to i c) ≡ types_told i.reached ++ part.checked.types
-  types_are =
-      flat_map-append (λ (s : SummaryModel). s.types.entries) i.reached (c.summary ∷ [])
-      ∙ ap (λ l. types_told i.reached ++ l) (append-nil c.summary.types.entries ∙ ap (λ (s : SummaryModel). s.types.entries) part.summary)
+  -- what declarations of types mean
+  abbrev target : DeclKey → Term
+  target = (shows_in (seen_in i c)).target
 
-  declared : AreDeclared seen es c.declared
-  declared = subst (λ ks. AreDeclared seen es ks) (sym part.declared) (subst (λ ts. AreDeclared seen ts part.checked.declared) (sym types_are) part.is_checked.declared)
-
-  -- a type that the package declares
-  own_type : (name : List ℕ) (d : DeclRef) (u : Option Term) → in_block c.blocks.names name ≡ Some d → own_face st.scene c.declared d ≡ Some (faces.«Type» u) → typed_in es (type_of_key (key_of own d)) ≡ u
-  own_type name d u at is = by (is_type d.kind) refl
-    where
-      by : (b : Bool) → is_type d.kind ≡ b → typed_in es (type_of_key (key_of own d)) ≡ u
-      by true e =
-          let face = face_typed seen (trees_of i.source.1) refl part.blocks.package_names es c.declared declared name d at e in
-          let both : Some (faces.«Type» (typed (find_entry es) (Defined (key_of own d)))) ≡ Some (faces.«Type» u) = sym face ∙ is in
-          let same : typed (find_entry es) (Defined (key_of own d)) ≡ u = cc both in
-          ap (λ k. typed_in es (type_of_kind (key_of own d) k)) (type_kind d.kind e) ∙ (settled_same es (key_of own d) ∙ same)
-      by false e =
-          let plain : IsNoType (own_face st.scene c.declared d) = face_plain seen (trees_of i.source.1) refl part.blocks.package_names es c.declared declared name d at e in
-          absurd (subst IsNoType is plain)
-
-  target_type : (name : List ℕ) (b : Binding) → file_binding c.blocks n name ≡ Some b → (x : Target) → b.target ≡ x → (e : Declaration) (u : Option Term) → found_target st.scene x ≡ founds.«Type» e u → typed_in es (type_of_target x) ≡ u
+  target_type : (name : List ℕ) (b : Binding) → file_binding c.blocks n name ≡ Some b → (x : Target) → b.target ≡ x → (e : Declaration) (u : Option Term) → found_target st.scene x ≡ founds.«Type» e u → meant_in i c (type_of_target x) ≡ u
   target_type name b here (targets.«Package» path) there e u is = absurd (cc is)
   target_type name b here (targets.Refused rule) there e u is = absurd (cc is)
   target_type name b here (targets.Exported k) there e u is = shows.named n name b k u here there (found_type (InFile k.path (places.Declared k.decl)) e (face_in (faces_told i.reached) k.path k.decl) u is)
@@ -198,24 +142,24 @@ module _ (i : InputModel) (c : ContentOf) (part : IsPart i c) (shows : ShowTheir
   none_outside : {A : Type 0} (o : Outside) → None ≡ Some (means.Outside o) → A
   none_outside o e = absurd (cc e)
 
-  by_universe : (name : List ℕ) (u : Option Predeclared) (o : Outside) → At None None u ≡ Some (means.Outside o) → (e : Declaration) (v : Option Term) → found_outside st.scene n c.declared name o ≡ founds.«Type» e v → typed_in es (type_of_universe own u) ≡ v
+  by_universe : (name : List ℕ) (u : Option Predeclared) (o : Outside) → At None None u ≡ Some (means.Outside o) → (e : Declaration) (v : Option Term) → found_outside st.scene n c.declared name o ≡ founds.«Type» e v → meant_in i c (type_of_universe own u) ≡ v
   by_universe name None o is e v found = none_outside o is
   by_universe name (Some p) o is e v found =
       let same = outside_same (outsides.Universe p) o is in
-      universe_type es own p e v (subst (λ x. found_outside st.scene n c.declared name x ≡ founds.«Type» e v) (sym same) found)
+      universe_type es target own p e v (subst (λ x. found_outside st.scene n c.declared name x ≡ founds.«Type» e v) (sym same) found)
 
   -- a name alone
   plain_at : (name : List ℕ) (p : Option DeclRef) (b : Option Binding) → in_block c.blocks.names name ≡ p → file_binding c.blocks n name ≡ b → (o : Outside) → At p b (found name) ≡ Some (means.Outside o)
-      → (e : Declaration) (v : Option Term) → found_outside st.scene n c.declared name o ≡ founds.«Type» e v → typed_in es (plain_meaning own c.blocks n name p) ≡ v
+      → (e : Declaration) (v : Option Term) → found_outside st.scene n c.declared name o ≡ founds.«Type» e v → meant_in i c (plain_meaning own c.blocks n name p) ≡ v
   plain_at name (Some d) None h k o is e v found =
       let same = outside_same (outsides.«Package» d) o is in
-      own_type name d v h (found_type (InFile own (places.Declared d)) e (own_face st.scene c.declared d) v (subst (λ x. found_outside st.scene n c.declared name x ≡ founds.«Type» e v) (sym same) found))
+      shows.own name d v h (found_type (InFile own (places.Declared d)) e (own_face st.scene c.declared d) v (subst (λ x. found_outside st.scene n c.declared name x ≡ founds.«Type» e v) (sym same) found))
   plain_at name (Some d) (Some x) h k o is e v found = (let no : None ≡ Some x = sym (no_binding name d h) ∙ k in absurd (cc no))
   plain_at name None (Some x) h k o is e v found =
       let same = outside_same (outsides.File x.at) o is in
       let here : found_binding st.scene (file_binding c.blocks n name) ≡ founds.«Type» e v = subst (λ y. found_outside st.scene n c.declared name y ≡ founds.«Type» e v) (sym same) found in
-      ap (λ y. typed_in es (outside_meaning own name y)) k ∙ target_type name x k x.target refl e v (subst (λ y. found_binding st.scene y ≡ founds.«Type» e v) k here)
-  plain_at name None None h k o is e v found_is = ap (λ y. typed_in es (outside_meaning own name y)) k ∙ by_universe name (found name) o is e v found_is
+      ap (λ y. meant_in i c (outside_meaning own name y)) k ∙ target_type name x k x.target refl e v (subst (λ y. found_binding st.scene y ≡ founds.«Type» e v) k here)
+  plain_at name None None h k o is e v found_is = ap (λ y. meant_in i c (outside_meaning own name y)) k ∙ by_universe name (found name) o is e v found_is
 
   -- what stands before a dot is a package that an import binds
   target_package : (x : Target) (e : Declaration) → found_target st.scene x ≡ founds.«Package» e → (path : List ℕ) × (x ≡ targets.«Package» path) × (e ≡ Package path)
@@ -258,11 +202,12 @@ module _ (i : InputModel) (c : ContentOf) (part : IsPart i c) (shows : ShowTheir
         plain_at x.name (in_block c.blocks.names x.name) (file_binding c.blocks n x.name) refl refl o (at_top x.name x.span.start o is) e v found_is
 
     found_behind : (q : Ident) (dot : Span) (x : Ident) (m : Option NameMeaning) → look q.name q.span.start ≡ m → (e : Declaration) → found_of st.scene n c.declared q.name m ≡ founds.«Package» e
-        → (path : List ℕ) × (e ≡ Package path) × ((if is_local_meaning m then NoType else st.top (type_names.Qualified q dot x)) ≡ shown_type path (shown_in (exports_told i.reached) path x.name))
+        → (path : List ℕ) × (e ≡ Package path) × ((if is_local_meaning m then NoType else st.top (type_names.Qualified q dot x)) ≡ through target (shown_type path (shown_in (exports_told i.reached) path x.name)))
     found_behind q dot x None is e found_is = absurd (cc found_is)
     found_behind q dot x (Some (means.Local at value)) is e found_is = absurd (cc found_is)
     found_behind q dot x (Some (means.Outside o)) is e found_is =
-        behind_at q.name x.name (in_block c.blocks.names q.name) (file_binding c.blocks n q.name) refl refl o (at_top q.name q.span.start o is) e found_is
+        let r = behind_at q.name x.name (in_block c.blocks.names q.name) (file_binding c.blocks n q.name) refl refl o (at_top q.name q.span.start o is) e found_is in
+        (r.0, r.1, ap (through target) r.2)
 
     -- the answer is a type, the one that the name is where it is written, and over what code takes it for
     pub record IsTypeAnswer (a : Answer Term Sign Declaration (List ℕ)) (u : Term) : Type 0 where
@@ -305,7 +250,7 @@ module _ (i : InputModel) (c : ContentOf) (part : IsPart i c) (shows : ShowTheir
     package_answer false (founds.Builtin d b) there = absurd there
     package_answer false (founds.«Value» d o) there = absurd there
 
-    shown_answer : (path : List ℕ) (q : Ident) (dot : Span) (x : Ident) → named_where look st.top (type_names.Qualified q dot x) ≡ shown_type path (shown_in (exports_told i.reached) path x.name)
+    shown_answer : (path : List ℕ) (q : Ident) (dot : Span) (x : Ident) → named_where look st.top (type_names.Qualified q dot x) ≡ through target (shown_type path (shown_in (exports_told i.reached) path x.name))
         → (b : Bool) (f : TheExported) → looks.exported (Package path) x.name ≡ f
         → HasDeclaration (if b then refused {T = Term} {S = Sign} {D = Declaration} {P = List ℕ} S8 else exported_answer {P = List ℕ} usages.«Type» f).outcome
         → IsTypeAnswer (if b then refused {T = Term} {S = Sign} {D = Declaration} {P = List ℕ} S8 else exported_answer {P = List ℕ} usages.«Type» f) (named_where look st.top (type_names.Qualified q dot x))

@@ -5,6 +5,7 @@ pub mod Locals
 pub mod Scope
 pub mod Fits
 pub mod Sources
+pub mod alias_core
 pub mod entry_core
 pub mod env_core
 pub mod face_core

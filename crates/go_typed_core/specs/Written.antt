@@ -6,7 +6,9 @@ use Rattle.go_clear_core.specs.decl_core.declared.keys.DeclKey.{DeclKey}
 use Rattle.go_clear_core.specs.decl_core.declared.keys.DeclRef.{DeclRef}
 use Rattle.go_clear_core.specs.block_core.declared.binding.Binding.{Binding}
 use Rattle.go_clear_core.specs.block_core.declared.binding.Target.TheVariants as targets
+use Rattle.go_clear_core.specs.block_core.Bindings.{key_of}
 use Rattle.go_clear_core.specs.block_core.Blocks.{file_binding}
+use Rattle.go_clear_core.specs.block_core.Tables.{in_block}
 use Rattle.go_tree_nodes.specs.declared.files.Receiver.{Receiver}
 use Rattle.go_tree_nodes.specs.Trees.{FileTree, FuncTree, TypeTree}
 use Rattle.go_tree_nodes.specs.WrittenTypes.{signature_types, some_type}
@@ -16,7 +18,7 @@ use Rattle.go_term_core.specs.Terms.{Term}
 use Rattle.go_settle_core.specs.Settled.{settled}
 use Rattle.go_clear_core.specs.table_core.Entries.{Entry, find_entry, kinds_in}
 use Rattle.go_clear_core.specs.decide_core.Rules.{typed}
-use Rattle.go_entry_core.specs.Meanings.{shown_type, type_of_key}
+use Rattle.go_entry_core.specs.Meanings.{shown_type, through, type_of_key}
 use Rattle.go_entry_core.specs.Showing.{shown_in}
 use Rattle.go_clear_core.specs.expr_core.Denoting.{named_type, written_type}
 use Rattle.go_clear_core.specs.piece_core.Headers.{returned_types}
@@ -24,6 +26,7 @@ use Rattle.go_face_core.specs.declared.face.Face.TheVariants as faces
 use Rattle.go_face_core.specs.declared.shown.ShownFace.TheVariants as shown_faces
 use Rattle.go_face_core.specs.Packages.{exported_in, face_in}
 use Rattle.go_env_core.specs.declared.meaning.Meaning.{Meaning as NameMeaning}
+use Rattle.go_env_core.specs.Found.{own_face}
 use Rattle.go_clear_core.specs.instruction_core.declared.letters.Word.{Word}
 use Rattle.go_clear_core.specs.fragment_core.declared.names.Gives.TheVariants as gives
 use Rattle.go_clear_core.specs.fragment_core.Fragment.{type_name_word, type_word}
@@ -31,9 +34,10 @@ use Rattle.go_clear_core.specs.fragment_core.Inside.{signature_inside}
 use Rattle.go_clear_core.specs.fold_core.Reading.{IsOneOver, IsOver}
 use Rattle.go_clear_core.specs.fit_core.Fitting.{signature_gives}
 use Rattle.go_func_core.specs.Stands.{outer_looks}
+use Rattle.go_ready_core.specs.Packages.{PackageIn, scene_in, shows_in}
 use Rattle.go_summary_core.specs.Views.{exports_told, faces_told}
-use Rattle.go_part_core.specs.Inputs.{InputModel}
-use Rattle.go_part_core.specs.Parts.{ContentOf, FileOf}
+use Rattle.go_part_core.specs.Inputs.{InputModel, path_in}
+use Rattle.go_part_core.specs.Parts.{ContentOf, FileOf, package_seen, seen_by}
 use Rattle.go_clear_core.specs.laws_core.ConstantLaws.{code_names_of}
 use Rattle.go_clear_core.specs.laws_core.Standing.{pieces_of, stand_in_part}
 use Rattle.go_typed_core.specs.Functions.{IsFunction, function_looks, known_types}
@@ -42,12 +46,23 @@ use Rattle.go_typed_core.specs.Functions.{IsFunction, function_looks, known_type
 abbrev pub typed_in : List Entry → Term → Option Term
 typed_in es u = typed (find_entry es) (settled (kinds_in es) u)
 
--- what the packages that are reached show as a type is what its name means where a type is written: behind a dot, and by itself, where an import binds it
+-- a package, as its check sees it
+abbrev pub seen_in : InputModel → ContentOf → PackageIn
+seen_in i c = package_seen i c.blocks (seen_by i)
+
+-- what a name that denotes a type means among the types that the package knows: an alias its target
+abbrev pub meant_in : InputModel → ContentOf → Term → Option Term
+meant_in i c u = typed_in (known_types i c) (through (shows_in (seen_in i c)).target u)
+
+-- what is known as a type is what its name means where a type is written: a declaration of the package itself, and what the packages show that are reached,
+-- behind a dot, and by itself, where an import binds it
 pub record ShowTheirTypes (i : InputModel) (c : ContentOf) : Type 0 where
+  pub own : (name : List ℕ) (d : DeclRef) (t : Option Term) → in_block c.blocks.names name ≡ Some d → own_face (scene_in (seen_in i c) (known_types i c)) c.declared d ≡ Some (faces.«Type» t)
+      → meant_in i c (type_of_key (key_of (path_in i) d)) ≡ t
   pub named : (file : ℕ) (name : List ℕ) (b : Binding) (k : DeclKey) (t : Option Term) → file_binding c.blocks file name ≡ Some b → b.target ≡ targets.Exported k
-      → face_in (faces_told i.reached) k.path k.decl ≡ Some (faces.«Type» t) → typed_in (known_types i c) (type_of_key k) ≡ t
+      → face_in (faces_told i.reached) k.path k.decl ≡ Some (faces.«Type» t) → meant_in i c (type_of_key k) ≡ t
   pub shown : (path name : List ℕ) (d : DeclRef) (t : Option Term) → exported_in (faces_told i.reached) path name ≡ shown_faces.Shown d (Some (faces.«Type» t))
-      → typed_in (known_types i c) (shown_type path (shown_in (exports_told i.reached) path name)) ≡ t
+      → meant_in i c (shown_type path (shown_in (exports_told i.reached) path name)) ≡ t
 
 -- the types of a header, and that of a specification
 abbrev pub own_types : Piece → List TypeTree

@@ -2,8 +2,10 @@
 pub use Rattle.go_face_core.proofs.Ascending as Ascending
 pub use Rattle.go_face_core.proofs.Displaying as Displaying
 pub use Rattle.go_face_core.specs.Faces as Faces
+pub use Rattle.go_face_core.specs.Here as Here
 pub use Rattle.go_face_core.specs.Laws as Laws
 pub use Rattle.go_face_core.specs.Packages as Packages
 pub use Rattle.go_face_core.proofs.Placed as Placed
+pub use Rattle.go_face_core.proofs.Places as Places
 pub use Rattle.go_face_core.specs.Written as Written
 pub use Rattle.go_face_core.specs.declared as declared

@@ -2,6 +2,7 @@ pub mod Laws
 pub mod Reported
 pub mod Used
 pub mod mirrors
+pub mod alias_core
 pub mod alike_core
 pub mod answer_core
 pub mod block_core

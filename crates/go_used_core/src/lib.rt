@@ -13,6 +13,11 @@ pub use laws::{reports_are_one, used_imports_are_these};
 pub use reporting::report;
 pub use unused::refuse_unused;
 
+/// What the crates above name of `go_alias_core`.
+pub mod alias_core {
+    pub use go_answer_core::alias_core::{Aliases, alias_loops, aliases_of, written_aliases};
+}
+
 /// What the crates above name of `go_alike_core`.
 pub mod alike_core {
     pub use go_answer_core::alike_core::same_exports;
@@ -42,7 +47,7 @@ pub mod denote_core {
 /// What the crates above name of `go_face_core`.
 pub mod face_core {
     pub use go_answer_core::face_core::{
-        Face, FaceTable, PackageFaces, WrittenFaces, lend, written_faces,
+        Face, FaceTable, PackageFaces, TypesHere, WrittenFaces, lend, written_faces,
     };
 }
 

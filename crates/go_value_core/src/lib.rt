@@ -31,7 +31,7 @@ pub mod decl_core {
 
 /// What the crates above name of `go_entry_core`.
 pub mod entry_core {
-    pub use go_env_core::entry_core::{ImportedNames, outlines, type_entries};
+    pub use go_env_core::entry_core::{ImportedNames, all_types, outlines, type_entries};
 }
 
 /// What the crates above name of `go_env_core`.

@@ -4,6 +4,7 @@ use Rattle.std.specs.Prelude.{Option, Some, None, ⊤}
 use Rattle.go_tree_nodes.specs.declared.types.TypeName.{TypeName}
 use Rattle.go_universe_core.specs.declared.Predeclared.{Predeclared}
 use Rattle.go_universe_core.specs.declared.Predeclared.TheVariants as universe
+use Rattle.go_term_core.specs.decl_core.declared.keys.DeclKey.{DeclKey}
 use Rattle.go_term_core.specs.decl_core.declared.keys.DeclRef.{DeclRef}
 use Rattle.go_term_core.specs.declared.term.MemberPlace.TheVariants as places
 use Rattle.go_term_core.specs.Terms.{Term}
@@ -21,6 +22,7 @@ use Rattle.go_near_core.specs.entry_core.Entries.{Meanings}
 use Rattle.go_near_core.specs.entry_core.Outlines.{FileOutline}
 use Rattle.go_near_core.specs.face_core.declared.face.Face.TheVariants as faces
 use Rattle.go_near_core.specs.face_core.Faces.{TheFace}
+use Rattle.go_near_core.specs.face_core.Here.{face_type, far_type}
 use Rattle.go_near_core.specs.face_core.Packages.{PackageFacesModel, exported_in, face_in}
 use Rattle.go_near_core.specs.face_core.Written.{WrittenOf, position_of, written_with}
 use Rattle.go_near_core.specs.names_core.declared.meaning.Outside.{Outside}
@@ -181,15 +183,22 @@ module _ (i : InputModel) (b : BlocksModel) (types : List Entry) (known : List (
   seen : KnownAlike Inside (known_by (told_by_imports i)) (known_by i.reached)
   seen = alike i well
 
+  abbrev outlines : List FileOutline
+  outlines = outlines_in (package_seen i b (seen_by i))
+
+  -- what the types mean there that the packages declare which its imports come to
+  far_same : (k : DeclKey) → Inside k.path → far_type one.scene.others k ≡ far_type other.scene.others k
+  far_same k h = ap face_type (seen.declared k.path k.decl h)
+
   written : one.scene.written ≡ other.scene.written
-  written = ap (λ (ms : Meanings). written_with ms (path_in i) types (outlines_in (package_seen i b (seen_by i)))) (meanings_same Inside (path_in i) b binds (seen_by_imports i).shows (seen_by i).shows seen.shows)
+  written = ap (λ (ms : Meanings). written_with ms (path_in i) types outlines) (meanings_same Inside (path_in i) b binds (seen_by_imports i).shows (seen_by i).shows seen.shows outlines (far_type one.scene.others) (far_type other.scene.others) far_same)
 
   -- the same stand, where names of types mean this
   abbrev with_top : (TypeName → Term) → FileStand
   with_top top = record { scene = one.scene; known = known; file = one.file; top = top }
 
   tops : one.top ≡ other.top
-  tops = λ j x. meaning_same Inside (path_in i) b binds (seen_by_imports i).shows (seen_by i).shows seen.shows n x j
+  tops = λ j x. meaning_same Inside (path_in i) b binds (seen_by_imports i).shows (seen_by i).shows seen.shows outlines (far_type one.scene.others) (far_type other.scene.others) far_same n x j
 
   types_same : WrittenAgree (near Inside) (types_where one look) (types_where other look)
   types_same = record {

@@ -3,3 +3,5 @@ mod Meaning
 mod Alike
 mod Deciding
 mod Keeping
+pub mod Leading
+mod Paths

@@ -11,10 +11,10 @@ use go_whole_core::block_core::Imported;
 use go_whole_core::part_core::PartInput;
 use go_whole_core::summary_core::{Summary, View, view_of};
 use std::alloc::{AllocError, Global};
-use std::collections::HashSet;
+use std::collections::BTreeSet;
 
 // Adds the path of the package that an import comes to, where it comes to one.
-fn add_path<'a>(paths: &mut HashSet<&'a str>, import: &'a Imported) -> Result<(), AllocError>
+fn add_path<'a>(paths: &mut BTreeSet<&'a str>, import: &'a Imported) -> Result<(), AllocError>
     ensures { OnOk result ((path : List ℕ) → has_path paths.new.keys path ≡ (has_path paths.old.keys path || comes_to path import.now)) }
 {
     match import {
@@ -27,7 +27,7 @@ fn add_path<'a>(paths: &mut HashSet<&'a str>, import: &'a Imported) -> Result<()
 }
 
 // The same of the imports of a file.
-fn add_paths<'a>(paths: &mut HashSet<&'a str>, imports: &'a [Imported]) -> Result<(), AllocError>
+fn add_paths<'a>(paths: &mut BTreeSet<&'a str>, imports: &'a [Imported]) -> Result<(), AllocError>
     ensures { OnOk result ((path : List ℕ) → has_path paths.new.keys path ≡ (has_path paths.old.keys path || list_any (comes_to path) imports.now)) }
 {
     for import in imports {
@@ -40,25 +40,32 @@ fn add_paths<'a>(paths: &mut HashSet<&'a str>, imports: &'a [Imported]) -> Resul
 fn imported_paths<'a>(
     alloc: Global,
     files: &'a [Vec<Imported>],
-) -> Result<HashSet<&'a str>, AllocError>
+) -> Result<BTreeSet<&'a str>, AllocError>
     ensures { IfOk result (λ paths. (path : List ℕ) → has_path paths.keys path ≡ is_imported (map imported_in files.now) path) }
 {
-    let mut paths = HashSet::new(alloc);
+    let mut paths = BTreeSet::new(alloc);
     for imports in files {
         add_paths(&mut paths, imports)?;
     }
     Ok(paths)
 }
 
+// Whether a path is one of these.
+fn has(paths: &BTreeSet<&str>, path: &str) -> bool
+    ensures { result ≡ has_path paths.now.keys path.now }
+{
+    paths.contains(path)
+}
+
 // Adds what a package tells, where its path is one of these.
 fn add_if_imported(
-    paths: &HashSet<&str>,
+    paths: &BTreeSet<&str>,
     summary: &Summary,
     kept: &mut Vec<Summary>,
 ) -> Result<(), AllocError>
     ensures { OnOk result (kept.new.items ≡ kept.old.items ++ (if has_path paths.now.keys (path_of summary.now) then summary.now ∷ [] else [])) }
 {
-    if paths.contains(summary.path().as_str()) {
+    if has(paths, summary.path().as_str()) {
         add(kept, summary.share()?)?;
     }
     Ok(())

@@ -14,7 +14,7 @@ use Rattle.go_near_core.specs.entry_core.Entries.{package_meanings, package_meth
 use Rattle.go_near_core.specs.entry_core.Ordered.{entries_own}
 use Rattle.go_near_core.specs.face_core.Packages.{PackageFacesModel}
 use Rattle.go_near_core.specs.ready_core.Made.{trees_placed}
-use Rattle.go_near_core.specs.ready_core.Packages.{PackageIn, entries_in, outlines_in, trees_in}
+use Rattle.go_near_core.specs.ready_core.Packages.{PackageIn, entries_in, outlines_in, shows_in, trees_in}
 use Rattle.go_near_core.specs.package_core.Checked.{CheckedOf, IsChecked}
 use Rattle.go_tree_nodes.specs.Spelling.{IsPlaced}
 
@@ -36,7 +36,7 @@ own_built written far kind path (w ∷ ws) (e ∷ es) own h = (ap (λ (k : DeclK
 
 pub types_own : (p : PackageIn) (far : List Entry) (c : CheckedOf) → IsChecked p far c → AreOf p.path c.types
 types_own p far c h =
-    let means = package_meanings p.shows p.path p.blocks in
+    let means = package_meanings (shows_in p) p.path p.blocks in
     own_built (entries_in p) (find_entry far) h.types.built.kind p.path (entries_in p) c.types (entries_own means p.path (package_methods means p.path (outlines_in p)) (outlines_in p)) h.types.built.entries
 
 -- what a package shows is of its path

@@ -1,5 +1,5 @@
 -- The faults of the types of a package are the same over two tables that have the same of the packages that are led to.
-use Rattle.std.proofs.Common.{◌≡◌, ℕ, List, [], ◌∷◌, ◌++◌, ◌&&◌, ◌||◌, not, inl, inr, if◌then◌else◌, refl, sym, ap, ◌∙◌}
+use Rattle.std.proofs.Common.{◌≡◌, ℕ, List, [], ◌∷◌, ◌++◌, ◌&&◌, ◌||◌, not, false, inl, inr, if◌then◌else◌, refl, sym, ap, ◌∙◌}
 use Rattle.std.specs.Prelude.{Option, Some, None, Contains}
 use Rattle.std.specs.Str.{bytes_eq}
 use Rattle.std.specs.List.{flat_map, enumerate_from}
@@ -11,6 +11,7 @@ use Rattle.go_text_core.specs.Text.{is_blank}
 use Rattle.go_text_core.specs.declared.rule.Rule.TheVariants.{B5, B6}
 use Rattle.go_tree_nodes.specs.Starts.{type_name_start}
 use Rattle.go_term_core.specs.decl_core.declared.keys.DeclKey.{DeclKey}
+use Rattle.go_term_core.specs.decl_core.declared.keys.DeclRef.{DeclRef}
 use Rattle.go_term_core.specs.decl_core.TopDecls.{TopDeclTree, FormTree, ValueForm, TypeForm, FuncForm}
 use Rattle.go_term_core.specs.declared.term.MemberPlace.{MemberPlace}
 use Rattle.go_term_core.specs.Terms.{Term, NoType, Predeclared, ErrorType, Defined, PointerTo, StructOf, InterfaceOf, AMethod, NoMethod, Sign, is_no_type, term_keys, sign_keys}
@@ -25,7 +26,7 @@ use Rattle.go_near_core.specs.entry_core.Entries.{Meanings}
 use Rattle.go_near_core.specs.entry_core.Outlines.{FileOutline}
 use Rattle.go_near_core.specs.entry_core.Among.{Among}
 use Rattle.go_near_core.specs.fault_core.Places.{all_located, fault_in}
-use Rattle.go_near_core.specs.fault_core.TypeFaults.{entries_faults, entry_faults, faults_of_types, form_fault, loops_faults, met_in, met_type, received_fault, receivers_faults}
+use Rattle.go_near_core.specs.fault_core.TypeFaults.{alias_faults, entries_faults, entry_faults, faults_of_types, form_fault, loops_faults, met_in, met_type, received_fault, receivers_faults, type_base_fault}
 use Rattle.go_whole_core.proofs.Names.{AllInside, none_inside}
 use Rattle.go_whole_core.proofs.Types.{IsEntryInside}
 use Rattle.go_near_core.specs.settle_core.Settled.{can_be_pointed}
@@ -87,19 +88,22 @@ module _ (Inside : List ℕ → Type 0) (es fs : List Entry) (same : (k : DeclKe
   base_same path (StructOf p fields) h = refl
   base_same path (InterfaceOf p ms) h = refl
 
-  module _ (means : Meanings) (near : (file : ℕ) (n : TypeName) → AllInside Inside (term_keys (means file n))) (path : List ℕ) where
-    received_same : (file : ℕ) (o : Option Receiver) → received_fault es (means file) path file o ≡ received_fault fs (means file) path file o
-    received_same file None = refl
-    received_same file (Some r) = λ j. if is_no_type (means file r.base) then [] else (if base_same path (means file r.base) (near file r.base) j then [] else fault_in file (type_name_start r.base) B6 ∷ [])
+  type_base_same : (path : List ℕ) (file offset : ℕ) (t : Term) → AllInside Inside (term_keys t) → type_base_fault es path file offset t ≡ type_base_fault fs path file offset t
+  type_base_same path file offset t h = λ j. if (if is_no_type t then false else base_same path t h j) then [] else fault_in file offset B6 ∷ []
 
-    receiver_same : (file : ℕ) (form : FormTree) → form_fault es (means file) path file form ≡ form_fault fs (means file) path file form
+  module _ (raws means : Meanings) (near : (file : ℕ) (n : TypeName) → AllInside Inside (term_keys (means file n))) (path : List ℕ) where
+    received_same : (file : ℕ) (o : Option Receiver) → received_fault es (raws file) (means file) path file o ≡ received_fault fs (raws file) (means file) path file o
+    received_same file None = refl
+    received_same file (Some r) = λ j. if is_no_type (raws file r.base) then [] else type_base_same path file (type_name_start r.base) (means file r.base) (near file r.base) j
+
+    receiver_same : (file : ℕ) (form : FormTree) → form_fault es (raws file) (means file) path file form ≡ form_fault fs (raws file) (means file) path file form
     receiver_same file (ValueForm k v i) = refl
     receiver_same file (TypeForm t) = refl
     receiver_same file (FuncForm g) = received_same file g.receiver
 
-    receivers_same : (os : List FileOutline) → receivers_faults es means path os ≡ receivers_faults fs means path os
+    receivers_same : (os : List FileOutline) → receivers_faults es raws means path os ≡ receivers_faults fs raws means path os
     receivers_same os = λ j. flat_map (λ (q : ℕ × FileOutline). flat_map (λ (d : TopDeclTree). receiver_same q.0 d.form j) q.1.decls) (enumerate_from 0 os)
 
-    pub faults_same : (os : List FileOutline) (ws : List Entry) (loops : List TypeFault) → ((e : Entry) → Among ws e → IsEntryInside Inside e)
-        → faults_of_types es means path os ws loops ≡ faults_of_types fs means path os ws loops
-    faults_same os ws loops h = λ j. (loops_faults os ws loops ++ entries_same path os ws h j) ++ receivers_same os j
+    pub faults_same : (os : List FileOutline) (ws : List Entry) (looped : List DeclRef) (loops : List TypeFault) → ((e : Entry) → Among ws e → IsEntryInside Inside e)
+        → faults_of_types es raws means path os ws looped loops ≡ faults_of_types fs raws means path os ws looped loops
+    faults_same os ws looped loops h = λ j. ((loops_faults os ws loops ++ alias_faults os looped) ++ entries_same path os ws h j) ++ receivers_same os j

@@ -7,19 +7,22 @@ use Rattle.go_tree_nodes.specs.declared.types.TypeName.{TypeName}
 use Rattle.go_term_core.specs.decl_core.declared.keys.DeclKey.{DeclKey}
 use Rattle.go_term_core.specs.decl_core.declared.keys.DeclRef.{DeclRef}
 use Rattle.go_term_core.specs.decl_core.TopDecls.{top_decls}
-use Rattle.go_term_core.specs.Terms.{term_keys}
+use Rattle.go_term_core.specs.Terms.{Term, term_keys}
 use Rattle.go_near_core.specs.table_core.Entries.{Entry, find_entry, entry_keys}
 use Rattle.go_near_core.specs.type_core.Built.{IsBuilt}
 use Rattle.go_near_core.specs.type_core.Laws.{written_keys}
 use Rattle.go_near_core.specs.entry_core.Entries.{Meanings, entries_with, file_at, package_meanings, package_methods, type_key}
-use Rattle.go_near_core.specs.entry_core.Meanings.{file_meaning}
+use Rattle.go_near_core.specs.entry_core.Meanings.{declared_alone, file_meaning}
 use Rattle.go_near_core.specs.entry_core.Outlines.{FileOutline, outline_of}
 use Rattle.go_near_core.specs.entry_core.Among.{Among}
+use Rattle.go_near_core.specs.alias_core.Aliases.{alias_ends}
+use Rattle.go_near_core.specs.alias_core.Laws.{AreLoopedAliases}
 use Rattle.go_near_core.specs.fault_core.TypeFaults.{faults_of_types}
 use Rattle.go_near_core.specs.handle_core.Declarations.{Declaration}
 use Rattle.go_local_core.specs.declared.Fault.{Fault}
 use Rattle.go_near_core.specs.report_core.Faults.{IsSettled}
 use Rattle.go_near_core.specs.face_core.Faces.{TheFace}
+use Rattle.go_near_core.specs.face_core.Here.{far_type}
 use Rattle.go_near_core.specs.face_core.Packages.{PackageFacesModel, face_among, face_by, face_in}
 use Rattle.go_near_core.specs.face_core.Written.{decls_of, package_written, same_decl_place, written_at}
 use Rattle.go_near_core.specs.face_core.Locality.{written_are_local}
@@ -28,13 +31,14 @@ use Rattle.go_near_core.specs.answer_core.Shown.{exported_decls, is_decl_listed,
 use Rattle.go_near_core.specs.Tables.{AgreeOn}
 use Rattle.go_near_core.specs.Functions.{StandsAgree}
 use Rattle.go_near_core.proofs.Files.{file_used, file_breaks, file_declares}
-use Rattle.go_near_core.specs.ready_core.Packages.{PackageIn, entries_in, outlines_in, scene_in}
+use Rattle.go_near_core.specs.ready_core.Packages.{PackageIn, entries_in, outlines_in, scene_in, shows_in, targets_in, written_in}
 use Rattle.go_near_core.specs.ready_core.Types.{AreTypes}
 use Rattle.go_near_core.specs.ready_core.Values.{AreDeclared, AreLooped}
 use Rattle.go_near_core.specs.package_core.Checked.{AnswersOf, CheckedOf, IsFileChecked, decls_before, imports_at}
 use Rattle.go_near_core.specs.package_core.Meanings.{one_check}
 use Rattle.go_whole_core.specs.Known.{package_with, CheckGives, KnownAlike, BindsInside, MentionsInside, GivesInside}
-use Rattle.go_whole_core.proofs.Names.{AllInside, meaning_inside, meaning_same, meanings_same}
+use Rattle.go_whole_core.proofs.Names.{AllInside}
+use Rattle.go_whole_core.proofs.Targets.{aliases_same, all_same, far_inside, far_same, meaning_inside, meaning_same, meanings_same, raw_same}
 use Rattle.go_whole_core.proofs.Types.{near_of, IsEntryInside, agree, built_over, entries_inside, own_inside, written_inside}
 use Rattle.go_whole_core.proofs.Faults.{faults_same}
 use Rattle.go_whole_core.proofs.Seeing.{IsFaceInside, IsAnyInside, exported_same, outside_near, outside_same, shown_near}
@@ -88,19 +92,39 @@ module _ (Inside : List ℕ → Type 0) (p : PackageIn) (one other : SeenOf) (c 
   -- what names of types mean
 
   abbrev means : Meanings
-  means = package_meanings one.shows p.path p.blocks
+  means = package_meanings (shows_in here) p.path p.blocks
 
   abbrev meant : Meanings
-  meant = package_meanings other.shows p.path p.blocks
+  meant = package_meanings (shows_in there) p.path p.blocks
+
+  faces_in : (path : List ℕ) (d : DeclRef) (f : TheFace) → Inside path → face_in one.faces path d ≡ Some f → IsFaceInside Inside f
+  faces_in path d f h is = λ j at. mentions.faces path d f j h is at
+
+  far_in : (k : DeclKey) → Inside k.path → AllInside Inside (term_keys (far_type one.faces k))
+  far_in k h = far_inside Inside one.faces faces_in k h
+
+  alike_far : (k : DeclKey) → Inside k.path → far_type one.faces k ≡ far_type other.faces k
+  alike_far k h = far_same Inside one.faces other.faces alike.declared k h
 
   named : (file : ℕ) (n : TypeName) → AllInside Inside (term_keys (means file n))
-  named file n = meaning_inside Inside p.path p.blocks own binds one.shows file n
+  named file n = meaning_inside Inside p.path p.blocks os own binds one.shows (far_type one.faces) far_in file n
 
   named_same : (file : ℕ) (n : TypeName) → means file n ≡ meant file n
-  named_same file n = meaning_same Inside p.path p.blocks own binds one.shows other.shows alike.shows file n
+  named_same file n = meaning_same Inside p.path p.blocks os own binds one.shows other.shows alike.shows (far_type one.faces) (far_type other.faces) alike_far file n
 
   means_same : means ≡ meant
-  means_same = meanings_same Inside p.path p.blocks own binds one.shows other.shows alike.shows
+  means_same = meanings_same Inside p.path p.blocks os own binds one.shows other.shows alike.shows (far_type one.faces) (far_type other.faces) alike_far
+
+  -- what they denote
+
+  abbrev raws : Meanings
+  raws = package_meanings (declared_alone one.shows) p.path p.blocks
+
+  abbrev denoted : Meanings
+  denoted = package_meanings (declared_alone other.shows) p.path p.blocks
+
+  raws_same : raws ≡ denoted
+  raws_same = raw_same Inside p.path p.blocks os own binds one.shows other.shows alike.shows
 
   -- the types that it declares, as they are written
 
@@ -129,33 +153,38 @@ module _ (Inside : List ℕ → Type 0) (p : PackageIn) (one other : SeenOf) (c 
       subst (λ (ws : List Entry). IsBuilt (find_entry other.types) ws c.types given.types.loops) entries_same
       (built_over Inside one.types other.types (entries_in here) c.types given.types.loops written_types given.types.built types_in alike.types)
 
-  faults_over : given.type_faults ≡ faults_of_types theirs meant p.path os (entries_in there) given.types.loops
+  -- the aliases that reach themselves
+
+  aliases_over : AreLoopedAliases (written_in there) (targets_in there) given.types.looped
+  aliases_over =
+      subst (λ (ws : List Entry). AreLoopedAliases ws (targets_in there) given.types.looped) (all_same Inside p.path p.blocks os own binds one.shows other.shows alike.shows)
+      (subst (λ (xs : List (DeclRef × Term)). AreLoopedAliases (written_in here) (alias_ends xs p.path) given.types.looped) (aliases_same Inside p.path p.blocks os own binds one.shows other.shows alike.shows)
+      given.types.looped_are)
+
+  faults_over : given.type_faults ≡ faults_of_types theirs denoted meant p.path os (entries_in there) given.types.looped given.types.loops
   faults_over =
       given.types.faults_are
-      ∙ (faults_same Inside mine theirs tables.same means named p.path os (entries_in here) given.types.loops entries
-      ∙ (λ j. faults_of_types theirs (means_same j) p.path os (entries_with (means_same j) p.path (package_methods (means_same j) p.path os) os) given.types.loops))
+      ∙ (faults_same Inside mine theirs tables.same raws means named p.path os (entries_in here) given.types.looped given.types.loops entries
+      ∙ (λ j. faults_of_types theirs (raws_same j) (means_same j) p.path os (entries_with (means_same j) p.path (package_methods (means_same j) p.path os) os) given.types.looped given.types.loops))
 
   types_over : AreTypes there other.types c.types given.type_faults
-  types_over = record { loops = given.types.loops; built = built; faults_are = faults_over }
+  types_over = record { loops = given.types.loops; built = built; looped = given.types.looped; looped_are = aliases_over; faults_are = faults_over }
 
   -- its declarations as they are written
 
-  written_same : package_written one.shows p.path p.blocks mine os ≡ package_written other.shows p.path p.blocks theirs os
-  written_same = written_are_local one.shows other.shows p.path p.blocks p.blocks mine theirs os (λ n o x at h. named_same n x) (record {
+  written_same : package_written (shows_in here) p.path p.blocks mine os ≡ package_written (shows_in there) p.path p.blocks theirs os
+  written_same = written_are_local (shows_in here) (shows_in there) p.path p.blocks p.blocks mine theirs os (λ n o x at h. named_same n x) (record {
     own = λ n o d t at form. tables.same (type_key (file_at p.path n o) d.number) own;
     named = λ n o x k at h m. tables.same k (named n x k m);
   })
 
-  written_in : (n : ℕ) → IsAnyInside Inside (written_at (package_written one.shows p.path p.blocks mine os) n)
-  written_in n = written_at_inside Inside means p.path mine os named own n
+  each_written : (n : ℕ) → IsAnyInside Inside (written_at (package_written (shows_in here) p.path p.blocks mine os) n)
+  each_written n = written_at_inside Inside means p.path mine os named own n
 
   -- what names stand for
 
-  faces_in : (path : List ℕ) (d : DeclRef) (f : TheFace) → Inside path → face_in one.faces path d ≡ Some f → IsFaceInside Inside f
-  faces_in path d f h is = λ j at. mentions.faces path d f j h is at
-
   stands : (known : List (Option TheFace)) → AreKnownInside Inside known → (n : ℕ) (o : FileOutline)
-      → StandsAgree (near_of Inside) (file_at p.path n o) (scene_in here mine) (scene_in there theirs) known known (file_meaning one.shows p.path p.blocks n) (file_meaning other.shows p.path p.blocks n)
+      → StandsAgree (near_of Inside) (file_at p.path n o) (scene_in here mine) (scene_in there theirs) known known (file_meaning (shows_in here) p.path p.blocks n) (file_meaning (shows_in there) p.path p.blocks n)
   stands known h n o =
       let s = scene_in here mine in
       let t = scene_in there theirs in
@@ -176,13 +205,13 @@ module _ (Inside : List ℕ → Type 0) (p : PackageIn) (one other : SeenOf) (c 
   -- what its declarations are
 
   known_in : AreKnownInside Inside c.declared
-  known_in = known_inside Inside p one other mine theirs placed written_same written_in stands c.declared given.declared
+  known_in = known_inside Inside p one other mine theirs placed written_same each_written stands c.declared given.declared
 
   declared : AreDeclared there theirs c.declared
-  declared = declared_over Inside p one other mine theirs placed written_same written_in stands c.declared given.declared
+  declared = declared_over Inside p one other mine theirs placed written_same each_written stands c.declared given.declared
 
   constants : AreLooped there theirs given.looped
-  constants = looped_over Inside p one other mine theirs placed written_same written_in stands given.looped given.constants
+  constants = looped_over Inside p one other mine theirs placed written_same each_written stands given.looped given.constants
 
   -- its files
 
@@ -191,8 +220,8 @@ module _ (Inside : List ℕ → Type 0) (p : PackageIn) (one other : SeenOf) (c 
       let o = outline_of f.1 in
       let s = scene_in here mine in
       let t = scene_in there theirs in
-      let top = file_meaning one.shows p.path p.blocks f.0 in
-      let under = file_meaning other.shows p.path p.blocks f.0 in
+      let top = file_meaning (shows_in here) p.path p.blocks f.0 in
+      let under = file_meaning (shows_in there) p.path p.blocks f.0 in
       let law = stands c.declared known_in f.0 o in
       let file = file_at p.path f.0 o in
       let breaks = file_breaks (near_of Inside) file s t c.declared c.declared top under law f.1 in

@@ -6,7 +6,7 @@ pub mod Inputting
 pub mod Lists
 pub mod Making
 mod Meanings
-mod Names
+pub mod Names
 pub mod Next
 pub mod OneWhole
 pub mod Order
@@ -15,6 +15,7 @@ pub mod Parts
 pub mod PartsWhole
 mod Seeing
 pub mod Staying
+pub mod Targets
 pub mod Theirs
 pub mod Told
 mod Types

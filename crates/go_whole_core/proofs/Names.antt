@@ -1,4 +1,4 @@
--- What the names of types mean at the top of a file: types of the packages that are led to, and the same where these show the same.
+-- What the names of types denote at the top of a file: types of the packages that are led to, and the same where these show the same.
 use Rattle.std.proofs.Common.{◌≡◌, ℕ, List, [], ◌∷◌, inl, inr, refl, ap, subst, arith}
 use Rattle.std.specs.Prelude.{Option, Some, None, Contains}
 use Rattle.go_tree_nodes.specs.declared.types.TypeName.{TypeName}
@@ -16,8 +16,7 @@ use Rattle.go_near_core.specs.block_core.declared.binding.Target.TheVariants as 
 use Rattle.go_near_core.specs.block_core.Blocks.{BlocksModel, file_binding}
 use Rattle.go_near_core.specs.block_core.Tables.{in_block}
 use Rattle.go_term_core.specs.Terms.{term_keys}
-use Rattle.go_near_core.specs.entry_core.Entries.{package_meanings}
-use Rattle.go_near_core.specs.entry_core.Meanings.{Shows, file_meaning, outside_meaning, plain_meaning, qualified_meaning, shown_type, type_in_binding, type_in_target, type_of_kind, type_of_predeclared, type_of_target, type_of_universe}
+use Rattle.go_near_core.specs.entry_core.Meanings.{Shown, named_meaning, outside_meaning, plain_meaning, qualified_meaning, shown_type, type_in_binding, type_in_target, type_of_kind, type_of_predeclared, type_of_target, type_of_universe}
 use Rattle.go_near_core.specs.entry_core.Among.{among_from}
 use Rattle.go_whole_core.specs.Known.{IsTargetIn}
 use Rattle.go_near_core.specs.block_core.Bindings.{key_of}
@@ -61,10 +60,10 @@ module _ (Inside : List ℕ → Type 0) where
   shown_inside q None h = none_inside
   shown_inside q (Some d) h = kind_inside (key_of q d) d.kind h
 
-  in_target_inside : (shows : Shows) (name : List ℕ) (t : Target) → IsTargetIn Inside t → AllInside (term_keys (type_in_target shows name t))
-  in_target_inside shows name (targets.«Package» q) h = shown_inside q (shows q name) h
-  in_target_inside shows name (targets.Refused rule) h = none_inside
-  in_target_inside shows name (targets.Exported k) h = none_inside
+  in_target_inside : (shown : Shown) (name : List ℕ) (t : Target) → IsTargetIn Inside t → AllInside (term_keys (type_in_target shown name t))
+  in_target_inside shown name (targets.«Package» q) h = shown_inside q (shown q name) h
+  in_target_inside shown name (targets.Refused rule) h = none_inside
+  in_target_inside shown name (targets.Exported k) h = none_inside
 
   module _ (path : List ℕ) (b : BlocksModel) (own : Inside path) (binds : (file : ℕ) (name : List ℕ) (x : Binding) → file_binding b file name ≡ Some x → IsTargetIn Inside x.target) where
     outside_inside : (file : ℕ) (name : List ℕ) (o : Option Binding) → file_binding b file name ≡ o → AllInside (term_keys (outside_meaning path name o))
@@ -75,35 +74,32 @@ module _ (Inside : List ℕ → Type 0) where
     plain_inside file name None = outside_inside file name (file_binding b file name) refl
     plain_inside file name (Some d) = kind_inside (key_of path d) d.kind own
 
-    binding_inside : (shows : Shows) (file : ℕ) (q name : List ℕ) (o : Option Binding) → file_binding b file q ≡ o → AllInside (term_keys (type_in_binding shows name o))
-    binding_inside shows file q name None e = none_inside
-    binding_inside shows file q name (Some x) e = in_target_inside shows name x.target (binds file q x e)
+    binding_inside : (shown : Shown) (file : ℕ) (q name : List ℕ) (o : Option Binding) → file_binding b file q ≡ o → AllInside (term_keys (type_in_binding shown name o))
+    binding_inside shown file q name None e = none_inside
+    binding_inside shown file q name (Some x) e = in_target_inside shown name x.target (binds file q x e)
 
-    qualified_inside : (shows : Shows) (file : ℕ) (q name : List ℕ) (o : Option DeclRef) → AllInside (term_keys (qualified_meaning shows b file q name o))
-    qualified_inside shows file q name None = binding_inside shows file q name (file_binding b file q) refl
-    qualified_inside shows file q name (Some d) = none_inside
+    qualified_inside : (shown : Shown) (file : ℕ) (q name : List ℕ) (o : Option DeclRef) → AllInside (term_keys (qualified_meaning shown b file q name o))
+    qualified_inside shown file q name None = binding_inside shown file q name (file_binding b file q) refl
+    qualified_inside shown file q name (Some d) = none_inside
 
-    pub meaning_inside : (shows : Shows) (file : ℕ) (n : TypeName) → AllInside (term_keys (file_meaning shows path b file n))
-    meaning_inside shows file (type_names.Plain x) = plain_inside file x.name (in_block b.names x.name)
-    meaning_inside shows file (type_names.Qualified q dot x) = qualified_inside shows file q.name x.name (in_block b.names q.name)
+    pub named_inside : (shown : Shown) (file : ℕ) (n : TypeName) → AllInside (term_keys (named_meaning shown path b file n))
+    named_inside shown file (type_names.Plain x) = plain_inside file x.name (in_block b.names x.name)
+    named_inside shown file (type_names.Qualified q dot x) = qualified_inside shown file q.name x.name (in_block b.names q.name)
 
-    module _ (shows other : Shows) (alike : (q name : List ℕ) → Inside q → shows q name ≡ other q name) where
-      in_target_same : (name : List ℕ) (t : Target) → IsTargetIn Inside t → type_in_target shows name t ≡ type_in_target other name t
+    module _ (shown other : Shown) (alike : (q name : List ℕ) → Inside q → shown q name ≡ other q name) where
+      in_target_same : (name : List ℕ) (t : Target) → IsTargetIn Inside t → type_in_target shown name t ≡ type_in_target other name t
       in_target_same name (targets.«Package» q) h = ap (shown_type q) (alike q name h)
       in_target_same name (targets.Refused rule) h = refl
       in_target_same name (targets.Exported k) h = refl
 
-      binding_same : (file : ℕ) (q name : List ℕ) (o : Option Binding) → file_binding b file q ≡ o → type_in_binding shows name o ≡ type_in_binding other name o
+      binding_same : (file : ℕ) (q name : List ℕ) (o : Option Binding) → file_binding b file q ≡ o → type_in_binding shown name o ≡ type_in_binding other name o
       binding_same file q name None e = refl
       binding_same file q name (Some x) e = in_target_same name x.target (binds file q x e)
 
-      qualified_same : (file : ℕ) (q name : List ℕ) (o : Option DeclRef) → qualified_meaning shows b file q name o ≡ qualified_meaning other b file q name o
+      qualified_same : (file : ℕ) (q name : List ℕ) (o : Option DeclRef) → qualified_meaning shown b file q name o ≡ qualified_meaning other b file q name o
       qualified_same file q name None = binding_same file q name (file_binding b file q) refl
       qualified_same file q name (Some d) = refl
 
-      pub meaning_same : (file : ℕ) (n : TypeName) → file_meaning shows path b file n ≡ file_meaning other path b file n
-      meaning_same file (type_names.Plain x) = refl
-      meaning_same file (type_names.Qualified q dot x) = qualified_same file q.name x.name (in_block b.names q.name)
-
-      pub meanings_same : package_meanings shows path b ≡ package_meanings other path b
-      meanings_same = λ j file n. meaning_same file n j
+      pub named_same : (file : ℕ) (n : TypeName) → named_meaning shown path b file n ≡ named_meaning other path b file n
+      named_same file (type_names.Plain x) = refl
+      named_same file (type_names.Qualified q dot x) = qualified_same file q.name x.name (in_block b.names q.name)

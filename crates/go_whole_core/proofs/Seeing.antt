@@ -76,7 +76,7 @@ module _ (Inside : List ℕ → Type 0) where
   -- what other packages show
 
   module _ (others : List PackageFacesModel) (mentions : (path : List ℕ) (d : DeclRef) (f : TheFace) → Inside path → face_in others path d ≡ Some f → IsFaceInside f) where
-    face_inside : (path : List ℕ) (d : DeclRef) (o : Option TheFace) → Inside path → face_in others path d ≡ o → IsAnyInside o
+    pub face_inside : (path : List ℕ) (d : DeclRef) (o : Option TheFace) → Inside path → face_in others path d ≡ o → IsAnyInside o
     face_inside path d None h e = tt
     face_inside path d (Some f) h e = mentions path d f h e
 

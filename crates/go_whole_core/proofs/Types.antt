@@ -1,5 +1,5 @@
 -- The types of a package mention types of the packages that are led to, and are the same over any that know the same of these.
-use Rattle.std.proofs.Common.{◌≡◌, ◌⊎◌, ℕ, List, [], ◌∷◌, ◌++◌, inl, inr, refl, sym, subst, ◌∙◌, arith}
+use Rattle.std.proofs.Common.{◌≡◌, ◌⊎◌, ℕ, Bool, true, false, List, [], ◌∷◌, ◌++◌, inl, inr, refl, sym, subst, ◌∙◌, arith}
 use Rattle.std.specs.Prelude.{Option, Some, None, Contains}
 use Rattle.std.specs.List.{filter, enumerate_from}
 use Rattle.std.proofs.lemmas.List.Elements.{Contains-append_left, Contains-append_cases}
@@ -18,7 +18,7 @@ use Rattle.go_near_core.specs.type_core.Elsewhere.{found_in, building_is_local}
 use Rattle.go_near_core.specs.type_core.Mentioned.{built_mentions_written}
 use Rattle.go_near_core.specs.written_core.Written.{InFile, Meaning, term_of}
 use Rattle.go_near_core.specs.written_core.ByNames.{written_by_names}
-use Rattle.go_near_core.specs.entry_core.Entries.{Meanings, Received, decl_methods, entries_with, entry_of, file_at, file_entries, file_methods, func_methods, is_type_of, methods_received, package_methods, spec_entry, type_key}
+use Rattle.go_near_core.specs.entry_core.Entries.{Meanings, Received, decl_methods, entries_with, entry_of, file_at, file_entries, file_methods, func_methods, is_listed, is_type_of, listed_entry, methods_received, package_methods, spec_entry, type_key}
 use Rattle.go_near_core.specs.entry_core.Outlines.{FileOutline}
 use Rattle.go_near_core.specs.entry_core.Among.{Among, among_flat, among_map, among_filter}
 use Rattle.go_near_core.specs.Tables.{Nearby, AgreeOn}
@@ -77,12 +77,17 @@ module _ (Inside : List ℕ → Type 0) where
         ],
       )
 
-      entry_inside : (d : TopDeclTree) (form : FormTree) (e : Entry) → Among (entry_of mean f rs d form) e → IsEntryInside e
-      entry_inside d (ValueForm k v i) e at = absurd at
-      entry_inside d (TypeForm t) e at = elim at [
-        | inl same ↦ subst IsEntryInside same (spec_inside d t)
+      -- an alias is no entry
+      listed_inside : (listed : Bool) (w e : Entry) → IsEntryInside w → Among (listed_entry listed w) e → IsEntryInside e
+      listed_inside true w e h at = elim at [
+        | inl same ↦ subst IsEntryInside same h
         | inr none ↦ absurd none
       ]
+      listed_inside false w e h at = absurd at
+
+      entry_inside : (d : TopDeclTree) (form : FormTree) (e : Entry) → Among (entry_of mean f rs d form) e → IsEntryInside e
+      entry_inside d (ValueForm k v i) e at = absurd at
+      entry_inside d (TypeForm t) e at = listed_inside (is_listed false t.alias) (spec_entry mean f rs d t) e (spec_inside d t) at
       entry_inside d (FuncForm g) e at = absurd at
 
       pub file_entries_inside : (ds : List TopDeclTree) (e : Entry) → Among (file_entries mean f rs ds) e → IsEntryInside e

@@ -7,6 +7,7 @@ use Rattle.go_tree_nodes.specs.declared.names.Ident.{Ident}
 use Rattle.go_tree_nodes.specs.declared.decls.ValueKind.{ValueKind}
 use Rattle.go_tree_nodes.specs.declared.decls.ValueKind.TheVariants as kinds
 use Rattle.go_tree_nodes.specs.declared.types.TypeName.{TypeName}
+use Rattle.go_tree_nodes.specs.text_core.declared.span.Span.{Span}
 use Rattle.go_tree_nodes.specs.Trees.{TypeTree, ValueSpecTree}
 use Rattle.go_term_core.specs.decl_core.TopDecls.{TopDeclTree, FormTree, ValueForm, TypeForm, FuncForm}
 use Rattle.go_near_core.specs.settle_core.Settled.{settled}
@@ -49,7 +50,7 @@ use Rattle.go_near_core.proofs.Closing.{either}
 use Rattle.go_near_core.proofs.Pieces.{outer_nearby}
 use Rattle.go_near_core.proofs.Functions.{outer_closed, outer_agree}
 use Rattle.go_near_core.specs.ready_core.Laws.{package_placed}
-use Rattle.go_near_core.specs.ready_core.Packages.{PackageIn, scene_in, stand_in}
+use Rattle.go_near_core.specs.ready_core.Packages.{PackageIn, scene_in, shows_in, stand_in}
 use Rattle.go_near_core.specs.ready_core.Values.{AreDeclared, AreLooped, declared_in, decls_in, needs_in, some_decl_face}
 use Rattle.go_near_core.specs.face_core.Places.{among_at}
 use Rattle.go_near_core.specs.ready_core.ValuesProofs.{needs_same, faces_same}
@@ -112,9 +113,14 @@ module _ (Inside : List ℕ → Type 0) where
     value_inside kinds.Var None = tt
     value_inside kinds.Const t = tt
 
+    -- a type is its key's, and an alias what is written
+    declared_inside : (mark : Option Span) (n : ℕ) (t : TypeTree) → IsFaceInside Inside (writing.declared_face mark mean f es n t)
+    declared_inside None n t = typed_inside (Defined (type_key f n)) (one_inside Inside (type_key f n) own)
+    declared_inside (Some mark) n t = type_inside t
+
     form_inside : (n : ℕ) (form : FormTree) → IsAnyInside Inside (writing.form_as_written mean f es n form)
     form_inside n (ValueForm k v i) = value_inside k v.type_expr
-    form_inside n (TypeForm t) = typed_inside (Defined (type_key f n)) (one_inside Inside (type_key f n) own)
+    form_inside n (TypeForm t) = declared_inside t.alias n t.type_expr
     form_inside n (FuncForm g) =
         λ k at. (let m = written_by_names.mentioned_in_signature mean f g.signature k (sign_mentions (kinds_in es) (signature_of mean f g.signature) k at).1 in near m.0 k m.2)
 
@@ -164,7 +170,7 @@ module _ (Inside : List ℕ → Type 0) where
       (written_same : (scene_in (package_with p one) es).written ≡ (scene_in (package_with p other) fs).written)
       (written_in : (n : ℕ) → IsAnyInside Inside (written_at (scene_in (package_with p one) es).written n))
       (stands : (known : List (Option TheFace)) → AreKnownInside known → (n : ℕ) (o : FileOutline)
-      → StandsAgree (near_of Inside) (file_at p.path n o) (scene_in (package_with p one) es) (scene_in (package_with p other) fs) known known (file_meaning one.shows p.path p.blocks n) (file_meaning other.shows p.path p.blocks n)) where
+      → StandsAgree (near_of Inside) (file_at p.path n o) (scene_in (package_with p one) es) (scene_in (package_with p other) fs) known known (file_meaning (shows_in (package_with p one)) p.path p.blocks n) (file_meaning (shows_in (package_with p other)) p.path p.blocks n)) where
     abbrev here : PackageIn
     here = package_with p one
 
@@ -185,8 +191,8 @@ module _ (Inside : List ℕ → Type 0) where
           let law = stands known inside n o in
           let s = scene_in here es in
           let t = scene_in there fs in
-          let top = file_meaning one.shows p.path p.blocks n in
-          let under = file_meaning other.shows p.path p.blocks n in
+          let top = file_meaning (shows_in here) p.path p.blocks n in
+          let under = file_meaning (shows_in there) p.path p.blocks n in
           outer_nearby Near (near_rest (near_of Inside)) looks again
           (outer_closed (near_of Inside) (file_at p.path n o) s t known known top under law)
           (outer_agree (near_of Inside) (file_at p.path n o) s t known known top under law) k v

@@ -5,6 +5,7 @@ pub mod Laws
 pub mod LocalLaws
 pub mod Whole
 pub mod mirrors
+pub mod alias_core
 pub mod answer_core
 pub mod block_core
 pub mod body_core

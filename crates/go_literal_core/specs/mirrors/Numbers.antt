@@ -1,8 +1,9 @@
 -- Numbers of names, as a map has them.
 use Rattle.std.specs.Prelude.{ℕ, List, Option, Some, None}
 use Rattle.std.specs.Borrow.{Bor}
+use Rattle.std.specs.Cmp.Lexicographic.{slice_cmp}
 use Rattle.std.specs.Map.{lookup}
-use Rattle.std.specs.Str.{bytes_eq}
+use Rattle.std.specs.Ordering.{is_eq, nat_cmp}
 use Rattle.go_literal_core.specs.declared.things.KeyMark.{KeyMark}
 use Rattle.go_literal_core.specs.Look.{FieldOf}
 use Rattle.go_literal_core.specs.Repeats.{has_name}
@@ -10,7 +11,7 @@ use Rattle.go_literal_core.specs.Marks.{field_number, name_number_from}
 
 -- the number that a map has at a name
 abbrev pub number_of : List (Bor (List ℕ) × ℕ) → List ℕ → Option ℕ
-number_of entries name = lookup (λ k. bytes_eq name k.now) entries
+number_of entries name = lookup (λ k. is_eq (slice_cmp nat_cmp name k.now)) entries
 
 -- what was known, or else what is new
 abbrev pub first_known : Option ℕ → Option ℕ → Option ℕ

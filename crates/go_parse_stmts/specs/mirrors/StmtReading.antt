@@ -12,8 +12,8 @@ use Rattle.go_tree_nodes.specs.Trees.{Separated, One, Then, TypeTree, ExprTree, 
 use Rattle.go_tree_nodes.specs.Rules.{is_step, is_update}
 use Rattle.go_tree_nodes.specs.Heights.{exprs_height}
 use Rattle.go_tree_nodes.specs.Naming.{name_of}
-use Rattle.go_parse_exprs.specs.parse_types.mirrors.Marks.{Grammar, TooHigh, ◌>>=◌, Reading, MarkAhead, need, mark_at, keyword_at, name_at, mark_that, list_go, idents_go}
-use Rattle.go_parse_exprs.specs.parse_types.mirrors.TypeReading.{begins_type, type_at}
+use Rattle.go_parse_exprs.specs.parse_types.mirrors.Marks.{Grammar, TooHigh, ◌>>=◌, Reading, MarkAhead, need, mark_at, keyword_at, name_at, mark_that, some_mark, list_go, idents_go}
+use Rattle.go_parse_exprs.specs.parse_types.mirrors.TypeReading.{begins_type, type_at, named_type_at}
 use Rattle.go_parse_exprs.specs.mirrors.ExprReading.{expr_at, exprs_at}
 
 -- one specification, or several in parentheses
@@ -84,11 +84,20 @@ value_word ts = value_const ts (keyword_at keyword.Const ts)
 
 -- declarations of types
 
-abbrev pub type_spec : Ident → TypeTree → TypeSpecTree
-type_spec x t = record { name = x; type_expr = t }
+abbrev pub type_spec : Ident → Option Span → TypeTree → TypeSpecTree
+type_spec x alias t = record { name = x; alias = alias; type_expr = t }
 
+-- the type of a specification, of an alias the name of one
+abbrev pub spec_type_at : ℕ → Option Span → List Terminal → Reading TypeTree
+spec_type_at b None ts = type_at b ts
+spec_type_at b (Some assign) ts = named_type_at b ts
+
+abbrev pub type_spec_from : ℕ → Ident → Option Span × List Terminal → Reading TypeSpecTree
+type_spec_from b x alias = spec_type_at b alias.0 alias.1 >>= λ t. Ok (type_spec x alias.0 t.0, t.1)
+
+-- a name, `=` where it is an alias, and its type
 abbrev pub type_spec_at : ℕ → List Terminal → Reading TypeSpecTree
-type_spec_at b ts = need (name_at ts) >>= λ x. (type_at b x.1 >>= λ t. Ok (type_spec x.0 t.0, t.1))
+type_spec_at b ts = need (name_at ts) >>= λ x. type_spec_from b x.0 (some_mark operator.Assign x.1)
 
 abbrev pub type_decl : Span → Specs TypeSpecTree → TypeDeclTree
 type_decl keyword specs = record { keyword = keyword; specs = specs }

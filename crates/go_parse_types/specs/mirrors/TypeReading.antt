@@ -232,3 +232,8 @@ type_by inner ts = by_star inner ts (mark_at operator.Star ts)
 unfoldable pub type_at : ℕ → List Terminal → Reading TypeTree
 type_at zero ts = Err TooHigh
 type_at (suc b) ts = type_by (type_at b) ts
+
+-- the name of a type in front as a type, at most as high as budget
+abbrev pub named_type_at : ℕ → List Terminal → Reading TypeTree
+named_type_at zero ts = Err TooHigh
+named_type_at (suc b) ts = named_at ts

@@ -1,8 +1,10 @@
 -- What a map has of names, and a set.
 use Rattle.std.specs.Prelude.{ℕ, Bool, not, ◌&&◌, List, Option, Some, None}
+use Rattle.std.specs.Cmp.Lexicographic.{slice_cmp}
 use Rattle.std.specs.List.{list_any}
 use Rattle.std.specs.Borrow.{Bor}
 use Rattle.std.specs.Map.{lookup}
+use Rattle.std.specs.Ordering.{is_eq, nat_cmp}
 use Rattle.std.specs.Str.{bytes_eq, chars}
 use Rattle.go_text_core.specs.Text.{exported}
 use Rattle.go_select_core.specs.declared.names.Known.{Known}
@@ -10,7 +12,7 @@ use Rattle.go_select_core.specs.mirrors.Names.{Identifier}
 
 -- what a map has of a name
 abbrev pub seen_of : List (Bor (List ℕ) × Known) → List ℕ → Option Known
-seen_of entries name = lookup (λ k. bytes_eq name k.now) entries
+seen_of entries name = lookup (λ k. is_eq (slice_cmp nat_cmp name k.now)) entries
 
 -- what was known, or else what is new
 abbrev pub first_seen : Option Known → Option Known → Option Known
@@ -19,7 +21,7 @@ first_seen (Some known) new = Some known
 
 -- whether a set has a name
 abbrev pub has_word : List (Bor (List ℕ)) → List ℕ → Bool
-has_word keys name = list_any (λ k. bytes_eq name k.now) keys
+has_word keys name = list_any (λ k. is_eq (slice_cmp nat_cmp name k.now)) keys
 
 -- whether one of these identifiers is so spelled and not exported
 abbrev pub has_hidden : List (Identifier × Known) → List ℕ → Bool

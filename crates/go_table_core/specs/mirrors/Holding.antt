@@ -1,28 +1,18 @@
 -- How a table holds its packages.
-use Rattle.std.specs.Prelude.{◌≡◌, ◌<◌, ◌+◌, ℕ, ⊤, List, [], ◌∷◌, ◌++◌, map, length, Option, None}
-use Rattle.std.specs.List.{position_from}
+use Rattle.std.specs.Prelude.{◌≡◌, ◌<◌, ◌+◌, ℕ, ⊤, List, [], ◌∷◌, ◌++◌, length, Option, None}
 use Rattle.std.specs.Str.{bytes_eq}
-use Rattle.std.specs.HashMap.{HashMap, get_by_text}
 use Rattle.std.specs.Map.{lookup}
-use Rattle.std.specs.declared.string.String.{String}
 use Rattle.go_term_core.specs.Terms.{Term, NoType}
 use Rattle.go_table_core.specs.declared.table.Numbered.{Numbered}
 use Rattle.go_table_core.specs.Entries.{Entry}
 use Rattle.go_table_core.specs.Tables.{PackageTypesModel, ArePackageTypes}
 
--- packages by their paths
-abbrev pub packages_of : List Numbered → List (List ℕ × Numbered)
-packages_of packages = map (λ p. (p.types.path, p)) packages
-
--- a map has the place of each package at its path
-unfoldable pub ArePlaced : {Y S : Type 0} → HashMap (String Y) ℕ S → List Numbered → Type 0
-ArePlaced places packages = (path : List ℕ) → get_by_text places path ≡ position_from (λ p. bytes_eq path p.types.path) 0 packages
-
--- their types, one package's behind the other's
+-- the types of packages by their paths, one package's behind the other's
 abbrev pub all_entries : List (List ℕ × Numbered) → List Entry
 all_entries [] = []
 all_entries (p ∷ ps) = p.1.types.entries ++ all_entries ps
 
+-- the package of a path
 abbrev pub package_at : List (List ℕ × Numbered) → List ℕ → Option Numbered
 package_at ps path = lookup (bytes_eq path) ps
 

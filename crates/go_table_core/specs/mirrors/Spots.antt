@@ -1,7 +1,7 @@
 -- The earliest places of fields by their names.
 use Rattle.std.specs.Prelude.{◌≡◌, ℕ, Bool, false, ◌&&◌, ◌||◌, List, [], ◌∷◌, map, Option, Some, None, is_some, nat_eq, nat_lt, if◌then◌else◌}
 use Rattle.std.specs.Str.{bytes_eq}
-use Rattle.std.specs.HashMap.{HashMap}
+use Rattle.std.specs.BTreeMap.{BTreeMap}
 use Rattle.std.specs.Map.{lookup}
 use Rattle.std.specs.Borrow.{Bor}
 use Rattle.go_term_core.specs.declared.term.MemberPlace.{MemberPlace}
@@ -47,7 +47,7 @@ abbrev pub found_before : Option Earliest → MemberPlace → Bool
 found_before o q = earliest_before (found_or_none o) q
 
 -- the names of a table with their places
-abbrev pub named_places : {S : Type 0} → HashMap (Bor (List ℕ)) Earliest S → List (List ℕ × Earliest)
+abbrev pub named_places : BTreeMap (Bor (List ℕ)) Earliest → List (List ℕ × Earliest)
 named_places table = map (λ e. (e.0.now, e.1)) table.entries
 
 abbrev pub found_places : List (List ℕ × Earliest) → List ℕ → Option Earliest

@@ -299,7 +299,7 @@ abbrev pub coded_value : Coded ValueTree
 coded_value = code_by (ValueKind × (Span × Specs ValueSpecTree)) (coded× value_kind.the_row.coded (coded× span.the_row.coded (coded_specs coded_value_spec))) (λ v. (v.kind, (v.keyword, v.specs))) (λ p. record { kind = p.0; keyword = p.1.0; specs = p.1.1 }) (λ _. refl)
 
 abbrev pub coded_type_spec : Coded TypeSpecTree
-coded_type_spec = code_by (Ident × TypeTree) (coded× ident.the_row.coded coded_type) (λ t. (t.name, t.type_expr)) (λ p. record { name = p.0; type_expr = p.1 }) (λ _. refl)
+coded_type_spec = code_by (Ident × (Option Span × TypeTree)) (coded× ident.the_row.coded (coded× maybe_span coded_type)) (λ t. (t.name, (t.alias, t.type_expr))) (λ p. record { name = p.0; alias = p.1.0; type_expr = p.1.1 }) (λ _. refl)
 
 abbrev pub coded_type_decl : Coded TypeDeclTree
 coded_type_decl = code_by (Span × Specs TypeSpecTree) (coded× span.the_row.coded (coded_specs coded_type_spec)) (λ t. (t.keyword, t.specs)) (λ p. record { keyword = p.0; specs = p.1 }) (λ _. refl)

@@ -1,10 +1,17 @@
-use Rattle.std.proofs.Common.{ap, subst, ◌∙◌}
+use Rattle.std.proofs.Common.{map, ap, subst, ◌∙◌}
 use Rattle.go_complete_core.specs.summary_core.Views.{exports_told, faces_told}
 use Rattle.go_complete_core.specs.part_core.Inputs.{InputModel, IsInput}
 use Rattle.go_complete_core.specs.part_core.Parts.{ContentOf}
 use Rattle.go_view_core.specs.Imported.{told_by_imports}
-use Rattle.go_hint_core.proofs.Giving.{is_package}
+use Rattle.go_view_core.proofs.Leading.{names_are}
+use Rattle.go_hint_core.proofs.Giving.{is_package, package_of}
 use Rattle.go_hint_core.proofs.hints.names_in.Goals as goal
+
+pub names_over-requires-clause-names : goal.names_over-requires-clause-names
+names_over-requires-clause-names c =
+    let view = c.in_ok-view.view in
+    let q = package_of c.package.result.now c.content-content.result.now.blocks (map (λ is. is.items) c.imports.result.now) view.shown view.faces in
+    names_are q c.path.result.now c.in_ok-aliases.aliases c.path.ensures c.in_ok-aliases.ensures
 
 pub names_over-requires-clause-seen : goal.names_over-requires-clause-seen
 names_over-requires-clause-seen c =

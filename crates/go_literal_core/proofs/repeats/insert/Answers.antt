@@ -6,4 +6,4 @@ pub returns-in-Ok-clause-added : goal.returns-in-Ok-clause-added
 returns-in-Ok-clause-added c = c.in-Ok.ensures.added ∙ ap not (any_named c.args.name.now c.args.names.now.keys)
 
 pub returns-in-Ok-clause-seen : goal.returns-in-Ok-clause-seen
-returns-in-Ok-clause-seen c = inserted c.args.names.now.keys c.insert.new.self.keys c.args.name c.in-Ok.ensures.updates.0
+returns-in-Ok-clause-seen c = inserted c.args.names.now c.insert.new.self c.args.name c.in-Ok.ensures.updates

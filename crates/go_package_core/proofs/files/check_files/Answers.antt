@@ -73,7 +73,7 @@ file_answers-requires-clause-initial g c =
     let many = initial_many p types held (map outline_shown c.args.outlines.now) c.requires.ready.initial c.requires.outlines in
     let outlines = length-map c.args.outlines.now outline_shown in
     let inside : n < length held = omega (arith, lt, many, outlines) in
-    initial_there p types (scene_shown c.args.scene.now) c.deref-in-loop-file.result.now n f (outline_shown outline) outline.places c.requires.scene refl same there held c.index.result.now c.requires.ready.initial inside c.index.ensures
+    initial_there p types (g.N.ImportedNames.shows c.args.names.now) (scene_shown c.args.scene.now) c.deref-in-loop-file.result.now n f (outline_shown outline) outline.places c.requires.names c.requires.scene refl same there held c.index.result.now c.requires.ready.initial inside c.index.ensures
 
 pub file_answers-requires-clause-functions : goal.file_answers-requires-clause-functions
 file_answers-requires-clause-functions g c =
@@ -85,7 +85,7 @@ file_answers-requires-clause-functions g c =
     let at = tree_there p (trees_of c.args.at.now.package.now.1) n f refl c.tree.ensures.tree in
     let same = outline_is p c.args.outlines.now n outline f c.requires.outlines c.loop-file-test.true c.index-outlines-file.is at in
     let there = outline_there p n f at ∙ ap Some (sym same) in
-    functions_there p types (scene_shown c.args.scene.now) c.deref-in-loop-file.result.now n f (outline_shown outline) outline.places c.requires.scene refl same there c.args.ready.now.functions.items c.index-in-loop-file.result.now c.deref.result.now
+    functions_there p types (g.N.ImportedNames.shows c.args.names.now) (scene_shown c.args.scene.now) c.deref-in-loop-file.result.now n f (outline_shown outline) outline.places c.requires.names c.requires.scene refl same there c.args.ready.now.functions.items c.index-in-loop-file.result.now c.deref.result.now
     c.requires.ready.functions c.index-in-loop-file.ensures c.deref.ensures.value
 
 pub overflow_add-first : goal.overflow_add-first
@@ -119,7 +119,7 @@ loop-file-preserved g c =
     let answers = answers_shown c.in_ok-answers.answers in
     let first = before_as p c.args.outlines.now n c.loop-file.first c.requires.outlines c.loop-file.invariant.first in
     let one =
-    checked_there p types (scene_shown c.args.scene.now) c.deref-in-loop-file.result.now n f (outline_shown outline) outline.places c.requires.scene refl same there c.args.type_faults.now d.looped.items
+    checked_there p types (g.N.ImportedNames.shows c.args.names.now) (scene_shown c.args.scene.now) c.deref-in-loop-file.result.now n f (outline_shown outline) outline.places c.requires.names c.requires.scene refl same there c.args.type_faults.now d.looped.items
     c.deref-in-loop-file-3.result.now c.imports_at.result.now (map decl_shown c.deref-in-loop-file-2.result.now) c.loop-file.first answers c.imports_at.ensures (ap (map decl_shown) c.deref-in-loop-file-2.ensures.value) first
     c.deref-in-loop-file-3.ensures.value c.in_ok-answers.ensures.uses c.in_ok-answers.ensures.faults c.in_ok-answers.ensures.locals in
     let known = subst (λ k. IsFileChecked p types k c.args.type_faults.now d.looped.items (n, f) answers) c.deref-in-loop-file.ensures.value one in

@@ -14,5 +14,5 @@ returns-clause-faults g c =
     (c.deref.ensures.value ∙ sym c.in_ok-answers.ensures)
     (c.deref-2.ensures.value
     ∙ (c.in_ok-append.ensures.items
-    ∙ (ap (λ l. l ++ whole) c.in_ok-checked.ensures.faults ∙ ap (λ l. file_faults (stand_of g.P.ImportedNames.shows c.args.at.now) (file_of c.args.tree.now) ++ l) c.in_ok-whole.ensures)))
+    ∙ (ap (λ l. l ++ whole) c.in_ok-checked.ensures.faults ∙ ap (λ l. file_faults (stand_of g.N.ImportedNames.shows c.args.at.now) (file_of c.args.tree.now) ++ l) c.in_ok-whole.ensures)))
     (record { ordered = f.ordered; kept = f.kept; found = f.found; unsaid = f.unsaid })

@@ -7,9 +7,10 @@ use Rattle.go_ready_core.specs.value_core.Laws.{AreFaces}
 use Rattle.go_ready_core.specs.value_core.Package.{AreThroughThemselves}
 use Rattle.go_ready_core.specs.answer_core.Shown.{package_shown}
 use Rattle.std.specs.List.{AllZip, enumerate_from}
-use Rattle.go_ready_core.specs.Packages.{package_in_shown}
+use Rattle.go_ready_core.specs.Packages.{package_in_shown, scene_in}
 use Rattle.go_ready_core.proofs.Tables.{looped_written, values_written}
 use Rattle.go_package_core.specs.Checked.{IsFileChecked, answers_shown}
+use Rattle.go_package_core.specs.mirrors.Stages.{IsReady}
 use Rattle.go_package_core.proofs.Stages.{as_made, checked_is, initial_many, scene_is, written_many}
 use Rattle.go_package_core.proofs.package.check_ready.Goals as goal
 
@@ -22,6 +23,19 @@ pub declare-requires-clause-written : goal.declare-requires-clause-written
 declare-requires-clause-written g c =
     let p = package_in_shown g.P.ImportedNames.shows c.args.at.now in
     written_many p c.args.types.now c.scene_of-scene.result.written.now c.deref.result.now (map outline_shown c.args.outlines.now) (ap (λ s. s.written) c.scene_of-scene.ensures ∙ c.requires.ready.written) c.requires.outlines
+
+pub check_files-requires-clause-scene : goal.check_files-requires-clause-scene
+check_files-requires-clause-scene g c =
+    let p = package_in_shown g.P.ImportedNames.shows c.args.at.now in
+    let s = scene_shown c.scene_of-scene.result in
+    let same = ap (λ x. x.types) c.scene_of-scene.ensures in
+    scene_is p c.args.types.now s c.args.ready.now.home c.args.ready.now.written c.scene_of-scene.ensures c.requires.ready.home c.requires.ready.written ∙ ap (scene_in p) (sym same)
+
+pub check_files-requires-clause-ready : goal.check_files-requires-clause-ready
+check_files-requires-clause-ready g c =
+    let p = package_in_shown g.P.ImportedNames.shows c.args.at.now in
+    let same = ap (λ x. x.types) c.scene_of-scene.ensures in
+    subst (λ types. IsReady p types c.args.ready.now) (sym same) c.requires.ready
 
 pub check_files-requires-clause-looped : goal.check_files-requires-clause-looped
 check_files-requires-clause-looped g c =

@@ -8,18 +8,20 @@ use Rattle.go_known_core.specs.table_core.Entries.{find_entry, term_in}
 use Rattle.go_known_core.specs.inline_core.Inline.{inlines}
 use Rattle.go_known_core.specs.inline_core.Trees.{file_types, outline_types}
 use Rattle.go_known_core.specs.inline_core.Outlines.{outline_all}
-use Rattle.go_ready_core.specs.Packages.{package_in_shown}
+use Rattle.go_ready_core.specs.Packages.{package_in_shown, shows_in}
 use Rattle.go_ready_core.proofs.inlines.file_initial.Goals as goal
 
 pub returns : goal.returns
 returns g c =
     let p = package_in_shown g.P.ImportedNames.shows c.args.at.now in
     let kind = λ (k : DeclKey). kind_of_term (term_in (find_entry c.args.types.now k)) in
-    let f = c.requires.file in
-    let decls = ap (λ o. o.decls) c.requires.is in
+    let f = c.requires.placed.file in
+    let decls = ap (λ o. o.decls) c.requires.placed.is in
+    let names = g.N.ImportedNames.shows c.args.names.now in
     IfOk-weaker c.initialiser_types.result _ _
     (λ w made.
-    made f c.requires.placed (ap (map decl_shown) c.deref.ensures.value ∙ decls)
-    ∙ (ap (λ path. inlines kind (record { path = path; file = c.args.file; places = c.args.outline.now.places }) (file_meaning p.shows path p.blocks c.args.file) (file_types f)) c.path.ensures
-    ∙ ap (inlines kind (record { path = p.path; file = c.args.file; places = c.args.outline.now.places }) (file_meaning p.shows p.path p.blocks c.args.file)) (sym (ap outline_types decls ∙ outline_all f))))
+    made f c.requires.placed.placed (ap (map decl_shown) c.deref.ensures.value ∙ decls)
+    ∙ (ap (λ path. inlines kind (record { path = path; file = c.args.file; places = c.args.outline.now.places }) (file_meaning names path p.blocks c.args.file) (file_types f)) c.path.ensures
+    ∙ (ap (λ shows. inlines kind (record { path = p.path; file = c.args.file; places = c.args.outline.now.places }) (file_meaning shows p.path p.blocks c.args.file) (file_types f)) c.requires.names
+    ∙ ap (inlines kind (record { path = p.path; file = c.args.file; places = c.args.outline.now.places }) (file_meaning (shows_in p) p.path p.blocks c.args.file)) (sym (ap outline_types decls ∙ outline_all f)))))
     c.initialiser_types.ensures.placed

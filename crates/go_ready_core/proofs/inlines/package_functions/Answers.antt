@@ -11,8 +11,8 @@ loop-file-init g c =
     let p = package_in_shown g.P.ImportedNames.shows c.args.at.now in
     subst (λ l. AllZip (λ o of_file. AreOutlinedTypes (types_stand p c.args.types.now o) o.1 of_file) [] (map (λ of_file. of_file.items) l)) (sym c.new-written.ensures.items) tt
 
-pub file_functions-requires : goal.file_functions-requires
-file_functions-requires g c = seen_holds IsPlacedOutline outline_shown c.args.outlines.now c.loop-file.file c.index-outlines-file.result c.requires.placed c.loop-file-test.true c.index-outlines-file.is
+pub file_functions-requires-clause-placed : goal.file_functions-requires-clause-placed
+file_functions-requires-clause-placed g c = seen_holds IsPlacedOutline outline_shown c.args.outlines.now c.loop-file.file c.index-outlines-file.result c.requires.placed c.loop-file-test.true c.index-outlines-file.is
 
 pub loop-file-preserved : goal.loop-file-preserved
 loop-file-preserved g c =

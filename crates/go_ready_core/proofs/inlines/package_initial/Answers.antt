@@ -4,8 +4,8 @@ use Rattle.go_ready_core.specs.Packages.{outlines_in, package_in_shown}
 use Rattle.go_ready_core.proofs.Lists.{mapped_end, mapped_step, seen_holds}
 use Rattle.go_ready_core.proofs.inlines.package_initial.Goals as goal
 
-pub file_initial-requires : goal.file_initial-requires
-file_initial-requires g c = seen_holds IsPlacedOutline outline_shown c.args.outlines.now c.loop-file.file c.index-outlines-file.result c.requires.placed c.loop-file-test.true c.index-outlines-file.is
+pub file_initial-requires-clause-placed : goal.file_initial-requires-clause-placed
+file_initial-requires-clause-placed g c = seen_holds IsPlacedOutline outline_shown c.args.outlines.now c.loop-file.file c.index-outlines-file.result c.requires.placed c.loop-file-test.true c.index-outlines-file.is
 
 pub loop-file-preserved : goal.loop-file-preserved
 loop-file-preserved g c =

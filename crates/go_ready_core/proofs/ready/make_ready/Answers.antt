@@ -1,5 +1,6 @@
-use Rattle.std.proofs.Common.{map}
+use Rattle.std.proofs.Common.{map, ◌∙◌}
 use Rattle.go_known_core.specs.entry_core.Outlines.{outline_shown}
+use Rattle.go_used_core.specs.face_core.Written.{package_written}
 use Rattle.go_ready_core.specs.Packages.{package_in_shown}
 use Rattle.go_ready_core.proofs.Made.{all_outlines}
 use Rattle.go_ready_core.proofs.ready.make_ready.Goals as goal
@@ -8,3 +9,11 @@ pub written_faces-requires : goal.written_faces-requires
 written_faces-requires g c =
     let p = package_in_shown g.P.ImportedNames.shows c.args.at.now in
     all_outlines (map outline_shown c.args.outlines.now) p.trees c.requires.outlines
+
+pub returns-clause-written : goal.returns-clause-written
+returns-clause-written g c =
+    let p = package_in_shown g.P.ImportedNames.shows c.args.at.now in
+    let names = c.requires.names in
+    let path = c.path-path.ensures in
+    let os = c.requires.outlines in
+    c.in_ok-written.ensures ∙ (λ i. package_written (names i) (path i) p.blocks c.args.types.now (os i))

@@ -13,8 +13,9 @@ type_entries-requires g c =
 pub returns-clause-types : goal.returns-clause-types
 returns-clause-types g c =
     let p = package_in_shown g.P.ImportedNames.shows c.args.at.now in
-    types_are p c.args.types.now c.in_ok-own.own.entries c.add.new.self c.path-path.result.now (map outline_shown c.args.outlines.now) (map entry_shown c.in_ok-entries.entries.items) (map entry_shown c.deref.result.now)
-    (map entry_shown c.deref-2.result.now) c.in_ok-own.loops.items c.deref-3.result.now c.in_ok-faults.faults.items c.path-path.ensures c.requires.outlines c.in_ok-entries.ensures.entries
+    types_are p (g.N.ImportedNames.shows c.args.names.now) c.args.types.now c.in_ok-own.own.entries c.add.new.self c.path-path.result.now (map outline_shown c.args.outlines.now) (map entry_shown c.in_ok-entries.entries.items)
+    (map entry_shown c.deref.result.now) (map entry_shown c.deref-2.result.now) c.in_ok-looped.looped.items c.deref-4.result.now c.in_ok-own.loops.items c.deref-3.result.now c.in_ok-faults.faults.items
+    c.requires.names c.path-path.ensures c.requires.outlines c.in_ok-entries.ensures.entries
     (ap (map entry_shown) c.deref.ensures.value) c.in_ok-own.ensures.types
     (c.in_ok-add.ensures.ok ∙ ap (λ t. c.args.types.now ++ t.entries) c.in_ok-share-2.ensures)
-    (ap (map entry_shown) c.deref-2.ensures.value) c.deref-3.ensures.value c.in_ok-faults.ensures
+    (ap (map entry_shown) c.deref-2.ensures.value) c.in_ok-looped.ensures c.deref-4.ensures.value c.deref-3.ensures.value c.in_ok-faults.ensures

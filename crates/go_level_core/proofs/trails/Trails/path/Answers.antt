@@ -1,4 +1,4 @@
-use Rattle.std.proofs.Common.{◌-◌, get_or, [], ap, ◌∙◌, arith}
+use Rattle.std.proofs.Common.{◌-◌, get_or, [], ap, ◌∙◌, reverse, arith}
 use Rattle.go_level_core.proofs.ListLemmas.{at_read}
 use Rattle.go_level_core.proofs.WayLemmas.{path_link, path_end, link_within}
 use Rattle.go_level_core.proofs.trails.Trails.path.Goals as goal
@@ -17,9 +17,9 @@ links-smaller c =
 pub links-preserved : goal.links-preserved
 links-preserved c =
     let l = link_within _ _ _ _ c.links.invariant c.links-test.true in
-    path_link c.self.inside.links.items c.args.number c.links.at c.index-link.result.now c.links.steps.items _ c.self.invariant c.links.invariant c.links-test.true (at_read _ _ _ l c.index-link.ensures) c.in_ok-push.ensures.items
+    path_link c.self.inside.links.items c.args.number c.links.at c.index-link.result.now c.links.steps.items _ c.self.invariant c.links.invariant c.links-test.true (at_read _ _ _ l c.index-link.ensures) c.in_ok-push.ensures.ok
 
 pub returns : goal.returns
 returns c =
-    path_end c.self.inside.links.items c.args.number c.links.at c.links.steps.items _ c.links.invariant c.links-test.false c.reverse.ensures.items
+    path_end c.self.inside.links.items c.args.number c.links.at c.links.steps.items _ c.links.invariant c.links-test.false (c.reverse.ensures.items ∙ ap reverse (c.in_ok-path.ensures.items_if_clones_equal (λ x y e. e) ∙ c.as_slice.ensures))
     ∙ ap (λ ps. get_or ps c.args.number []) c.self.view_is

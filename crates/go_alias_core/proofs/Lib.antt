@@ -1,0 +1,11 @@
+pub mod Numbers
+pub mod Chains
+pub mod Ending
+pub mod Direct
+pub mod Looping
+pub mod Worked
+pub mod Making
+pub mod Plain
+pub mod Trees
+pub mod Outlining
+pub mod Rising

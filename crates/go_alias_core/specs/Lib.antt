@@ -1,0 +1,7 @@
+pub mod Aliases
+pub mod Shown
+pub mod Outlined
+pub mod Laws
+pub mod Sample
+pub mod mirrors
+pub mod codes

@@ -1,0 +1,2 @@
+-- Definitions that mirror the code.
+pub mod Numbered

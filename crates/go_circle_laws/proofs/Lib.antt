@@ -1,0 +1,10 @@
+pub mod Circles
+pub mod Cutting
+pub mod Directly
+pub mod Elsewhere
+pub mod Fronts
+pub mod Grammar
+pub mod Naming
+pub mod Rounds
+pub mod Ruled
+pub mod Wholes
