@@ -31,7 +31,7 @@ SHARE = 0.005
 # toolchain finds what such a type means only there ("no module that this path begins with is at hand for the term").
 BESIDE = {"go_tree_nodes", "go_term_core"}
 # Crates of laws that list what their line has, high up too: what they name is then passed on by no crate between for them alone, and all below stays as it is.
-AS_LISTED = {"go_called_core", "go_faultless_core", "go_head_core", "go_kept_core", "go_typed_core", "go_respelled_core", "go_fit_core", "go_clear_core", "go_found_core", "go_told_core"}
+AS_LISTED = {"go_called_core", "go_faultless_core", "go_head_core", "go_kept_core", "go_typed_core", "go_respelled_core", "go_fit_core", "go_clear_core", "go_found_core", "go_told_core", "go_circle_laws"}
 # Crates of laws that have what these list through them: each stands on the one before, and what all of them listed would be counted twice at each step.
 THROUGH = {
     "go_called_core": ["go_clear_core"],
