@@ -212,7 +212,7 @@ class Wild:
 
 
 class Whole:
-    """Declarations of the whole grammar, as they come in programs: with comments, many calls and many selectors."""
+    """Declarations of the whole grammar, as they come in programs: with comments, many calls and many selectors. A third of the types are aliases."""
 
     NAMES = (
         "count entry err first i index input key last length name "
@@ -412,7 +412,7 @@ class Whole:
             f"type Type{self.number} = {self.type_name()}",
             f"type Type{self.number} struct {{\n{fields}}}",
             f"type Type{self.number} interface {{\n{methods}}}",
-            f"type (\n\tType{self.number} {self.type_expr()}\n\tOther{self.number} {self.type_expr()}\n)",
+            f"type (\n\tType{self.number} {self.type_expr()}\n\tOther{self.number} = {self.type_name()}\n)",
         ])
 
     def function(self):

@@ -115,7 +115,7 @@ def stamp_of(crate, seen):
 def seconds():
     """What the crates took when they were measured, or by their lines."""
     found = {}
-    for row in re.findall(r"\| `(\w+)` \| ([\d,]+) / [\d,]+ / [\d,]+ \| (\d*) \|", rtlib.text_of(f"{ROOT}/docs/PROVING.md")):
+    for row in re.findall(r"\| `(\w+)` \| ([\d,]+) / [\d,]+ / [\d,]+ \| (\d*) \|", rtlib.text_of(f"{ROOT}/docs/GATE.md")):
         found[row[0]] = int(row[2]) if row[2] else 40 + int(row[1].replace(",", "")) // 6
     return found
 
@@ -295,7 +295,13 @@ def everything(lanes="4"):
     rtlib.guarded()
     base, had_work = Base(int(lanes)), True
     while True:
-        has_work = base.step()
+        try:
+            has_work = base.step()
+        except SystemExit as error:
+            # crates.txt or a folder is being written
+            print(f"{time.strftime('%H:%M:%S')} {error}", flush=True)
+            time.sleep(5)
+            continue
         if had_work and not has_work:
             print("all crates are proved", flush=True)
         had_work = has_work

@@ -1,7 +1,7 @@
 #!/usr/bin/env python3
 """Foretells how long a gate takes that keeps nothing: python3 tools/foretell.py [ROOT] [LANES] [SPEED]
 
-From the seconds of the table in docs/PROVING.md, the files that the toolchain reads at the end of each path of crates.txt (rattle-kit-13b: 90 microseconds a
+From the seconds of the table in docs/GATE.md, the files that the toolchain reads at the end of each path of crates.txt (rattle-kit-13b: 90 microseconds a
 file, twice a library, in one thread) and the order in which `rt ci` begins its tasks. It proves and runs nothing. It tells the processor minutes of all checks,
 those of reading, the minutes of the run, and the longest chain of crates with what each on it takes. SPEED divides the seconds of the table.
 """
@@ -26,7 +26,7 @@ class Gate:
             if head.strip():
                 lists[head.split()[0]] = rest.split()
         self.lists = {name: [it for it in found if it in lists] for name, found in lists.items()}
-        table = re.findall(r"\| `(\w+)` \| [\d,]+ / [\d,]+ / [\d,]+ \| (\d+) \|", text_of(f"{root}/docs/PROVING.md"))
+        table = re.findall(r"\| `(\w+)` \| [\d,]+ / [\d,]+ / [\d,]+ \| (\d+) \|", text_of(f"{root}/docs/GATE.md"))
         self.seconds = {name: int(found) / speed for name, found in table}
         self.files, self.lines, self.edits, self.is_program = {}, {}, {}, {}
         for name in lists:

@@ -1,5 +1,5 @@
 #!/usr/bin/env python3
-"""Writes the table of crates in docs/PROVING.md anew: python3 tools/gate.py [SECONDS]
+"""Writes the table of crates in docs/GATE.md anew: python3 tools/gate.py [SECONDS]
 
 Of each crate its lines of code, of definitions and of proofs, counted, and the processor seconds of a check from nothing: those of the file SECONDS (lines
 `CRATE SECONDS`) where it names the crate, and else as the table had them.
@@ -9,7 +9,7 @@ import re
 import sys
 
 ROOT = os.path.dirname(os.path.dirname(os.path.abspath(__file__)))
-PAGE = f"{ROOT}/docs/PROVING.md"
+PAGE = f"{ROOT}/docs/GATE.md"
 HEAD = "| Crate | Lines of code / specs / proofs | Processor seconds |\n|---|---|---|\n"
 
 

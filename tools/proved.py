@@ -1,8 +1,8 @@
 #!/usr/bin/env python3
-"""Makes docs/PROVED.md from the pages of the crates, and finds what the documents name that is not there: python3 tools/proved.py [--check]
+"""Makes docs/CRATES.md from the pages of the crates, and finds what the documents name that is not there: python3 tools/proved.py [--check]
 
-docs/PROVED.md has of each crate of crates.txt, in order, the first sentence of crates/NAME/README.md. With --check nothing is written, and the status is
-1 where docs/PROVED.md is another, where a crate has no page, or where a document names a file, a definition or a call that is not there. It takes a second.
+docs/CRATES.md has of each crate of crates.txt, in order, the first sentence of crates/NAME/README.md. With --check nothing is written, and the status is
+1 where docs/CRATES.md is another, where a crate has no page, or where a document names a file, a definition or a call that is not there. It takes a second.
 """
 import os
 import re
@@ -10,7 +10,7 @@ import sys
 
 ROOT = os.path.dirname(os.path.dirname(os.path.abspath(__file__)))
 # The documents that are read, and the folders whose words are those that there are.
-DOCUMENTS = ["README.md", "docs/RULES.md", "docs/DESIGN.md"]
+DOCUMENTS = ["README.md", "docs/PROVED.md", "docs/RULES.md", "docs/DESIGN.md"]
 PARTS = ["src", "specs", "proofs"]
 
 
@@ -79,10 +79,10 @@ def main():
     faults = [f"crates/{it}/README.md: no page" for it in names if not pages[it]]
     page = proved(names, pages)
     if "--check" in sys.argv[1:]:
-        if not os.path.exists(f"{ROOT}/docs/PROVED.md") or text_of("docs/PROVED.md") != page:
-            faults.append("docs/PROVED.md: run tools/proved.py")
+        if not os.path.exists(f"{ROOT}/docs/CRATES.md") or text_of("docs/CRATES.md") != page:
+            faults.append("docs/CRATES.md: run tools/proved.py")
     else:
-        with open(f"{ROOT}/docs/PROVED.md", "w", encoding="utf-8") as file:
+        with open(f"{ROOT}/docs/CRATES.md", "w", encoding="utf-8") as file:
             file.write(page)
     words = words_there(names)
     for document in DOCUMENTS:

@@ -1,7 +1,7 @@
 #!/usr/bin/env python3
 """Lists the crates whose wrong bodies were tried on another text than the one that stands: python3 tools/tried.py [ROOT]
 
-The table "Wrong bodies" of docs/PROVING.md names for each crate the commits on which its edits were tried. A verdict is about what the edit changes,
+The table "Wrong bodies" of docs/WRONG_BODIES.md names for each crate the commits on which its edits were tried. A verdict is about what the edit changes,
 a body or a definition, and about the clauses around it; so it stands as long as the crate's src/ and specs/ do, imports, comments and the order of
 lines apart, and the edit itself. Of each crate this tells how many such lines differ between the oldest commit of its row and the work tree, and how
 many edits were changed or are new. A crate of which it tells nothing has nothing to be tried again. Status 1 where it lists any."""
@@ -58,7 +58,7 @@ def differing_lines(root, commit, crate):
 def main():
     root = os.path.abspath(sys.argv[1]) if len(sys.argv) > 1 else os.path.dirname(os.path.dirname(os.path.realpath(__file__)))
     found = 0
-    for crate, told in ROW.findall(now(root, "docs/PROVING.md")):
+    for crate, told in ROW.findall(now(root, "docs/WRONG_BODIES.md")):
         commits = [it for it in COMMIT.findall(told) if is_here(root, it)]
         if not commits:
             print(f"{crate}: none tried on a commit that is here")

@@ -14,7 +14,7 @@ GO = {"GOFLAGS": "-mod=mod", "GOPROXY": "off", "GO111MODULE": "on", "GOWORK": "o
 FIELDS = "ImportPath,Name,GoFiles,Imports,Deps,Error,DepsErrors"
 ESCAPED = ABOVE + r"/\x77"
 INTERNAL = re.compile(r"use of internal package \S+ not allowed")
-PROGRAM = re.compile(r"is a program, not an importable package")
+PROGRAM = re.compile(r'import "([^"]+)" is a program, not an importable package')
 CYCLE = re.compile(r"import cycle not allowed")
 MALFORMED = re.compile(r"invalid import path|malformed import path")
 CLAUSE = re.compile(r"^package (\w+)", re.MULTILINE)
@@ -135,18 +135,22 @@ def imported_at(tree, root, error, more):
     importer = tree.root + f"{ABOVE}/{found[1]}"[len(root) :]
     text = {**tree.plain, **more}.get(f"{importer}/{found[2]}")
     path = re.search(r'"([^"]+)"', text.split("\n")[int(found[3]) - 1]) if text else None
-    return path and (importer, path[1])
+    return path and (importer, re.sub(r"\\x([0-9a-f]{2})", lambda byte: chr(int(byte[1], 16)), path[1]))
 
 
 def note_errors(tree, root, records, more):
-    """The imports that `go list` refuses below a root, and whether it names a cycle there."""
+    """The imports that `go list` refuses below a root, and whether it names a cycle there. That a package is a program it says once of a package and of all that
+    this leads to, at one import."""
     refused, is_cycle = set(), False
     for path, record in records.items():
         if path == root or path.startswith(root + "/"):
             for error in errors_of(record):
                 is_cycle = is_cycle or bool(CYCLE.search(error["Err"]))
-                if INTERNAL.search(error["Err"]) or PROGRAM.search(error["Err"]):
+                program = PROGRAM.search(error["Err"])
+                if INTERNAL.search(error["Err"]) or program:
                     refused.add(imported_at(tree, root, error, more))
+                if program and program[1] in (record.get("Imports") or ()):
+                    refused.add((tree.root + path[len(root) :], tree.root + program[1][len(root) :]))
     return refused - {None}, is_cycle
 
 

@@ -1,10 +1,12 @@
 """Makes files whose types have few names of members, embedded, promoted, hidden and repeated, and whose functions select them and write literals of them,
-most rightly and some wrongly: read by queries.py. The same bytes for each seed."""
+most rightly and some wrongly: read by queries.py. A third of the declarations of types are of aliases. The same bytes for each seed."""
 from generate import Numbers
 
 NAMES = ["A", "B", "C", "d", "e", "\u00e9t\u00e9"]
 TYPES = ["S", "T", "u", "V"]
 FACES = ["I", "j"]
+ALIASES = ["R", "o", "W"]
+FOREIGN = ["lib.L", "lib.M", "lib.K", "lib.N", "lib.Every"]
 
 LIBRARY = """package lib
 
@@ -20,6 +22,15 @@ type M struct {
 }
 
 type L2 struct{ C int }
+
+// K is M.
+type K = M
+
+type N = n
+
+type Every = Face
+
+type e = K
 
 type n struct {
 	A int
@@ -46,6 +57,7 @@ var (
 	One L
 	Two *M
 	own n
+	Four e
 )
 
 func Made(x Face) L { return L{A: x.A(), d: own.d} }
@@ -59,7 +71,9 @@ SHOWN = {
     "lib.n": ([("A", "int")], {}),
     "lib.Face": ([], {"A": "int"}),
 }
-VALUES = [("lib.One", "lib.L"), ("lib.Two", "*lib.M"), ("lib.Made(nil)", "lib.L")]
+VALUES = [("lib.One", "lib.L"), ("lib.Two", "*lib.M"), ("lib.Four", "lib.K"), ("lib.Made(nil)", "lib.L")]
+# The aliases of the library, with what they mean.
+TARGETS = {"lib.K": "lib.M", "lib.N": "lib.n", "lib.Every": "lib.Face"}
 
 
 class Dotted:
@@ -70,6 +84,7 @@ class Dotted:
         self.fields = {name: list(fields) for name, (fields, _) in SHOWN.items()}
         self.methods = {name: dict(methods) for name, (_, methods) in SHOWN.items()}
         self.pointers = {}
+        self.targets = dict(TARGETS)
         self.values = list(VALUES)
         self.fresh = 0
 
@@ -79,36 +94,64 @@ class Dotted:
     def pick(self, items):
         return self.numbers.pick(items)
 
+    def meant(self, kind):
+        """What a type means: the end of a chain of aliases, or, where that leads round, one of these."""
+        base, star = self.of(kind), "*" if kind.startswith("*") else ""
+        for _ in range(len(ALIASES) + len(TARGETS)):
+            base = self.targets.get(base, base)
+        return star + base
+
+    def by_value(self, later):
+        """The types that may stand for values: of those of the file, and of the aliases of these, the later ones."""
+        aliases = [name for name in ALIASES if self.meant(name) not in TYPES or later is None or self.meant(name) in later]
+        return ["int", "bool", *FOREIGN[:2], self.pick(FOREIGN), "*lib.L", *(TYPES if later is None else later), *aliases]
+
     def written_type(self, later=None):
         """A type; by value one of the later ones alone, where these are given, but for some that reach themselves."""
         if self.chance(15):
             return self.pick(FACES)
         if self.chance(40) or self.chance(1):
-            return self.pick(["*", "*", ""]) + self.pick(TYPES)
-        return self.pick(["int", "bool", "lib.L", "lib.M", "*lib.L", *(TYPES if later is None else later)])
+            return self.pick(["*", "*", ""]) + self.pick([*TYPES, *ALIASES])
+        return self.pick(self.by_value(later))
+
+    def alias_decls(self):
+        """The aliases of the file: of its types, of those of the library, of predeclared ones and of one another, of which few lead round."""
+        found = []
+        for at, name in enumerate(ALIASES):
+            others = [ALIASES[(at + 1) % len(ALIASES)]] if self.chance(2) else ALIASES[:at]
+            self.targets[name] = self.pick([*TYPES, *TYPES, *FACES, *FOREIGN, *others, *others, self.pick(["int", "error", "bool", name if self.chance(10) else "string"])])
+            found.append(f"{self.comment(name)}type {name} = {self.targets[name]}\n\n")
+        return found
 
     def declared(self):
         """The types of the file."""
-        text = ""
+        aliases, parts = self.alias_decls(), self.type_decls()
+        for text in aliases:
+            parts.insert(self.numbers.below(len(parts) + 1), text)
+        return "".join(parts)
+
+    def type_decls(self):
+        """The types of the file that are no aliases."""
+        parts = []
         for name in TYPES:
             form = self.numbers.below(10)
             if form == 0 and name != TYPES[0]:
-                text += f"type {name} {TYPES[0]}\n\n"
+                parts.append(f"type {name} {TYPES[0]}\n\n")
                 self.fields[name], self.methods[name] = self.fields[TYPES[0]], {}
             elif form == 1 and name != TYPES[0]:
-                text += f"type {name} *{TYPES[0]}\n\n"
+                parts.append(f"type {name} *{TYPES[0]}\n\n")
                 self.fields[name], self.methods[name] = self.fields[TYPES[0]], {}
                 self.pointers[name] = True
             else:
-                text += self.struct(name)
+                parts.append(self.struct(name))
         for name in FACES:
-            text += f"type {name} interface {{\n"
+            text = f"type {name} interface {{\n"
             self.fields[name], self.methods[name] = [], {}
             for method in self.some(NAMES, 3):
                 self.methods[name][method] = self.written_type()
                 text += f"\t{method}() {self.methods[name][method]}\n"
-            text += "}\n\n"
-        return text
+            parts.append(text + "}\n\n")
+        return parts
 
     def some(self, items, most):
         found = []
@@ -132,8 +175,9 @@ class Dotted:
         if self.chance(15):
             lines += "\tin struct{ A int; d bool }\n"
             fields.append(("in", "struct{ A int; d bool }"))
-        for base in self.some([*later, *later, "lib.L", "lib.M", "error", "int", *FACES], 2):
-            star = "*" if self.chance(40) and base not in FACES and base != "error" else ""
+        aliases = [it for it in self.by_value(later) if it in ALIASES and self.meant(it) not in self.pointers]
+        for base in self.some([*later, *later, *FOREIGN, "error", "int", *FACES, *aliases, *aliases], 2):
+            star = "*" if self.chance(40) and self.meant(base) not in [*FACES, "error", "lib.Face"] else ""
             lines += f"\t{star}{base}\n"
             fields.append((base.split(".")[-1], star + base))
         self.fields[name], self.methods[name] = fields, {}
@@ -150,7 +194,9 @@ class Dotted:
                     continue
                 kind = self.written_type()
                 self.methods[base][name] = kind
-                text += f"{self.comment(name)}func (r {self.pick(['', '*'])}{base}) {name}() {kind} {{\n{self.body([('r', base)], kind, 2)}}}\n\n"
+                names = [base, base, base, *(it for it in ALIASES if self.meant(it) == base)]
+                written = self.pick(ALIASES) if self.chance(1) else self.pick(names)
+                text += f"{self.comment(name)}func (r {self.pick(['', '*'])}{written}) {name}() {kind} {{\n{self.body([('r', base)], kind, 2)}}}\n\n"
         return text
 
     def of(self, kind):
@@ -158,7 +204,7 @@ class Dotted:
 
     def members(self, kind, depth=0):
         """Most of what may be selected behind a value of a type, with the type of each."""
-        base = self.of(kind)
+        base = self.of(self.meant(kind))
         if base.startswith("struct"):
             return [("A", "int"), ("d", "bool")]
         found = list(self.fields.get(base, ()))
@@ -176,14 +222,14 @@ class Dotted:
         if form < 12 and self.values:
             return self.pick(self.values)
         if form < 14:
-            base = self.pick([*TYPES, "lib.L", "lib.M", "lib.n"])
+            base = self.pick([*TYPES, *ALIASES, *FOREIGN[:4], "lib.n"])
             text = self.literal(names, base, depth)
             return (text, base) if form == 12 else (f"(&{text})", "*" + base)
         if form == 14 and names:
             text, kind = self.pick(names)
             return self.pick([(f"(&{text})", "*" + kind), (f"(*{text})", self.of(kind)), (f"({text})", kind)])
         if form == 15:
-            base = self.pick([*TYPES, *FACES, "lib.L", "lib.n"])
+            base = self.pick([*TYPES, *FACES, *ALIASES, "lib.L", "lib.K", "lib.n"])
             return self.pick([(base, base), (f"({base})", base), (f"(*{base})", base)])
         if form == 16:
             return f"struct{{ A int; {self.pick(NAMES)} bool }}{{A: 1}}", "struct"
@@ -193,7 +239,7 @@ class Dotted:
         if depth == 0:
             return base + "{}"
         keys = []
-        for name, kind in self.fields.get(base, ()):
+        for name, kind in self.fields.get(self.meant(base), ()):
             if self.chance(40):
                 keys.append(f"{name}: {self.value_of(names, kind, depth - 1)}")
         if self.chance(15):
@@ -203,16 +249,17 @@ class Dotted:
         return base + "{" + ", ".join(keys) + "}"
 
     def value_of(self, names, kind, depth):
-        fits = [text for text, its in names if its == kind]
+        fits = [text for text, its in names if self.meant(its) == self.meant(kind)]
         if fits and self.chance(60):
             return self.pick(fits)
-        if kind == "int":
+        meant = self.meant(kind)
+        if meant == "int":
             return str(self.numbers.below(9))
-        if kind == "bool":
+        if meant == "bool":
             return "true"
-        if kind.startswith("*") or kind in FACES or kind in self.pointers:
+        if meant.startswith("*") or meant in [*FACES, "error", "lib.Face"] or meant in self.pointers:
             return "nil"
-        if kind in self.fields:
+        if meant in self.fields:
             return kind + "{}"
         return self.expression(names, depth)
 
@@ -275,7 +322,7 @@ class Dotted:
         text += self.method_decls()
         for number in range(1 + self.numbers.below(3)):
             kind = self.written_type()
-            text += f"func f{number}(p {self.pick([*TYPES, *FACES])}, q *{self.pick(TYPES)}) {kind} {{\n{self.body([('p', TYPES[0]), ('q', '*' + TYPES[1])], kind, 2)}}}\n\n"
+            text += f"func f{number}(p {self.pick([*TYPES, *FACES, *ALIASES])}, q *{self.pick([*TYPES, *ALIASES])}) {kind} {{\n{self.body([('p', TYPES[0]), ('q', '*' + TYPES[1])], kind, 2)}}}\n\n"
         if self.chance(30):
             text += f"var outer = {self.selected([], 2)[0]}\n"
         return text

@@ -124,6 +124,8 @@ def form_of_members(told, names):
     """The form in which names of members may differ, by faults of the types of a package, or nothing."""
     if names.issubset(told["repeated"]):
         return "members that are declared twice (B5)"
+    if told["early"]:
+        return "in a package with an alias that go/types of Go 1.19 comes to before its target"
     if told["cyclic"]:
         return "in a package in which a type reaches itself (Y1)"
     if told.get("clashes"):
@@ -218,6 +220,8 @@ class TypeQuestion:
             self.tally.add(f"doc, a type, {self.kind}: " + (f"refused by {rule}" if rule else "the same members"))
             self.tally.add(f"doc, a type, {self.kind}: members in all", len(given or ()))
             self.tally.add(f"doc, a type, {self.kind}: comments in all", sum(it["doc"] != "" for it in given or ()))
+        elif given == [] and not rule and not told["rule"] and told["none"]:
+            self.tally.add(f"doc, a type, {self.kind}: a type that is defined by what has no type, of which go/types has the methods")
         elif told["late"]:
             self.tally.add(f"doc, a type, {self.kind}: a type for which go/types of Go 1.19 has no fields")
         elif given is not None and not rule and self.form(given):

@@ -16,7 +16,7 @@ BATCH = 50  # archives in one run of each program
 
 
 class Types:
-    """The types of one workspace, each with what it embeds and which names are taken in it."""
+    """The types of one workspace, each with what it embeds and which names are taken in it. An alias has the form of the type that it means."""
 
     def __init__(self, numbers, packages):
         self.numbers, self.packages = numbers, packages
@@ -38,11 +38,12 @@ class Types:
         return other[0] == home or (other[0] < home and other[1][0].isupper())
 
     def struct(self, home, earlier, later):
-        """The fields of a struct type: embedded types, then fields of their own names. A type by value is an earlier one."""
+        """The fields of a struct type: embedded types, then fields of their own names. A type by value is an earlier one, and so is an alias: that of
+        Go 1.19 refuses some others (https://go.dev/issue/50729)."""
         taken, fields = set(), []
         for _ in range(1 + self.numbers.below(3)):
             star = self.numbers.below(2) == 0
-            choice = [t for t in (earlier + later if star else earlier) if self.can_see(home, t) and t[1] not in taken]
+            choice = [t for t in (earlier + [t for t in later if not t[3]] if star else earlier) if self.can_see(home, t) and t[1] not in taken]
             choice = [t for t in choice if t[2] != "pointer" and not (star and t[2] == "interface")]
             if not choice:
                 continue
@@ -68,9 +69,11 @@ class Types:
                 self.lines[home].append(f"func (x {star}{name}) {method}() {{}}")
 
     def define(self, planned, place):
-        home, name, form = planned[place]
+        home, name, form, target = planned[place]
         earlier, later = planned[:place], planned[place:]
-        if form == "interface":
+        if target:
+            self.lines[home].append(f"type {name} = {self.spelled(home, target)}")
+        elif form == "interface":
             names = sorted({self.pick(METHODS) for _ in range(self.numbers.below(3))})
             self.lines[home].append(f"type {name} interface {{ " + "; ".join(f"{m}()" for m in names) + " }")
         elif form == "pointer":
@@ -93,8 +96,11 @@ class Types:
         planned = []
         for place in range(count):
             home = self.packages[min(place * len(self.packages) // count, len(self.packages) - 1)]
-            form = self.pick(("struct",) * 7 + ("interface", "pointer", "alike"))
-            planned.append((home, ("T" if self.numbers.below(2) else "t") + str(place), form))
+            form = self.pick(("struct",) * 7 + ("interface", "pointer", "alike") + ("alias",) * 5)
+            name = ("T" if self.numbers.below(2) else "t") + str(place)
+            targets = [t for t in planned if self.can_see(home, t)] if form == "alias" else []
+            target = self.pick(targets) if targets else None
+            planned.append((home, name, target[2] if target else "struct" if form == "alias" else form, target))
         for place in range(count):
             self.define(planned, place)
         text = []

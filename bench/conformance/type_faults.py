@@ -25,6 +25,8 @@ MESSAGES = (
 # Those behind which it says where the other declaration is.
 OTHER = re.compile(r"redeclared|duplicate method|already declared|field and method")
 NAMES = re.compile(r"undeclared name|not exported by package|\S+ is not a type|imported and not used")
+# What that of Go 1.19 says of an alias before whose target it comes to a type that leads to it (https://go.dev/issue/50729).
+EARLY = re.compile(r"invalid use of type alias \S+ in recursive type")
 
 
 def run(command):
@@ -78,7 +80,7 @@ class Told:
     """What go/types says of an archive: faults, and how many errors are of names."""
 
     def __init__(self, texts):
-        self.texts, self.faults, self.of_names, self.unknown = texts, set(), 0, []
+        self.texts, self.faults, self.of_names, self.unknown, self.early = texts, set(), 0, [], 0
         self.silent = set()  # package and name of what is said to be declared elsewhere, with no word of the error itself
 
     def add(self, lines):
@@ -100,6 +102,8 @@ class Told:
         if rule is None:
             if NAMES.search(message):
                 self.of_names += 1
+            elif EARLY.search(message):
+                self.early += 1
             else:
                 self.unknown.append(message)
         elif rule == "Y1":
@@ -197,7 +201,7 @@ def direct_uses(text):
     uses = {}
     for file, source in archive_files(text).items():
         path = os.path.dirname(file)
-        for found in re.finditer(r"^type (\w+) ", source, flags=re.M):
+        for found in re.finditer(r"^type (\w+) (?:= )?", source, flags=re.M):
             uses[(path, found.group(1))] = (file, found.start(1)), Uses(path, source[found.end() :]).found
     return uses
 
@@ -219,12 +223,28 @@ def looped(text):
 
 
 def declarations(text):
-    """The text by which each type of an archive is defined, by path and name."""
+    """The text by which each type of an archive is defined, of an alias its target, by path and name."""
     found = {}
     for file, source in archive_files(text).items():
-        for one in re.finditer(r"^type (\w+) (.*)", source, flags=re.M):
+        for one in re.finditer(r"^type (\w+) (?:= )?(.*)", source, flags=re.M):
             found[(os.path.dirname(file), one.group(1))] = one.group(2).strip()
     return found
+
+
+def is_alias(text, kind):
+    """Whether a name of a type is declared as an alias."""
+    name = re.compile(rf"^type {kind[1]} = ", flags=re.M)
+    return any(os.path.dirname(file) == kind[0] and name.search(source) for file, source in archive_files(text).items())
+
+
+def meant(text, kind):
+    """The type that a name means, the targets of aliases followed."""
+    known, seen = declarations(text), set()
+    while is_alias(text, kind) and kind not in seen:
+        seen.add(kind)
+        name = re.match(r"(?:(\w)\.)?(\w+)", known[kind])
+        kind = (f"ex.com/{name.group(1)}" if name.group(1) else kind[0], name.group(2))
+    return kind
 
 
 def is_none(text, kind, loops):
@@ -267,6 +287,8 @@ def compare(text, own, told, counts, show):
             form = "B5 of a repeated method, where the type's text names what is not declared: go/types says where the other is, and no more"
         elif rule == "B5" and in_looped(text, loops, place):
             form = "B5 of a field and a method of a type that reaches itself: go/types looks at no fields of it"
+        if rule == "B6" and is_alias(text, named_at(text, place)) and is_none(text, named_at(text, place), loops):
+            form = "B6 at an alias that means no type: go/types says no more than why it is none"
         note(counts, form, f"govisd alone: {place[0]}:{place[1]} {rule}", show)
     for place, rule in sorted(told.faults - own):
         form = None
@@ -276,6 +298,8 @@ def compare(text, own, told, counts, show):
     missing = loops ^ {place for place, rule in own if rule == "Y1"}
     for place in sorted(missing):
         note(counts, None, f"reaches itself by one opinion: {place[0]}:{place[1]}", show)
+    for _ in range(told.early):
+        note(counts, "an alias that go/types of Go 1.19 refuses since it comes to it too early (https://go.dev/issue/50729)", "", show)
     for message in told.unknown:
         note(counts, None, f"no rule for: {message}", show)
     counts["of names"] += told.of_names
@@ -292,7 +316,7 @@ def in_looped(text, loops, place):
     if found.group(1):
         return (file, start + 6) in loops
     uses = direct_uses(text)
-    kind = uses.get((os.path.dirname(file), found.group(2)))
+    kind = uses.get(meant(text, (os.path.dirname(file), found.group(2))))
     return kind is not None and kind[0] in loops
 
 

@@ -1,8 +1,11 @@
-"""Workspaces of type declarations with methods: correct ones, and ones in which errors are put. The same numbers give the same bytes."""
+"""Workspaces of type declarations with methods, a third of them of aliases: correct ones, and ones in which errors are put. The same numbers give the same
+bytes."""
 
 FIELDS = ("f", "g", "h", "F", "G")
 METHODS = ("m", "n", "k", "M", "N")
 PLAIN = ("int", "string", "bool", "*int", "struct{ u, v int }", "interface{ w() }", "any", "error")
+FORMS = ("struct",) * 6 + ("interface", "pointer", "alike", "alike", "plain") + ("alias",) * 6
+PREDECLARED = {"int": "plain", "string": "plain", "bool": "plain", "any": "interface", "error": "interface"}
 
 
 class Type:
@@ -20,10 +23,23 @@ class Type:
         """The type whose struct type it has, names passed."""
         seen = []
         one = self
-        while isinstance(one.target, Type) and one.form == "alike" and one not in seen:
+        while isinstance(one.target, Type) and one.form in ("alike", "alias") and one not in seen:
             seen.append(one)
             one = one.target
         return one
+
+    def meant(self):
+        """The type that a name of it means, the targets of aliases followed: itself where that leads round, the alias of a predeclared type where it ends there."""
+        seen, one = [], self
+        while one.form == "alias" and isinstance(one.target, Type) and one not in seen:
+            seen.append(one)
+            one = one.target
+        return one
+
+    def what(self):
+        """The form of the type that a name of it means."""
+        one = self.meant()
+        return PREDECLARED.get(one.target, "none") if one.form == "alias" else one.form
 
 
 class Workspace:
@@ -44,7 +60,7 @@ class Workspace:
         return other.home == home or (other.home < home and other.name[0].isupper())
 
     def seen(self, home, forms):
-        return [t for t in self.types if t.form in forms and self.can_see(home, t)]
+        return [t for t in self.types if t.what() in forms and self.can_see(home, t)]
 
     def is_free(self, kind, name):
         return name not in kind.names and name not in kind.base().names
@@ -64,8 +80,8 @@ class Workspace:
 
     def embed(self, kind, earlier):
         star = self.below(2) == 0
-        choice = [t for t in (self.seen(kind.home, ("struct",)) if star else earlier) if t.form in ("struct", "interface") or not star]
-        choice = [t for t in choice if t.form not in ("pointer",) and t.base().form != "pointer" and self.is_free(kind, t.name)]
+        choice = [t for t in (self.seen(kind.home, ("struct",)) if star else earlier) if t.what() in ("struct", "interface") or not star]
+        choice = [t for t in choice if t.what() not in ("pointer",) and t.base().form != "pointer" and self.is_free(kind, t.name)]
         if not choice:
             return
         other = self.pick(choice)
@@ -104,15 +120,17 @@ class Workspace:
             choice = self.seen(kind.home, ("struct", "interface", "alike"))
             kind.target = "*" + (self.spelled(kind.home, self.pick(choice)) if choice else "int")
         elif kind.form == "alike":
-            choice = [t for t in earlier if t.form in ("struct", "alike") and t.base().form == "struct"]
+            choice = [t for t in earlier if t.what() in ("struct", "alike") and t.base().form == "struct"]
             kind.target = self.pick(choice) if choice else "struct{}"
             if choice:
                 kind.held.append(kind.target)
+        elif kind.form == "alias":
+            kind.target = self.pick(earlier) if earlier and self.below(6) else self.pick(sorted(PREDECLARED))
         else:
             kind.target = self.pick(("int", "string", "bool", "(int)", "struct{}"))
 
     def own_methods(self, kind):
-        if kind.form in ("interface", "pointer"):
+        if kind.form in ("interface", "pointer", "alias"):
             return
         for _ in range(self.below(4)):
             name = self.pick(METHODS)
@@ -121,7 +139,7 @@ class Workspace:
                 self.add_method(kind, name)
 
     def add_method(self, kind, name, base=None):
-        base = base or kind.name
+        base = base or self.pick([kind.name, *(t.name for t in self.types if t.home == kind.home and t.form == "alias" and t.meant() is kind)])
         receiver = self.pick(("r {}", "r *{}", "{}", "*{}", "_ {}")).format(base)
         self.extra[kind.home].append(f"func ({receiver}) {name}{self.signature(kind.home)} {{ panic(0) }}")
 
@@ -129,10 +147,14 @@ class Workspace:
         count = 2 + self.below(6)
         for place in range(count):
             home = self.packages[min(place * len(self.packages) // count, len(self.packages) - 1)]
-            form = self.pick(("struct",) * 6 + ("interface", "pointer", "alike", "alike", "plain"))
+            form = self.pick(FORMS)
             self.types.append(Type(home, ("T" if self.below(2) else "t") + str(place), form))
         for place, kind in enumerate(self.types):
-            self.define(kind, [t for t in self.types[:place] if self.can_see(kind.home, t)])
+            if kind.form == "alias":
+                self.define(kind, [t for t in self.types[:place] if self.can_see(kind.home, t)])
+        for place, kind in enumerate(self.types):
+            if kind.form != "alias":
+                self.define(kind, [t for t in self.types[:place] if self.can_see(kind.home, t)])
         for kind in self.types:
             self.own_methods(kind)
 
@@ -168,7 +190,7 @@ class Workspace:
 
     def repeated_embedded(self):
         kind = self.some("struct")
-        choice = kind and [t for t in self.types if t.form == "struct" and self.can_see(kind.home, t)]
+        choice = kind and [t for t in self.types if t.what() == "struct" and self.can_see(kind.home, t)]
         if not choice:
             return None
         other = self.pick(choice)
@@ -208,7 +230,7 @@ class Workspace:
     def embedded_pointer(self):
         kind, choice = self.some("struct"), None
         if kind:
-            choice = [t for t in self.types if t.form == "pointer" and self.can_see(kind.home, t)]
+            choice = [t for t in self.types if t.what() == "pointer" and self.can_see(kind.home, t)]
         if not choice:
             return None
         self.insert(kind.lines, self.pick(("", "*")) + self.spelled(kind.home, self.pick(choice)))
@@ -217,14 +239,14 @@ class Workspace:
     def embedded_interface(self):
         kind = self.some("struct")
         if kind:
-            choice = [t for t in self.types if t.form == "interface" and self.can_see(kind.home, t)]
+            choice = [t for t in self.types if t.what() == "interface" and self.can_see(kind.home, t)]
             word = self.spelled(kind.home, self.pick(choice)) if choice and self.below(4) else self.pick(("error", "any"))
             self.insert(kind.lines, "*" + word)
         return kind
 
     def cycle(self):
-        kind = self.some("struct", "struct", "alike", "plain")
-        choice = kind and [t for t in self.types if self.can_see(kind.home, t) and t.form in ("struct", "alike", "plain")]
+        kind = self.some("struct", "struct", "alike", "plain", "alias")
+        choice = kind and [t for t in self.types if self.can_see(kind.home, t) and t.form in ("struct", "alike", "plain", "alias")]
         if not choice:
             return None
         other = self.pick(choice)
@@ -232,7 +254,14 @@ class Workspace:
         if kind.form == "struct":
             self.insert(kind.lines, self.pick((f"c {word}", word, f"c, d struct{{ e {word} }}", f"c *struct{{ e {word} }}")))
         else:
-            kind.form, kind.target = "alike", other
+            kind.form, kind.target = kind.form if kind.form == "alias" else "alike", other
+        return kind
+
+    def alias_cycle(self):
+        """One alias leads to another, or to itself."""
+        kind = self.some("alias")
+        if kind:
+            kind.target = self.pick([t for t in self.types if self.can_see(kind.home, t) and t.form == "alias"])
         return kind
 
     def own_cycle(self):
@@ -243,7 +272,7 @@ class Workspace:
 
     def receiver(self):
         kind = self.pick(self.types)
-        choice = [t for t in self.types if self.can_see(kind.home, t) and (t.form in ("pointer", "interface") or t.home != kind.home)]
+        choice = [t for t in self.types if self.can_see(kind.home, t) and (t.what() in ("pointer", "interface") or t.meant().home != kind.home)]
         word = self.spelled(kind.home, self.pick(choice)) if choice and self.below(4) else self.pick(("int", "error", "any", "string"))
         self.add_method(kind, self.pick(METHODS), word)
         if self.below(2):
@@ -258,7 +287,8 @@ class Workspace:
         elif self.below(2):
             self.add_method(kind, self.pick(METHODS), "nope")
         else:
-            kind.form, kind.target = "alike", self.pick(("nope", "*nope"))
+            is_alias = kind.form == "alias"
+            kind.form, kind.target = "alias" if is_alias else "alike", "nope" if is_alias else self.pick(("nope", "*nope"))
         return kind
 
     # texts
@@ -268,7 +298,7 @@ class Workspace:
             lines = "; ".join(kind.lines) if self.below(3) == 0 else "".join(f"\n\t{line}" for line in kind.lines) + "\n"
             return f"type {kind.name} {kind.form} {{ {lines} }}" if "\n" not in lines else f"type {kind.name} {kind.form} {{{lines}}}"
         target = self.spelled(kind.home, kind.target) if isinstance(kind.target, Type) else kind.target
-        return f"type {kind.name} {target}"
+        return f"type {kind.name} {'= ' if kind.form == 'alias' else ''}{target}"
 
     def shuffled(self, things):
         things = list(things)
@@ -293,5 +323,5 @@ class Workspace:
 
 ERRORS = (
     "repeated_field", "repeated_inside", "repeated_embedded", "repeated_signature", "repeated_method", "method_as_field", "methods_as_field",
-    "embedded_pointer", "embedded_interface", "cycle", "own_cycle", "receiver", "undefined",
+    "embedded_pointer", "embedded_interface", "cycle", "alias_cycle", "own_cycle", "receiver", "undefined",
 )

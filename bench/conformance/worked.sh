@@ -18,6 +18,6 @@ python3 -B "$bench/conformance/operands.py" "$folder" && python3 -B "$bench/conf
 for made in "$folder"/few/*.txt; do
     cmp "$made" "$data/$(basename -- "$made")" || exit 1
 done
-cp "$data"/examples.txt "$data"/imports.txt "$data"/bounds.txt "$data"/neighbours.txt "$data"/places.txt "$folder" || exit 2
+cp "$data"/aliases.txt "$data"/examples.txt "$data"/imports.txt "$data"/bounds.txt "$data"/neighbours.txt "$data"/places.txt "$folder" || exit 2
 "$cases" answers "$folder"/*.txt >"$out/worked_answers.txt" || exit 2
 exec "$peer" compare -show 1 "$out/worked_answers.txt" "$folder"/*.txt

@@ -4,6 +4,7 @@ import (
 	"go/ast"
 	"go/types"
 	"sort"
+	"strings"
 )
 
 // What go/types goes on with in a package, and govisd does not, or the other way round: names that another package does not export, method expressions,
@@ -13,6 +14,7 @@ type apart struct {
 	declared map[types.Object]bool
 	repeated map[string]bool
 	isCyclic bool
+	isEarly  bool // whether that of Go 1.19 refuses an alias since it comes to it before its target (https://go.dev/issue/50729)
 }
 
 // Repeating are the codes of errors about members that a type declares twice.
@@ -20,7 +22,7 @@ var repeating = []string{"DuplicateFieldAndMethod", "DuplicateMethod", "Duplicat
 
 // apartIn gathers that of a package and of those that it imports.
 func (j *judgement) apartIn(from string) *apart {
-	a := &apart{j, map[types.Object]bool{}, map[string]bool{}, false}
+	a := &apart{judgement: j, declared: map[types.Object]bool{}, repeated: map[string]bool{}}
 	a.gather(from, map[string]bool{})
 	for _, tree := range j.trees[from] {
 		ast.Inspect(tree, func(n ast.Node) bool {
@@ -50,7 +52,9 @@ func (a *apart) gather(from string, seen map[string]bool) {
 		if has(repeating, odd.code) {
 			a.repeated[a.nameAt(odd.at)] = true
 		}
-		a.isCyclic = a.isCyclic || odd.code == "InvalidDeclCycle"
+		isEarly := strings.Contains(odd.text, "invalid use of type alias")
+		a.isEarly = a.isEarly || isEarly
+		a.isCyclic = a.isCyclic || odd.code == "InvalidDeclCycle" && !isEarly
 	}
 	for _, one := range a.edges(from) {
 		a.gather(one.to, seen)

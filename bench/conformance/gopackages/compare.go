@@ -285,7 +285,7 @@ func (t *tally) compareOwn(a *answer, isAbove bool, inPackage func(place) bool, 
 	sort.Strings(rules)
 	switch {
 	case len(rules) == 0:
-	case isAbove && isOnly(rules, "Y7 S4 C1 F8"):
+	case isAbove && isOnly(rules, "Y7 S4 C1 C4 F8"):
 		t.named("a name of another package that has no type since it is refused there: "+strings.Join(rules, " "), where(at))
 	case has(rules, "X1") || has(rules, "N7") || has(rules, "C3"):
 		t.named("a changed package that go/types accepts is refused by "+strings.Join(rules, " "), where(at))
@@ -456,6 +456,10 @@ func (t *tally) compareFirst(j *judgement, first *oddity, a *answer, inPackage f
 	}
 	if first.code == "DivByZero" && a.isRefusedBy("X1", inPackage) {
 		t.named("a division by a constant that has no value where X1 refuses it", file+" "+first.at.String())
+		return
+	}
+	if _, ok := (form{"Y7", "near"}).matches(first, a, inPackage); ok && strings.HasPrefix(j.form, "Y7:(int(-9223372036854775807)_-_1)_/_-1") {
+		t.named("an error of go/types about a quotient that wraps in 64 bits for it, which Y7 refuses", file+" "+first.at.String())
 		return
 	}
 	if j.isAboveRefused(path.Dir(first.at.file)) {

@@ -19,8 +19,10 @@ type toldType struct {
 	Accepted bool         `json:"accepted"` // both packages, by go/types, and so is all that they import
 	Rule     string       `json:"rule"`     // why it is the name of no type
 	Late     bool         `json:"late"`     // whether it is a type for which go/types of Go 1.19 has no fields
+	None     bool         `json:"none"`     // whether it is a type that is defined by what has no type
 	Repeated []string     `json:"repeated"` // the names of members that a type declares twice, there or in what is imported
 	Cyclic   bool         `json:"cyclic"`   // whether a type reaches itself there
+	Early    bool         `json:"early"`    // whether go/types of Go 1.19 comes to an alias too early there
 	Members  []toldMember `json:"members"`
 }
 
@@ -119,12 +121,12 @@ func pathOf(one types.Type, index []int) []string {
 
 // tell tells of a name.
 func (d *documenter) tell(archive, from, of, name string, near *apart) *toldType {
-	told := &toldType{Archive: archive, From: from, Package: of, Name: name, Repeated: near.names(), Cyclic: near.isCyclic, Members: []toldMember{}}
+	told := &toldType{Archive: archive, From: from, Package: of, Name: name, Repeated: near.names(), Cyclic: near.isCyclic, Early: near.isEarly, Members: []toldMember{}}
 	told.Accepted = d.isAccepted(from) && d.isAccepted(of)
 	object, rule := d.typeNamed(from, of, name)
 	told.Rule = rule
 	if rule == "" && isValid(object.Type()) {
-		told.Late = d.late[object]
+		told.Late, told.None = d.late[object], !hasType(object.Type())
 		told.Members = d.membersOf(object.Type(), d.checked[from])
 	}
 	return told

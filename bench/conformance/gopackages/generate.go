@@ -83,7 +83,6 @@ type typeMade struct {
 	fields     map[string]bool
 	methods    map[string]bool
 	isFree     bool // whether it may have methods
-	isAlias    bool
 }
 
 // A function that is made.
@@ -176,15 +175,15 @@ func (m *made) written(f *fileMade, depth, limit int) string {
 	return m.one("int", "string", "bool")
 }
 
-// embedded picks an embedded field, with its name: none that an alias names, since go/types writes such a field by its type.
+// embedded picks an embedded field, with its name, which is that of an alias where one names its type.
 func (m *made) embedded(f *fileMade, limit int) (string, string, bool) {
 	switch n := m.r.Intn(10); {
 	case n < 5 && limit > 0:
 		t := m.types[m.r.Intn(limit)]
-		return t.name, t.name, t.form != "pointer" && !t.isAlias
+		return t.name, t.name, t.form != "pointer"
 	case n < 7 && len(m.types) > 0:
 		t := m.types[m.r.Intn(len(m.types))]
-		return "*" + t.name, t.name, (t.form == "struct" || t.form == "basic") && !t.isAlias
+		return "*" + t.name, t.name, t.form == "struct" || t.form == "basic"
 	case n < 9:
 		text, kind, ok := m.foreign(f, func(t types.Type) bool { _, isPointer := t.Underlying().(*types.Pointer); return !isPointer })
 		if !ok {
@@ -193,9 +192,7 @@ func (m *made) embedded(f *fileMade, limit int) (string, string, bool) {
 		if _, isInterface := kind.Underlying().(*types.Interface); !isInterface && m.chance(40) {
 			text = "*" + text
 		}
-		name := text[strings.LastIndexAny(text, ".*")+1:]
-		named, isDefined := kind.(*types.Named)
-		return text, name, isDefined && named.Obj().Name() == name
+		return text, text[strings.LastIndexAny(text, ".*")+1:], true
 	case n == 9:
 		name := m.one("error", "string", "bool")
 		return name, name, true
@@ -298,7 +295,6 @@ func (m *made) resultText(f *fileMade, depth int) string {
 
 // aliased picks what an alias stands for: a type of the package, one of another, or a predeclared one. It has its fields and methods.
 func (m *made) aliased(f *fileMade, t *typeMade, limit int) string {
-	t.isAlias = true
 	if n := m.r.Intn(10); n < 6 && limit > 0 {
 		other := m.types[m.r.Intn(limit)]
 		t.form, t.isFree, t.fields, t.methods = other.form, other.isFree, other.fields, other.methods
@@ -545,7 +541,7 @@ func (m *made) enter() {
 
 var mark = regexp.MustCompile(`«(\w+)»`)
 
-// final takes the marks of faults out of a file's text, and notes where they stood.
+// final takes the marks of faults out of a file's text, and notes where they stood. A mark `ok` is of a place where a rule is looked for in vain.
 func (m *made) final(f *fileMade) (string, []string) {
 	text := m.text(f, false)
 	var out strings.Builder
@@ -553,7 +549,9 @@ func (m *made) final(f *fileMade) (string, []string) {
 	at := 0
 	for _, found := range mark.FindAllStringSubmatchIndex(text, -1) {
 		out.WriteString(text[at:found[0]])
-		put = append(put, fmt.Sprintf("put %s/%s:%d %s", m.path, f.name, out.Len(), text[found[2]:found[3]]))
+		if rule := text[found[2]:found[3]]; rule != "ok" {
+			put = append(put, fmt.Sprintf("put %s/%s:%d %s", m.path, f.name, out.Len(), rule))
+		}
 		at = found[1]
 	}
 	out.WriteString(text[at:])

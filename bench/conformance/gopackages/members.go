@@ -8,16 +8,24 @@ import (
 // isValid tells whether go/types has a type.
 func isValid(one types.Type) bool { return one != nil && one != types.Typ[types.Invalid] }
 
+// hasType tells whether go/types has a type, and one that is defined by one: behind a pointer too.
+func hasType(one types.Type) bool {
+	if pointer, ok := one.(*types.Pointer); ok {
+		return hasType(pointer.Elem())
+	}
+	return isValid(one) && isValid(one.Underlying())
+}
+
 // typed notes whether go/types has a type of what decides which names may stand in a place.
 func (q *questioner) typed(told *toldUse, one *usage) {
 	switch told.Context {
 	case "value":
-		told.Typed = isValid(q.j.info.Types[one.left].Type)
+		told.Typed = hasType(q.j.info.Types[one.left].Type)
 		told.Apart = q.apart.has(one.left)
 		selector, ok := q.parents[one.ident].(*ast.SelectorExpr)
 		told.Late = ok && q.late[selector]
 	case "key":
-		told.Typed = isValid(q.j.info.Types[one.literal.Type].Type)
+		told.Typed = hasType(q.j.info.Types[one.literal.Type].Type)
 		told.Apart = q.apart.has(one.literal.Type)
 	}
 }

@@ -30,6 +30,7 @@ type toldFile struct {
 	Clashes   []string       `json:"clashes"`  // the names that both an import and the package bind
 	Repeated  []string       `json:"repeated"` // the names of members that a type declares twice, here or in what is imported
 	Cyclic    bool           `json:"cyclic"`   // whether a type reaches itself there
+	Early     bool           `json:"early"`    // whether go/types of Go 1.19 comes to an alias too early there
 	Declared  [][2]int       `json:"declared"` // the identifiers that are not used
 	Uses      []*toldUse     `json:"uses"`
 	Counts    map[string]int `json:"counts"` // what became of the names that were put in place
@@ -464,7 +465,7 @@ func query(file string, every, outside int, out *json.Encoder) error {
 			told.Assembled = true
 			q := &questioner{prober: &prober{j: j, from: from}, pkg: pkg, names: names, late: j.lateSelectors()}
 			q.apart = j.apartIn(from)
-			told.Repeated, told.Cyclic = q.apart.names(), q.apart.isCyclic
+			told.Repeated, told.Cyclic, told.Early = q.apart.names(), q.apart.isCyclic, q.apart.isEarly
 			q.tellFile(j.files[where], told, every, outside)
 		}
 		if err := out.Encode(told); err != nil {

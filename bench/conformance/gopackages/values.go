@@ -99,8 +99,37 @@ func (g *gen) ref(e *entry) (string, bool) {
 	return qualifier + "." + e.name, g.local(qualifier) == nil
 }
 
-// typeText writes a type, if its names can be seen here.
+// aliasOf picks an alias of a type, as it is written here: one of those that can be seen.
+func (g *gen) aliasOf(t types.Type) (string, bool) {
+	var found []string
+	for _, m := range append([]*made{g.made}, g.others...) {
+		for _, e := range m.list {
+			if e.kind == 't' && m.pkg.Scope().Lookup(e.name).(*types.TypeName).IsAlias() && types.Identical(e.typ, t) {
+				if text, ok := g.ref(e); ok {
+					found = append(found, text)
+				}
+			}
+		}
+	}
+	if len(found) == 0 {
+		return "", false
+	}
+	return found[g.r.Intn(len(found))], true
+}
+
+// typeText writes a type, if its names can be seen here: now and then by an alias.
 func (g *gen) typeText(t types.Type) (string, bool) {
+	text, ok := g.ownText(t)
+	if !ok || g.chance(30) {
+		if alias, isSeen := g.aliasOf(t); isSeen {
+			return alias, true
+		}
+	}
+	return text, ok
+}
+
+// ownText writes a type, the outermost by no alias, if its names can be seen here.
+func (g *gen) ownText(t types.Type) (string, bool) {
 	switch t := t.(type) {
 	case *types.Basic:
 		return t.Name(), g.universe(t.Name())
@@ -166,12 +195,9 @@ func (g *gen) structWritten(t *types.Struct) (string, bool) {
 	var lines []string
 	for i := 0; i < t.NumFields(); i++ {
 		field := t.Field(i)
-		text, ok := g.typeText(field.Type())
+		text, ok := g.fieldText(field)
 		if !ok || !g.mine(field) {
 			return "", false
-		}
-		if !field.Embedded() {
-			text = field.Name() + " " + text
 		}
 		if t.Tag(i) != "" {
 			text += " " + strconv.Quote(t.Tag(i))
@@ -179,6 +205,27 @@ func (g *gen) structWritten(t *types.Struct) (string, bool) {
 		lines = append(lines, text)
 	}
 	return "struct{ " + strings.Join(lines, "; ") + " }", true
+}
+
+// fieldText writes a field, if its names can be seen here: an embedded one by the name that it has, which may be that of an alias of its type.
+func (g *gen) fieldText(field *types.Var) (string, bool) {
+	if !field.Embedded() {
+		text, ok := g.typeText(field.Type())
+		return field.Name() + " " + text, ok
+	}
+	base, star := field.Type(), ""
+	if pointer, ok := base.(*types.Pointer); ok {
+		base, star = pointer.Elem(), "*"
+	}
+	for _, m := range append([]*made{g.made}, g.others...) {
+		if e := m.top[field.Name()]; e != nil && e.kind == 't' && types.Identical(e.typ, base) {
+			if text, ok := g.ref(e); ok {
+				return star + text, true
+			}
+		}
+	}
+	object := types.Universe.Lookup(field.Name())
+	return star + field.Name(), object != nil && types.Identical(object.Type(), base) && g.universe(field.Name())
 }
 
 // vars gives the variables and typed constants that can be seen here, which fit.

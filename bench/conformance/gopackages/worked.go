@@ -2,6 +2,8 @@ package main
 
 import (
 	"fmt"
+	"go/ast"
+	"go/types"
 	"os"
 	"path/filepath"
 	"regexp"
@@ -57,6 +59,38 @@ func (j *judgement) isOwnLine(at place, rules []string) bool {
 	return has(rules, "X1") || has(rules, "N7") || has(rules, "L3") || has(rules, "C3") && strings.Contains(line, "print") || has(rules, "Y7") && strings.HasSuffix(strings.Trim(line, "\t )"), "/ -1")
 }
 
+// isOfNone tells whether in a line go/types has no type of what stands before the dot of a selector, of a receiver, or of what is named where a type is wanted.
+func (j *judgement) isOfNone(line place) bool {
+	isFound := false
+	ast.Inspect(j.files[line.file], func(n ast.Node) bool {
+		var of ast.Expr
+		switch n := n.(type) {
+		case *ast.SelectorExpr:
+			of = n.X
+		case *ast.FuncDecl:
+			if n.Recv != nil {
+				of = n.Recv.List[0].Type
+			}
+		case *ast.TypeSpec:
+			of = n.Type
+		}
+		if of != nil && j.line(j.place(of.Pos())) == line {
+			t := j.typeOf(of)
+			isFound = isFound || !isValid(t) || !isValid(t.Underlying())
+		}
+		return true
+	})
+	return isFound
+}
+
+// typeOf gives the type of an expression, or of what a name denotes, if go/types has one.
+func (j *judgement) typeOf(of ast.Expr) types.Type {
+	if name, ok := of.(*ast.Ident); ok && j.info.Uses[name] != nil {
+		return j.info.Uses[name].Type()
+	}
+	return j.info.Types[of].Type
+}
+
 // compareLines compares a worked package with go/types line by line: a line has a fault where go/types has an error in it.
 func (t *tally) compareLines(j *judgement, errors []oddity, a *answer, inPackage func(place) bool, where func(place) string) {
 	told, codes := map[place]string{}, map[string]bool{}
@@ -88,6 +122,8 @@ func (t *tally) compareLines(j *judgement, errors []oddity, a *answer, inPackage
 			t.named("a worked line that go/types takes", where(at))
 		case isElsewhere(rules, codes):
 			t.named("a fault on another line than the error of go/types, or on more lines: "+strings.Join(rules, " "), where(at))
+		case j.isOfNone(at):
+			t.named("a fault about what has no type, of which go/types says no more than why it has none: "+strings.Join(rules, " "), where(at))
 		default:
 			t.note("no error of go/types in a worked line with "+strings.Join(rules, " "), where(at))
 		}

@@ -81,11 +81,11 @@ func (w *workspace) read(archive string) {
 	}
 }
 
-// defined gives the types of a package in order of file and place.
+// defined gives the types of a package that are no aliases in order of file and place.
 func defined(p *types.Package) []*types.TypeName {
 	var list []*types.TypeName
 	for _, name := range p.Scope().Names() {
-		if t, ok := p.Scope().Lookup(name).(*types.TypeName); ok {
+		if t, ok := p.Scope().Lookup(name).(*types.TypeName); ok && !t.IsAlias() {
 			list = append(list, t)
 		}
 	}

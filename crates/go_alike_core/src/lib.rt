@@ -12,6 +12,7 @@ mod terms;
 pub use entries::same_types;
 pub use faces::same_faces;
 pub use names::{same_exports, same_names};
+pub use terms::equal_term;
 
 /// What the crates above name of `go_alias_core`.
 pub mod alias_core {

@@ -11,8 +11,8 @@ use go_term_core::{
     Field, FieldLine, LinePair, Method, Params, Signature, Tag, TypeTerm, is_met, is_no_type,
 };
 
-/// Whether two types are equal. It takes no memory.
-pub(crate) fn equal_term(a: &TypeTerm, b: &TypeTerm) -> bool
+/// Whether two types are equal, places and tags included. It takes no memory.
+pub fn equal_term(a: &TypeTerm, b: &TypeTerm) -> bool
     ensures { IsTrue result ↔ (shape a.now ≡ shape b.now) }
 {
     is_equal_term(a, b)

@@ -9,6 +9,7 @@ mod faces;
 mod laws;
 mod locals;
 mod outer;
+mod shared;
 mod site;
 
 pub use answers::{Answer, answers_of};
@@ -19,6 +20,7 @@ pub use laws::{
 };
 pub use locals::{HeldLocal, hold_local};
 pub use outer::{OuterAt, outer_faults};
+pub use shared::HeldValues;
 pub use site::Site;
 
 /// What the crates above name of `go_alias_core`.

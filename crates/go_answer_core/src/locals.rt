@@ -1,13 +1,15 @@
 //! What the locals of functions are, held.
 ghost use Rattle.std.specs.Prelude.{◌≡◌, IfOk};
+ghost use Rattle.std.specs.Arc.{arc_value};
 ghost use Rattle.std.specs.Option.{option_map};
 ghost use Rattle.go_fault_core.specs.face_core.Faces.{operand_shown};
 
-use go_fault_core::face_core::{Face, hold};
+use crate::shared::HeldValues;
 use go_fault_core::handle_core::TypeRef;
 use go_report_core::operand_core::Operand;
 use go_term_core::TypeTerm;
 use std::alloc::{AllocError, Global};
+use std::sync::Arc;
 
 /// A local that a function declares, held: it lends nothing of the package. A receiver, a parameter, a result, a constant or a variable, by its
 /// declared identifier.
@@ -16,8 +18,8 @@ use std::alloc::{AllocError, Global};
 pub struct HeldLocal {
     /// The first byte of the identifier, in bytes from the file's start.
     pub offset: usize,
-    /// What it stands for: a variable of a type, or a constant with its value. None where it has no type.
-    pub value: Option<Operand<TypeTerm>>,
+    /// What it stands for: a variable of a type, or a constant with its value. None where it has no type. Variables of one type share it.
+    pub value: Arc<Option<Operand<TypeTerm>>>,
 }
 
 impl Drop for HeldLocal {
@@ -29,23 +31,30 @@ impl Drop for HeldLocal {
     }
 }
 
-/// A local at an offset in bytes from the file's start, which stands for a value, held. The text of a constant is shared.
+impl HeldLocal {
+    /// What it stands for: none where it has no type.
+    pub fn value(&self) -> &Option<Operand<TypeTerm>>
+        ensures { result.now ≡ arc_value self.now.value }
+    {
+        &self.value
+    }
+}
+
+/// A local at an offset in bytes from the file's start, which stands for a value, held. The text of a constant is shared, and so is what was held of a
+/// variable of the same type: it takes the time of a comparison with that, and no memory but for the local itself.
 ///
 /// # Errors
 ///
 /// `AllocError` where memory is wanting.
 pub fn hold_local(
     alloc: Global,
+    values: &mut HeldValues,
     offset: usize,
     value: Option<Operand<TypeRef<'_>>>,
 ) -> Result<HeldLocal, AllocError>
     ensures offset { IfOk result (λ held. held.offset ≡ offset) }
-    ensures value { IfOk result (λ held. option_map operand_shown held.value ≡ value.entry) }
+    ensures value { IfOk result (λ held. option_map operand_shown (arc_value held.value) ≡ value.entry) }
 {
-    match hold(alloc, &Face::Value(value))? {
-        Face::Value(value) => Ok(HeldLocal { offset, value }),
-        // No face but a value's is held of a value.
-        Face::Type(_) => Err(AllocError),
-        Face::Func(_) => Err(AllocError),
-    }
+    let value = values.hold(alloc, value)?;
+    Ok(HeldLocal { offset, value })
 }

@@ -17,7 +17,7 @@ use Rattle.go_submit_core.specs.graph_core.Workspaces.{HaveDistinctNames, Packag
 use Rattle.go_submit_core.specs.graph_core.Reading.{map_last}
 use Rattle.go_text_core.specs.declared.rule.Rule.{Rule}
 use Rattle.go_text_core.specs.declared.rule.Rule.TheVariants.{M0}
-use Rattle.go_submit_core.specs.Trees.{TreeModel, tree_rule}
+use Rattle.go_submit_core.specs.Trees.{TreeModel, is_file_name, tree_rule}
 use Rattle.go_draft_core.specs.Edits.{IsEditRefusal, IsEdited, edited_texts, files_or_none, other_files, text_there, texts_of}
 
 -- one more file of a package is looked at
@@ -96,9 +96,9 @@ pub edited_from : (old mid new : List PackageModel) (path name : List ℕ) (text
 edited_from old mid new path name text given puts same is = subst (λ (g : List (List ℕ × List ℕ)). Puts old path g new) is (subst (λ (ps : List PackageModel). Puts ps path given new) same puts)
 
 -- an edit that is refused: the tree breaks this rule, or memory is wanting
-pub edit_refused : (old : TreeModel) (path there name : List ℕ) (text : Option (List ℕ)) (rule : Rule) (packages new : List PackageModel) → is_path_inside old.own path ≡ true → IsEdited packages there name text new → packages ≡ old.packages → there ≡ path → (rule ≡ M0) ⊎ (tree_rule old.own new ≡ Some rule) → IsEditRefusal old path name text rule
-edit_refused old path there name text rule packages new inside edited same here why =
+pub edit_refused : (old : TreeModel) (path name : List ℕ) (text : Option (List ℕ)) (rule : Rule) (packages new : List PackageModel) → is_path_inside old.own path ≡ true → is_file_name name ≡ true → IsEdited packages path name text new → packages ≡ old.packages → (rule ≡ M0) ⊎ (tree_rule old.own new ≡ Some rule) → IsEditRefusal old path name text rule
+edit_refused old path name text rule packages new inside named edited same why =
     ⊎_elim
     (λ (m : rule ≡ M0). inl m)
-    (λ (r : tree_rule old.own new ≡ Some rule). inr (inr (inside, (new, subst (λ (p : List ℕ). IsEdited old.packages p name text new) here (subst (λ (ps : List PackageModel). IsEdited ps there name text new) same edited), r))))
+    (λ (r : tree_rule old.own new ≡ Some rule). inr (inr (inside, inr (named, (new, subst (λ (ps : List PackageModel). IsEdited ps path name text new) same edited, r)))))
     why

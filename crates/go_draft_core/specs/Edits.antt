@@ -3,11 +3,11 @@ use Rattle.std.specs.Prelude.{◌≡◌, ◌⊎◌, ℕ, true, false, not, List,
 use Rattle.std.specs.List.{filter}
 use Rattle.std.specs.Str.{bytes_eq}
 use Rattle.go_text_core.specs.declared.rule.Rule.{Rule}
-use Rattle.go_text_core.specs.declared.rule.Rule.TheVariants.{M0, E1}
+use Rattle.go_text_core.specs.declared.rule.Rule.TheVariants.{M0, E1, E2}
 use Rattle.go_path_core.specs.Path.{IsPath}
 use Rattle.go_submit_core.specs.graph_core.Sources.{SourceModel}
 use Rattle.go_submit_core.specs.graph_core.Workspaces.{PackageModel, Puts, files_at, is_path_inside}
-use Rattle.go_submit_core.specs.Trees.{TreeModel, tree_rule}
+use Rattle.go_submit_core.specs.Trees.{TreeModel, is_file_name, tree_rule}
 
 -- the names and texts of files
 abbrev pub texts_of : List SourceModel → List (List ℕ × List ℕ)
@@ -34,16 +34,18 @@ files_or_none (Some fs) = fs
 abbrev pub IsEdited : List PackageModel → List ℕ → List ℕ → Option (List ℕ) → List PackageModel → Type 0
 IsEdited old path name text new = Puts old path (edited_texts (files_or_none (files_at old path)) name text) new
 
--- the first rule that an edit of a draft breaks: its path is none or lies outside the module, or the draft would be no tree of it
+-- the first rule that an edit of a draft breaks: its path is none or lies outside the module, its name is no source file's, or the draft would be no tree
+-- of the module
 abbrev pub IsEditRefusal : TreeModel → List ℕ → List ℕ → Option (List ℕ) → Rule → Type 0
 IsEditRefusal old path name text rule =
     (rule ≡ M0)
     ⊎ ((rule ≡ E1) × (IsPath path → is_path_inside old.own path ≡ false))
-    ⊎ ((is_path_inside old.own path ≡ true) × ((new : List PackageModel) × IsEdited old.packages path name text new × (tree_rule old.own new ≡ Some rule)))
+    ⊎ ((is_path_inside old.own path ≡ true) × (((rule ≡ E2) × (is_file_name name ≡ false)) ⊎ ((is_file_name name ≡ true) × ((new : List PackageModel) × IsEdited old.packages path name text new × (tree_rule old.own new ≡ Some rule)))))
 
 -- what an edit of a draft leaves
 pub record IsEditOf (old : TreeModel) (path name : List ℕ) (text : Option (List ℕ)) (new : TreeModel) : Type 0 where
   pub inside : is_path_inside old.own path ≡ true
+  pub named : is_file_name name ≡ true
   pub own : new.own ≡ old.own
   pub edited : IsEdited old.packages path name text new.packages
   pub within : tree_rule old.own new.packages ≡ None

@@ -1,16 +1,16 @@
 //! Edits of drafts.
-ghost use Rattle.std.specs.Prelude.{◌≡◌, ◌++◌, ◌⊎◌, IfErr, IfOk, MatchOption, None, OnOk, Some, option_map, string_bytes};
+ghost use Rattle.std.specs.Prelude.{◌≡◌, ◌++◌, ◌⊎◌, IfErr, IfOk, MatchOption, None, OnOk, Some, option_map, string_bytes, true};
 ghost use Rattle.std.specs.BTreeMap.{is_at};
 ghost use Rattle.std.specs.List.Sorted.{IsStrictlySortedBy};
 ghost use Rattle.std.specs.Str.{bytes_eq};
-ghost use Rattle.go_submit_core.specs.graph_core.Workspaces.{HaveDistinctNames, by_bytes, files_at, given_files, names_of_files};
-ghost use Rattle.go_submit_core.specs.Trees.{tree_rule, tree_with};
+ghost use Rattle.go_submit_core.specs.graph_core.Workspaces.{HaveDistinctNames, by_bytes, files_at, given_files, is_path_inside, names_of_files};
+ghost use Rattle.go_submit_core.specs.Trees.{is_file_name, tree_rule, tree_with};
 ghost use Rattle.go_draft_core.specs.Edits.{IsEditOf, IsEditRefusal, IsEdited, edited_texts, files_or_none, other_files, text_there, texts_of};
 
 use crate::places::draft_path;
 use go_path_core::ImportPath;
-use go_submit_core::ModuleTree;
 use go_submit_core::graph_core::{PackageSource, SourceFile, Workspace};
+use go_submit_core::{ModuleTree, is_source_name};
 use go_text_core::{Rule, add};
 use std::alloc::{AllocError, Global};
 
@@ -158,12 +158,34 @@ fn tree_of(alloc: Global, draft: &ModuleTree, packages: Workspace) -> Result<Mod
     }
 }
 
+// A draft with a file of a source file's name, in the package of a path inside the module, set to a text, or without it.
+fn edited_inside(
+    alloc: Global,
+    draft: &ModuleTree,
+    path: &ImportPath,
+    name: &str,
+    text: Option<String>,
+) -> Result<ModuleTree, Rule>
+    requires inside { is_path_inside draft.now.own path.now ≡ true }
+    requires named { is_file_name name.now ≡ true }
+    ensures ok { IfOk result (λ new. IsEditOf draft.now path.now name.now (option_map (λ s. string_bytes s) text) new) }
+    ensures err { IfErr result (λ rule. IsEditRefusal draft.now path.now name.now (option_map (λ s. string_bytes s) text) rule) }
+{
+    let Ok(packages) = put_file(alloc, draft.packages(), path, name, text) else {
+        return Err(Rule::M0);
+    };
+    match tree_of(alloc, draft, packages) {
+        Ok(new) => Ok(new),
+        Err(rule) => Err(rule),
+    }
+}
+
 /// A draft with a file set to a text, or without it. A file that is away already is no fault.
 ///
 /// # Errors
 ///
-/// `Rule::E1` where the path is none or lies outside the module; else the first of the rules `Rule::E1` to `Rule::E5` that the draft would break then.
-/// `Rule::M0` where memory is wanting.
+/// The first of these rules that is broken: `Rule::E1` where the path is none or lies outside the module; `Rule::E2` where the name is no source file's,
+/// whether the file is set or taken away; `Rule::E3` to `Rule::E5` where the draft would break them then. `Rule::M0` where memory is wanting.
 pub fn edited(
     alloc: Global,
     draft: &ModuleTree,
@@ -175,11 +197,9 @@ pub fn edited(
     ensures err { IfErr result (λ rule. IsEditRefusal draft.now path.now name.now (option_map (λ s. string_bytes s) text) rule) }
 {
     let path = draft_path(alloc, draft.own(), path)?;
-    let Ok(packages) = put_file(alloc, draft.packages(), &path, name, text) else {
-        return Err(Rule::M0);
-    };
-    match tree_of(alloc, draft, packages) {
-        Ok(new) => Ok(new),
-        Err(rule) => Err(rule),
+    if is_source_name(name) {
+        edited_inside(alloc, draft, &path, name, text)
+    } else {
+        Err(Rule::E2)
     }
 }

@@ -1,15 +1,14 @@
 //! The numbers of packages by their paths.
-ghost use Rattle.std.specs.Prelude.{◌≡◌, IfOk, OnOk, position};
+ghost use Rattle.std.specs.Prelude.{◌≡◌, IfOk, position};
 ghost use Rattle.std.specs.Str.{bytes_eq};
 ghost use Rattle.std.specs.List.Sorted.{IsStrictlySortedBy};
 ghost use Rattle.std.specs.Map.{keys_of};
-ghost use Rattle.std.specs.HashMap.{IsEmpty};
 ghost use Rattle.go_graph_core.specs.Workspaces.{by_bytes};
-ghost use Rattle.go_graph_core.specs.mirrors.Placed.{ArePlaced};
+ghost use Rattle.go_graph_core.specs.mirrors.Placed.{placed};
 
 use crate::workspace::PackageSource;
+use go_named_core::NameTable;
 use std::alloc::{AllocError, Global};
-use std::collections::HashMap;
 use std::marker::Model;
 
 /// The paths of packages, where a path's place is found at once. Contracts see it as the list of the paths, in order.
@@ -18,36 +17,31 @@ use std::marker::Model;
 #[derive(Drop)]
 pub(crate) struct PathTable<'a> {
     packages: &'a [PackageSource],
-    places: HashMap<String, usize>,
+    places: NameTable<usize>,
 }
 
 impl<'a> Model for PathTable<'a> {
-    ghost use Rattle.std.specs.Prelude.{ℕ, List};
+    ghost use Rattle.std.specs.Prelude.{◌≡◌, ℕ, List};
     ghost use Rattle.std.specs.Map.{keys_of};
-    ghost use Rattle.go_graph_core.specs.mirrors.Placed.{ArePlaced};
+    ghost use Rattle.go_graph_core.specs.mirrors.Placed.{placed};
 
     ghost Value = { List (List ℕ) };
 
     ghost view = { λ t. keys_of t.packages.now };
 
-    ghost invariant = { λ t. ArePlaced t.places (keys_of t.packages.now) };
+    ghost invariant = { λ t. t.places.names ≡ placed 0 (keys_of t.packages.now) };
 }
 
-/// Puts copies of the paths of packages into a map without any, each with its place.
-fn add_places(
-    places: &mut HashMap<String, usize>,
-    alloc: Global,
-    packages: &[PackageSource],
-) -> Result<(), AllocError>
-    requires empty { IsEmpty places.old }
-    requires order { IsStrictlySortedBy by_bytes (keys_of packages.now) }
-    ensures { OnOk result (ArePlaced places.new (keys_of packages.now)) }
+/// Copies of the paths of packages, each with its place.
+fn places_of(alloc: Global, packages: &[PackageSource]) -> Result<NameTable<usize>, AllocError>
+    requires { IsStrictlySortedBy by_bytes (keys_of packages.now) }
+    ensures { IfOk result (λ places. places.names ≡ placed 0 (keys_of packages.now)) }
 {
+    let mut places = NameTable::new(alloc);
     for (place, source) in packages.iter().enumerate() {
-        let path = String::from_str(alloc, source.path().as_str())?;
-        let _ = places.insert(path, place)?;
+        places.add(alloc, source.path().as_str(), place)?;
     }
-    Ok(())
+    Ok(places)
 }
 
 impl<'a> PathTable<'a> {
@@ -59,17 +53,14 @@ impl<'a> PathTable<'a> {
         requires { IsStrictlySortedBy by_bytes (keys_of packages.now) }
         ensures { IfOk result (λ table. table ≡ keys_of packages.now) }
     {
-        let mut places = HashMap::with_capacity(alloc, packages.len())?;
-        match add_places(&mut places, alloc, packages) {
-            Ok(()) => Ok(PathTable { packages, places }),
-            Err(AllocError) => Err(AllocError),
-        }
+        let places = places_of(alloc, packages)?;
+        Ok(PathTable { packages, places })
     }
 
     /// Where a path stands, if it is there.
     pub(crate) fn number(&self, path: &str) -> Option<usize>
         ensures { result ≡ position (bytes_eq path.now) self.now }
     {
-        self.places.get(path).copied()
+        self.places.find(path).copied()
     }
 }

@@ -16,6 +16,7 @@ use go_hall_core::{Counted, Named, Stamps, Submits};
 use go_path_core::Module;
 use go_text_core::Rule;
 use std::alloc::Global;
+use std::sync::atomic::{AtomicU64, Ordering};
 use std::sync::ledger::Blank;
 use std::sync::{Condvar, Mutex, Wait};
 
@@ -27,7 +28,12 @@ pub struct Hall<L: Named> {
     pub(crate) work: Condvar,
     // and builds for their batch.
     pub(crate) built: Condvar,
+    // Takes in a row that were refused for want of memory. Nothing but when a build gives up rests on it.
+    refused: AtomicU64,
 }
+
+// After so many Takes that were refused in a row builds give up. A worker tries once a millisecond.
+const MOST_REFUSED: u64 = 10_000;
 
 impl<L: Named> Drop for Hall<L> {
     fn drop(self) {
@@ -36,6 +42,7 @@ impl<L: Named> Drop for Hall<L> {
             state: _,
             work: _,
             built: _,
+            refused: _,
         } = self;
     }
 }
@@ -65,6 +72,7 @@ impl<L: Named> Hall<L> {
             state: Mutex::new(state),
             work: Condvar::new(),
             built: Condvar::new(),
+            refused: AtomicU64::new(0),
         })
     }
 
@@ -106,6 +114,7 @@ impl<L: Named> Hall<L> {
             state,
             work: _,
             built: _,
+            refused: _,
         } = self;
         state.into_inner().end(all)
     }
@@ -133,17 +142,40 @@ impl<L: Named> Hall<L> {
         self.state.lock(rt).close(id, reader);
     }
 
-    // Waits until a submission is published or given back, or the hall is stopped. The number of its batch.
+    // Counts a Take that was refused for want of memory. Builds are waked where there were so many in a row that they give up.
+    pub(crate) fn note_refused(&self) {
+        if self.refused.fetch_add(1, Ordering::Relaxed) >= MOST_REFUSED {
+            self.built.notify_all();
+        }
+    }
+
+    // Notes a Take that was not refused.
+    pub(crate) fn note_taken(&self) {
+        self.refused.store(0, Ordering::Relaxed);
+    }
+
+    // Whether there is so little memory that nothing was taken for a while.
+    fn is_starved(&self) -> bool {
+        self.refused.load(Ordering::Relaxed) >= MOST_REFUSED
+    }
+
+    // Waits until a submission is published or given back, memory is wanting for a while, or the hall is stopped. The number of its batch.
     pub(crate) fn published<R: Wait>(&self, rt: &R, ticket: Ticket) -> Result<u64, Rule>
         ensures { IfErr result (λ rule. (rule ≡ Rule.M0) ⊎ (rule ≡ Rule.H2)) }
     {
-        let state = self
-            .built
-            .wait_while(rt, self.state.lock(rt), |state| is_pending(state, ticket));
+        let state = self.built.wait_while(rt, self.state.lock(rt), |state| {
+            is_pending(state, ticket) && !self.is_starved()
+        });
         match state.ticket(ticket) {
             Some(TicketState::Published(number)) => Ok(number),
             Some(TicketState::GivenBack) => Err(Rule::M0),
-            _ => Err(Rule::H2),
+            _ => {
+                if state.is_stopped() {
+                    Err(Rule::H2)
+                } else {
+                    Err(Rule::M0)
+                }
+            }
         }
     }
 }

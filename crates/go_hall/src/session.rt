@@ -189,7 +189,7 @@ impl<'a, L: Named> Session<'a, L> {
     /// # Errors
     ///
     /// What `HallState::submit` answers, `Rule::H2` where the hall is stopped meanwhile, and `Rule::M0` where memory is wanting, or its batch was given
-    /// back. The draft stays.
+    /// back. The draft stays. Where memory is wanting so long that no worker can begin, the submission stays too, and may be published later.
     pub fn build<R: Wait>(&mut self, rt: &R) -> Result<Built, Rule>
         ensures later { BeginsWith self.new.seen self.old.seen }
         ensures told { OnOk result (BeginsWith self.new.seen self.old.told) }

@@ -62,7 +62,7 @@ pub enum WorkEnd {
 }
 
 // Waits for the next action that has work to do: one that the core knows to have its earlier part is finished at once, where memory is at hand. `None` where
-// the hall is stopped. Where memory is wanting it tries again a millisecond later, or where something changed.
+// the hall is stopped. Where memory is wanting it tries again a millisecond later, or where something changed; builds give up after some seconds of that.
 fn next<L: Named, R: Wait + Clock>(rt: &R, hall: &Hall<L>) -> Option<Errand<L>> {
     let mut state = hall.state.lock(rt);
     for _ in rt.forever() {
@@ -71,6 +71,7 @@ fn next<L: Named, R: Wait + Clock>(rt: &R, hall: &Hall<L>) -> Option<Errand<L>> 
         }
         match state.take(rt) {
             Ok(errand) => {
+                hall.note_taken();
                 let kept = match errand.action.kept {
                     Some(place) => state.finish_kept(rt, place, errand.action.number),
                     None => None,
@@ -86,14 +87,21 @@ fn next<L: Named, R: Wait + Clock>(rt: &R, hall: &Hall<L>) -> Option<Errand<L>> 
                 }
             }
             Err(reply) => match reply {
-                Reply::Published(_) => hall.built.notify_all(),
+                Reply::Published(_) => {
+                    hall.note_taken();
+                    hall.built.notify_all();
+                }
                 Reply::Refused(_) => {
+                    hall.note_refused();
                     state = hall
                         .work
                         .wait_timeout(rt, state, Duration::from_millis(1))
                         .0;
                 }
-                _ => state = hall.work.wait(rt, state),
+                _ => {
+                    hall.note_taken();
+                    state = hall.work.wait(rt, state);
+                }
             },
         }
     }

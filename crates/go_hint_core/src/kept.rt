@@ -20,7 +20,7 @@ fn kept_at(kept: &[HeldLocal], offset: usize) -> Option<&Option<Operand<TypeTerm
 {
     for local in kept {
         if local.offset == offset {
-            return Some(&local.value);
+            return Some(local.value());
         }
     }
     None

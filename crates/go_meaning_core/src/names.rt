@@ -158,7 +158,7 @@ fn local_items(
 {
     let mut items = Vec::new(alloc);
     for local in locals {
-        let meaning = local_meaning(types, local.offset, &local.value);
+        let meaning = local_meaning(types, local.offset, local.value());
         add(&mut items, (local.offset, meaning))?;
     }
     Ok(items)

@@ -5,18 +5,21 @@ use Rattle.std.specs.Str.{bytes_eq}
 use Rattle.std.specs.Cmp.{IsEquivalence}
 use Rattle.std.specs.List.{list_any}
 use Rattle.std.specs.Borrow.{Bor}
-use Rattle.std.specs.HashSet.{HashSet, Updates}
+use Rattle.std.specs.BTreeSet.{BTreeSet, Updates}
+use Rattle.std.specs.Cmp.Lexicographic.{slice_cmp}
+use Rattle.std.specs.Ordering.{is_eq, nat_cmp}
 use Rattle.std.proofs.lemmas.Bool.{true≢false}
 use Rattle.std.proofs.lemmas.List.{drop_more, drop_all, length-map, take-map, take_all, take-append-le, get_or_default}
 use Rattle.std.proofs.lemmas.List.Quantifiers.{all_pairs_push}
+use Rattle.std.proofs.lemmas.Map.Text.{is_eq-slice_cmp}
 use Rattle.std.proofs.lemmas.Map.Views.{list_any-from_Contains, Contains-from_any}
 use Rattle.std.proofs.lemmas.Slice.Eq.{bytes_eq-Decides}
 use Rattle.go_open_core.specs.Blocks.{found_in, in_block, or_else, names_in, all_names, is_listed, list_name, list_names}
 
--- names behind references
-pub any_shown : (name : List ℕ) (xs : List (Bor (List ℕ))) → list_any (λ x. bytes_eq name x.now) xs ≡ is_listed (map (λ x. x.now) xs) name
+-- names behind references, in the order of their bytes
+pub any_shown : (name : List ℕ) (xs : List (Bor (List ℕ))) → list_any (λ x. is_eq (slice_cmp nat_cmp name x.now)) xs ≡ is_listed (map (λ x. x.now) xs) name
 any_shown name [] = refl
-any_shown name (x ∷ xs) = ap (λ b. bytes_eq name x.now || b) (any_shown name xs)
+any_shown name (x ∷ xs) = ap (λ b. b || list_any (λ y. is_eq (slice_cmp nat_cmp name y.now)) xs) (is_eq-slice_cmp name x.now) ∙ ap (λ b. bytes_eq name x.now || b) (any_shown name xs)
 
 pub list_names-append : (s xs ys : List (List ℕ)) → list_names s (xs ++ ys) ≡ list_names (list_names s xs) ys
 list_names-append s [] ys = refl
@@ -68,14 +71,15 @@ bytes_equiv = record {
 }
 
 -- a set of them with one more
-pub put_listed : {S : Type 0} (old new : HashSet (Bor (List ℕ)) S) (x : Bor (List ℕ)) → Updates (λ y z. bytes_eq y.now z.now) old new x true → (n : List ℕ) → is_listed (map (λ k. k.now) new.keys) n ≡ is_listed (map (λ k. k.now) old.keys ++ x.now ∷ []) n
+pub put_listed : (old new : BTreeSet (Bor (List ℕ))) (x : Bor (List ℕ)) → Updates (λ y z. slice_cmp nat_cmp y.now z.now) old new x true → (n : List ℕ) → is_listed (map (λ k. k.now) new.keys) n ≡ is_listed (map (λ k. k.now) old.keys ++ x.now ∷ []) n
 put_listed old new x put n =
     sym (any_shown n new.keys)
     ∙ (put.0 (record { ref_ptr = (0, 0); now = n })
-    ∙ (by (bytes_eq x.now n) (list_any (λ k. bytes_eq n k.now) old.keys)
-    ∙ (ap (λ b. list_any (λ k. bytes_eq n k.now) old.keys || b) (bytes_equiv.symm x.now n)
+    ∙ (ap (λ b. cond b true (list_any (λ y. is_eq (slice_cmp nat_cmp n y.now)) old.keys)) (is_eq-slice_cmp x.now n)
+    ∙ (by (bytes_eq x.now n) (list_any (λ y. is_eq (slice_cmp nat_cmp n y.now)) old.keys)
+    ∙ (ap (λ b. list_any (λ y. is_eq (slice_cmp nat_cmp n y.now)) old.keys || b) (bytes_equiv.symm x.now n)
     ∙ (ap (λ b. b || bytes_eq n x.now) (any_shown n old.keys)
-    ∙ (ap (λ b. is_listed (map (λ k. k.now) old.keys) n || b) (or-none (bytes_eq n x.now)) ∙ sym (listed-append (map (λ k. k.now) old.keys) (x.now ∷ []) n))))))
+    ∙ (ap (λ b. is_listed (map (λ k. k.now) old.keys) n || b) (or-none (bytes_eq n x.now)) ∙ sym (listed-append (map (λ k. k.now) old.keys) (x.now ∷ []) n)))))))
   where
     by : (a b : Bool) → cond a true b ≡ b || a
     by true true = refl
@@ -147,7 +151,7 @@ apart-names s (n ∷ ns) h = apart-names (list_name s n) ns (apart-name s n h)
 pub names_once : (ns listed : List (List ℕ)) → listed ≡ list_names [] ns → Apart listed
 names_once ns listed e = let P : List (List ℕ) → Type 0 = Apart in subst P (sym e) (apart-names [] ns (λ i j d lt in_nil same. absurd (omega arith)))
 
--- names that are found by their hash
+-- names that are found by their order
 
 abbrev pub KnowsNames : List (Bor (List ℕ)) → List (Bor (List ℕ)) → Type 0
 KnowsNames known names = (name : List ℕ) → is_listed (map (λ k. k.now) known) name ≡ is_listed (map (λ k. k.now) names) name

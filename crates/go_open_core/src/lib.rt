@@ -1,10 +1,10 @@
 //! The open blocks at a place of a file, with the names that are declared in each.
 #![tactic(auto)]
 
-mod hashed;
 mod laws;
 mod name_list;
 mod short;
+mod sorted;
 
 ghost use Rattle.std.specs.Prelude.{◌≡◌, ℕ, ◌+◌, ◌<◌, ◌≤◌, ◌⊎◌, [], ◌∷◌, ◌++◌, length, IfOk, IfErr, OnOk, OnErr, IfSome, IsSome, IsNone, IsOk, true, false, None, Some, is_some, map, if◌then◌else◌, ◌↔◌, Contains, AllPairs, List};
 ghost use Rattle.go_open_core.specs.Blocks.{found_in, innermost, with_innermost, is_taken, block_with, block_of, in_block, block_after, short_names, any_new, named, names_in, all_names, list_names, NoneHas, IsInnermost};

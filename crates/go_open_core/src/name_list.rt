@@ -2,12 +2,12 @@
 ghost use Rattle.std.specs.Prelude.{◌≡◌, [], ◌∷◌, ◌++◌, IfOk, IfErr, OnErr, OnOk, map, not, false};
 ghost use Rattle.go_open_core.specs.Blocks.{is_listed, list_name, list_names};
 
-use crate::hashed::{HashedNames, append};
+use crate::sorted::{SortedNames, append};
 use go_text_core::Rule;
 use std::alloc::Global;
 use std::marker::Model;
 
-/// How many names are compared one by one, which is less work than a look-up by hash.
+/// How many names are compared one by one, which is less work than a look-up.
 const FEW: usize = 8;
 
 /// Names, each once, in the order in which they were added first. Contracts see it as their list.
@@ -15,7 +15,7 @@ pub struct NameList<'a> {
     /// The first of them, which are compared one by one.
     few: Vec<&'a str>,
     /// The others.
-    more: HashedNames<'a>,
+    more: SortedNames<'a>,
 }
 
 impl Drop for NameList<'_> {
@@ -47,7 +47,7 @@ fn is_among(names: &[&str], name: &str) -> bool
 // Adds a name that is not among the few to these or to the others, unless it is there, and answers whether it was not.
 fn add_behind<'a>(
     few: &mut Vec<&'a str>,
-    more: &mut HashedNames<'a>,
+    more: &mut SortedNames<'a>,
     name: &'a str,
 ) -> Result<bool, Rule>
     requires { is_listed (map (λ n. n.now) few.old.items) name.now ≡ false }
@@ -72,7 +72,7 @@ impl<'a> NameList<'a> {
     {
         NameList {
             few: Vec::new(alloc),
-            more: HashedNames::new(alloc),
+            more: SortedNames::new(alloc),
         }
     }
 

@@ -3,6 +3,7 @@
 -- docs/RULES.md, "Types", "Constants and variables of a package", "Bodies of functions", "Faces of declarations". The Go specification,
 -- "Packages", "Declarations and scope", "Package initialization".
 use Rattle.std.specs.Prelude.{◌≡◌, ◌++◌, ℕ, Bool, List, [], Option, drop, length, map, slice_index_or, take}
+use Rattle.std.specs.Arc.{arc_value}
 use Rattle.std.specs.List.{AllZip, enumerate_from}
 use Rattle.std.specs.Option.{option_map}
 use Rattle.go_tree_nodes.specs.Trees.{FileTree}
@@ -46,7 +47,7 @@ pub record CheckedOf : Type 0 where
 
 -- a local that is held, as contracts see it
 abbrev pub local_shown : HeldLocal → TheLocal
-local_shown l = record { offset = l.offset; value = option_map operand_shown l.value }
+local_shown l = record { offset = l.offset; value = option_map operand_shown (arc_value l.value) }
 
 abbrev pub answers_shown : FileAnswers → AnswersOf
 answers_shown a = record { uses = a.answers.items; faults = a.faults.items; locals = map local_shown a.locals.items }

@@ -18,7 +18,7 @@ ghost use Rattle.go_tree_nodes.specs.Spelling.{IsPlaced};
 
 use crate::checked::FileAnswers;
 use crate::locals::held_locals;
-use go_ready_core::answer_core::{OuterAt, answers_of, outer_faults};
+use go_ready_core::answer_core::{HeldValues, OuterAt, answers_of, outer_faults};
 use go_ready_core::block_core::Imported;
 use go_ready_core::entry_core::ImportedNames;
 use go_ready_core::env_core::{Recall, Scene, TypesOf};
@@ -52,13 +52,15 @@ fn imports_at(imports: &[Vec<Imported>], file: usize) -> &[Imported]
     }
 }
 
-// What stands in a file: its occurrences, its faults with those that are asked of the package as a whole, and the locals of its functions.
+// What stands in a file: its occurrences, its faults with those that are asked of the package as a whole, and the locals of its functions, which share
+// what is held of their types.
 fn file_answers<'n, 'p, N: ImportedNames, K: TypesOf>(
     alloc: Global,
     at: &FileAt<'n, 'p, N>,
     tree: &File,
     outer: &OuterAt<'_, '_>,
     recall: &Recall<'p, K>,
+    values: &mut HeldValues,
 ) -> Result<FileAnswers, AllocError>
     requires table { at.now.scene.now.types.now ≡ K.types }
     requires placed { IsPlaced (file_of tree.now) }
@@ -73,7 +75,7 @@ fn file_answers<'n, 'p, N: ImportedNames, K: TypesOf>(
     checked.faults.append(&mut whole)?;
     let faults = settle_faults(alloc, &checked.uses, &checked.faults)?;
     let answers = answers_of(alloc, checked.uses)?;
-    let locals = held_locals(alloc, checked.locals)?;
+    let locals = held_locals(alloc, values, checked.locals)?;
     Ok(FileAnswers {
         answers,
         faults,
@@ -102,6 +104,7 @@ pub(crate) fn check_files<'n, 'p, P: ImportedNames, N: ImportedNames, K: TypesOf
     ensures { IfOk result (λ files. AllZip (IsFileChecked (package_in_shown P.shows at.now) (scene_shown scene.now).types declared.now.known.items type_faults.now declared.now.looped.items) (enumerate_from 0 (package_in_shown P.shows at.now).trees) (map answers_shown files.items)) }
 {
     let recall: Recall<'p, K> = Recall::new(alloc);
+    let mut values = HeldValues::new(alloc);
     let mut files = Vec::new(alloc);
     let mut first = 0;
     for (file, outline) in outlines.iter().enumerate() {
@@ -123,7 +126,14 @@ pub(crate) fn check_files<'n, 'p, P: ImportedNames, N: ImportedNames, K: TypesOf
             first,
             looped: &declared.looped,
         };
-        let answers = file_answers(alloc, &place, at.package.tree(file), &outer, &recall)?;
+        let answers = file_answers(
+            alloc,
+            &place,
+            at.package.tree(file),
+            &outer,
+            &recall,
+            &mut values,
+        )?;
         add(&mut files, answers)?;
         first += outline.decls.len();
     }

@@ -21,7 +21,7 @@ pub use module_tree::ModuleTree;
 pub use modules::{add_module, add_trees, is_among, is_same_module};
 pub use published::PublishedBatch;
 pub use submission::{Submission, Submissions, Ticket, has_ticket};
-pub use tree_rules::{MAX_FILES, MAX_PACKAGES, MAX_TEXT};
+pub use tree_rules::{MAX_FILES, MAX_PACKAGES, MAX_TEXT, is_source_name};
 
 /// What the crates above name of `go_graph_core`.
 pub mod graph_core {

@@ -61,6 +61,14 @@ fn is_file_name(name: &[u8]) -> bool
     has_name_bytes(name) && !has_hidden_start(name) && has_go_end(name)
 }
 
+/// Whether a text is the name of a source file: 4 to 64 bytes of `A-Z a-z 0-9 _ - .`, which begin with neither `.` nor `_`, and end in `.go` and not in
+/// `_test.go`.
+pub fn is_source_name(name: &str) -> bool
+    ensures { result ≡ is_file_name name.now }
+{
+    is_file_name(name.as_bytes())
+}
+
 fn is_inside(own: &Module, source: &PackageSource) -> bool
     ensures { result ≡ is_path_inside own.now source.now.0 }
 {

@@ -26,8 +26,8 @@ pub mod alike_core {
 /// What the crates above name of `go_answer_core`.
 pub mod answer_core {
     pub use go_answer_core::{
-        Answer, HeldLocal, OuterAt, Site, answers_of, held_faces, hold_local, outer_faults,
-        shown_faces,
+        Answer, HeldLocal, HeldValues, OuterAt, Site, answers_of, held_faces, hold_local,
+        outer_faults, shown_faces,
     };
 }
 

@@ -7,6 +7,7 @@ ghost use Rattle.govisd_core.specs.Reports.{max_bytes};
 use crate::failing::is_interruption;
 use std::alloc::Global;
 use std::io::{ErrorKind, Read};
+use thiserror::Error;
 
 /// The most bytes that are read: one more than a text may have.
 pub const LIMIT: usize = 1_048_577;
@@ -18,11 +19,13 @@ const READS: u64 = 2_097_152;
 const PIECE: usize = 4096;
 
 /// Why an input is not read.
-#[derive(Clone, Copy)]
+#[derive(Clone, Copy, Debug, Error)]
 pub enum InputFault {
     /// The reader failed with an error of this kind.
+    #[error("the input cannot be read: {0:?}")]
     Reader(ErrorKind),
     /// Memory ran out.
+    #[error("memory ran out")]
     Memory,
 }
 

@@ -4,6 +4,7 @@ use denote.Param.Send.{IsSend, IsSync, sendable}
 use Rattle.std.specs.declared.sync.ledger.Ledger as ledger
 use Rattle.std.proofs.Crossing as std
 use Rattle.std.proofs.collections.LinkedList.TheSendSync as list
+use Rattle.std.proofs.sync.atomic.AtomicU64.TheSendSync as atomic
 use Rattle.std.proofs.sync.ledger.Book.TheSendSync as book
 use Rattle.std.proofs.sync.ledger.Share.TheSendSync as share
 use Rattle.left_right.proofs.reader.Reader.TheSendSync as reader
@@ -140,10 +141,10 @@ module _ (L : RattleType) (n : named.Ghosts L.Denot) (l : ledger.Ghosts L.Denot)
   counted_row_send = search (state_row_send, book.the_send, share.the_send, stamper_row_send, sendable) depth 30
 
   pub hall_row_send : IsSend (hall.the_row L n l b)
-  hall_row_send = search (counted_row_send, std.crosses, sendable) depth 30
+  hall_row_send = search (counted_row_send, atomic.the_send, std.crosses, sendable) depth 30
 
   pub hall_row_sync : IsSync (hall.the_row L n l b)
-  hall_row_sync = search (counted_row_send, std.crosses, sendable) depth 30
+  hall_row_sync = search (counted_row_send, atomic.the_sync, std.crosses, sendable) depth 30
 
   pub hall_sync : IsSync (hall.the_field L n l b).row
-  hall_sync = search (counted_row_send, std.crosses, sendable) depth 30
+  hall_sync = search (counted_row_send, atomic.the_sync, std.crosses, sendable) depth 30

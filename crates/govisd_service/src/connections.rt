@@ -13,7 +13,7 @@ use govisd_desk::hall_core::{Named, Stamps};
 use std::alloc::Global;
 use std::io::{ErrorKind, Read, Write};
 use std::marker::Brand;
-use std::net::{OpenListener, OpenStream};
+use std::net::{OpenListener, OpenStream, Shutdown};
 use std::sync::Wait;
 use std::sync::atomic::{AtomicU64, Ordering};
 use std::sync::ledger::Blank;
@@ -26,6 +26,17 @@ const CONNECTIONS: u64 = 32;
 
 /// How many milliseconds pass before an accept for which something was wanting is made again.
 const PAUSE: u64 = 10;
+
+/// How often a connection that comes to a full house looks again for a place, with a pause before each look: one that has ended may not be counted out yet.
+const LOOKS: u64 = 5;
+
+/// How many seconds a peer may leave a write waiting.
+const WRITE_SECONDS: u64 = 60;
+
+/// How many milliseconds, and how often, the end of a connection waits for what still comes.
+const DRAIN: u64 = 25;
+
+const DRAINS: usize = 8;
 
 /// Serves a connection: the lines of one session, in order, each with its reply. At its end the session is closed.
 ///
@@ -53,6 +64,39 @@ fn turn_away<W: Write>(writer: &mut W) -> Result<(), ErrorKind>
     write_out(writer, b"{\"err\":\"O4\"}\n")
 }
 
+// Ends a stream: what was written is sent, and what still comes is read for a short while. Else the system answers it by a reset, and the peer may lose the
+// last line.
+fn end_stream<S: Read + OpenStream>(stream: &mut S) {
+    if stream.shutdown(Shutdown::Write).is_err() {
+        return;
+    }
+    if stream
+        .set_read_timeout(Some(Duration::from_millis(DRAIN)))
+        .is_err()
+    {
+        return;
+    }
+    let mut buffer = [0u8; 4096];
+    for _ in 0..DRAINS {
+        match stream.read(&mut buffer) {
+            Ok(0) => return,
+            Ok(_) => (),
+            Err(_) => return,
+        }
+    }
+}
+
+// Whether a connection more may be served: at once, or after a short while.
+fn has_place<H: Clock>(rt: &H, open: &AtomicU64) -> bool {
+    for _ in 0..LOOKS {
+        if open.load(Ordering::SeqCst) < CONNECTIONS {
+            return true;
+        }
+        thread::sleep(rt, Duration::from_millis(PAUSE));
+    }
+    open.load(Ordering::SeqCst) < CONNECTIONS
+}
+
 // Serves a stream, and counts it out.
 fn serve_stream<L: Named, H: Wait, S: Read + Write + OpenStream + Drop>(
     rt: &H,
@@ -63,9 +107,11 @@ fn serve_stream<L: Named, H: Wait, S: Read + Write + OpenStream + Drop>(
 ) {
     let mut reader = stream;
     let _set = reader.set_nodelay(true);
+    let _limit = reader.set_write_timeout(Some(Duration::from_secs(WRITE_SECONDS)));
     if let Ok(mut writer) = reader.try_clone() {
         let _end = serve_connection(rt, alloc, hall, &mut reader, &mut writer);
     }
+    end_stream(&mut reader);
     drop(reader);
     let _before = open.fetch_sub(1, Ordering::SeqCst);
 }
@@ -75,7 +121,7 @@ fn take_in<
     's,
     E,
     L: Named + Send + Sync,
-    H: Threads + Wait + Sync,
+    H: Threads + Wait + Clock + Sync,
     S: Read + Write + OpenStream + Send + Drop + 's,
 >(
     scope: &Scope<'s, E>,
@@ -85,9 +131,10 @@ fn take_in<
     open: &'s AtomicU64,
     stream: S,
 ) {
-    if open.load(Ordering::SeqCst) >= CONNECTIONS {
+    if !has_place(rt, open) {
         let mut stream = stream;
         let _told = turn_away(&mut stream);
+        end_stream(&mut stream);
         return;
     }
     let _before = open.fetch_add(1, Ordering::SeqCst);
@@ -100,7 +147,7 @@ fn take_in<
     }
 }
 
-// Whether an accept that failed so found a connection that was gone before it was taken, or was interrupted.
+// Whether an accept that failed so found a connection that was gone before it was taken, was refused by a rule of the system, or was interrupted.
 fn is_gone(kind: ErrorKind) -> bool {
     match kind {
         ErrorKind::ConnectionAborted => true,
@@ -109,6 +156,9 @@ fn is_gone(kind: ErrorKind) -> bool {
         ErrorKind::NetworkUnreachable => true,
         ErrorKind::NetworkDown => true,
         ErrorKind::Interrupted => true,
+        ErrorKind::PermissionDenied => true,
+        ErrorKind::TimedOut => true,
+        ErrorKind::Unsupported => true,
         _ => false,
     }
 }
@@ -251,7 +301,8 @@ fn serve_named<
 }
 
 /// Serves the connections of a listener in a hall of its own, with so many workers. Each connection has lines without numbers and at most one session
-/// at a time, which is closed where the connection ends, for whatever cause. At most 32 are served at once; another is told `{"err":"O4"}` and closed.
+/// at a time, which is closed where the connection ends, for whatever cause. At most 32 are served at once; another waits a twentieth of a second for a
+/// place, and is then told `{"err":"O4"}` and closed. A peer that leaves a write waiting for a minute is closed.
 ///
 /// [`ServeEnd::Done`] once so many connections came, where a number is given, those that were turned away among them; [`ServeEnd::ReadFault`] where an
 /// accept failed; [`ServeEnd::Memory`], with nothing accepted, where a hall or its workers cannot be made. At each end the connections that are served

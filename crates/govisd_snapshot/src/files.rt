@@ -96,7 +96,7 @@ fn add_locals(out: &mut Lines, named: &[Named], text: &str, locals: &[HeldLocal]
     for local in locals {
         out.count("local ", local.offset, " ");
         out.pieces(&[spelling_at(text, local.offset), " "]);
-        match &local.value {
+        match local.value() {
             Some(operand) => add_operand(out, named, operand),
             None => out.line("none"),
         }

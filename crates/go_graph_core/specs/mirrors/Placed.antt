@@ -1,10 +1,7 @@
 -- Where paths stand in a list.
-use Rattle.std.specs.Prelude.{◌≡◌, ℕ, List}
-use Rattle.std.specs.HashMap.{HashMap, get_by_text}
-use Rattle.std.specs.List.{position_from}
-use Rattle.std.specs.Str.{bytes_eq}
-use Rattle.std.specs.declared.string.String.{String}
+use Rattle.std.specs.Prelude.{ℕ, ◌+◌, List, [], ◌∷◌}
 
--- a map has the place of each path
-unfoldable pub ArePlaced : {Y S : Type 0} → HashMap (String Y) ℕ S → List (List ℕ) → Type 0
-ArePlaced places paths = (path : List ℕ) → get_by_text places path ≡ position_from (bytes_eq path) 0 paths
+-- paths, each with its place, counted from a number
+abbrev pub placed : ℕ → List (List ℕ) → List (List ℕ × ℕ)
+placed n [] = []
+placed n (path ∷ paths) = (path, n) ∷ placed (n + 1) paths

@@ -8,5 +8,5 @@ use Rattle.go_graph_core.proofs.path_table.PathTable.number.Goals as goal
 pub returns : goal.returns
 returns c =
     c.copied.ensures
-    ∙ (c.get.ensures.value
-    ∙ (position_placed c.self.inside.places (keys_of c.self.inside.packages.now) c.args.path.now c.self.invariant ∙ ap (position (bytes_eq c.args.path.now)) c.self.view_is))
+    ∙ (c.find.ensures
+    ∙ (position_placed c.self.inside.places.names (keys_of c.self.inside.packages.now) c.args.path.now c.self.invariant ∙ ap (position (bytes_eq c.args.path.now)) c.self.view_is))

@@ -1,26 +1,26 @@
-//! Lists of names, each once, that are found by their hash.
+//! Lists of names, each once, that are found by their order.
 ghost use Rattle.std.specs.Prelude.{◌≡◌, ◌↔◌, ℕ, List, [], ◌∷◌, ◌++◌, IfOk, IfErr, IsTrue, OnErr, OnOk, map, not, false};
 ghost use Rattle.go_open_core.specs.Blocks.{is_listed, list_name};
 
 use go_text_core::Rule;
 use std::alloc::Global;
-use std::collections::HashSet;
+use std::collections::BTreeSet;
 use std::marker::Model;
 
-/// Names, each once, in the order in which they were added first, that are found by their hash. Contracts see it as their list.
-pub(crate) struct HashedNames<'a> {
+/// Names, each once, in the order in which they were added first, that are found by their order. Contracts see it as their list.
+pub(crate) struct SortedNames<'a> {
     names: Vec<&'a str>,
     /// The same names, to be looked up.
-    known: HashSet<&'a str>,
+    known: BTreeSet<&'a str>,
 }
 
-impl Drop for HashedNames<'_> {
+impl Drop for SortedNames<'_> {
     fn drop(self) {
-        let HashedNames { names: _, known: _ } = self;
+        let SortedNames { names: _, known: _ } = self;
     }
 }
 
-impl<'a> Model for HashedNames<'a> {
+impl<'a> Model for SortedNames<'a> {
     ghost use Rattle.std.specs.Prelude.{◌≡◌, ℕ, List, map};
     ghost use Rattle.go_open_core.specs.Blocks.{is_listed};
 
@@ -44,7 +44,7 @@ pub(crate) fn append<'a>(names: &mut Vec<&'a str>, name: &'a str) -> Result<(), 
 }
 
 // Adds a name to a set that may have it. Errors: M0; the set is then as it was.
-fn note<'a>(known: &mut HashSet<&'a str>, name: &'a str) -> Result<(), Rule>
+fn note<'a>(known: &mut BTreeSet<&'a str>, name: &'a str) -> Result<(), Rule>
     ensures ok { OnOk result ((n : List ℕ) → is_listed (map (λ k. k.now) known.new.keys) n ≡ is_listed (map (λ k. k.now) known.old.keys ++ name.now ∷ []) n) }
     ensures err { IfErr result (λ rule. rule ≡ Rule.M0) }
     ensures kept { OnErr result (known.new.keys ≡ known.old.keys) }
@@ -55,14 +55,14 @@ fn note<'a>(known: &mut HashSet<&'a str>, name: &'a str) -> Result<(), Rule>
     }
 }
 
-impl<'a> HashedNames<'a> {
+impl<'a> SortedNames<'a> {
     /// No name.
     pub(crate) fn new(alloc: Global) -> Self
         ensures { result ≡ [] }
     {
-        HashedNames {
+        SortedNames {
             names: Vec::new(alloc),
-            known: HashSet::new(alloc),
+            known: BTreeSet::new(alloc),
         }
     }
 

@@ -1,6 +1,6 @@
 use Rattle.std.proofs.Common.{◌≡◌, length, ◌∙◌, arith}
 use Rattle.go_open_core.proofs.Names.{taken_back, known_still}
-use Rattle.go_open_core.proofs.hashed.HashedNames.insert.Goals as goal
+use Rattle.go_open_core.proofs.sorted.SortedNames.insert.Goals as goal
 
 pub invariant_of-self-in-Err : goal.invariant_of-self-in-Err
 invariant_of-self-in-Err c =

@@ -2,7 +2,7 @@ use Rattle.std.proofs.Common.{◌≡◌, ◌==◌, sym, ap, ◌∙◌, arith}
 use Rattle.std.specs.Prelude.{vec_len}
 use Rattle.std.proofs.lemmas.Bool.{eqb-true}
 use Rattle.go_open_core.proofs.Names.{no_names, none_there}
-use Rattle.go_open_core.proofs.hashed.HashedNames.is_empty.Goals as goal
+use Rattle.go_open_core.proofs.sorted.SortedNames.is_empty.Goals as goal
 
 pub returns : goal.returns
 returns c =

@@ -1,7 +1,7 @@
 use Rattle.std.proofs.Common.{ap, ◌∙◌}
 use Rattle.go_open_core.specs.Blocks.{is_listed}
 use Rattle.go_open_core.proofs.Names.{any_shown}
-use Rattle.go_open_core.proofs.hashed.HashedNames.has.Goals as goal
+use Rattle.go_open_core.proofs.sorted.SortedNames.has.Goals as goal
 
 pub returns : goal.returns
 returns c =
