@@ -11,7 +11,7 @@ use Rattle.go_explain_core.specs.Examples.{example_of}
 use Rattle.go_explain_core.specs.Laws.{ends_a_line, lies_in_a_line, needs_no_escape}
 use Rattle.go_explain_core.specs.Meanings.{rule_meaning}
 use Rattle.go_explain_core.specs.Mendings.{mending_of}
-use Rattle.go_explain_core.specs.Naming.{all_rules, rule_of_number, near}
+use Rattle.go_explain_core.specs.Naming.{all_rules, named, rule_of_number, near}
 use Rattle.go_explain_core.specs.Telling.{explained_text, list_line}
 use Rattle.go_explain_core.proofs.Numbers.{names_each}
 
@@ -27,14 +27,14 @@ passes q p (x ∷ xs) r e all = by (q x) (p x) refl refl (passes q p xs r) e all
     by false false h g later e' all' = absurd (cc)
 
 pub everywhere : (p : Rule → Bool) → list_all p all_rules ≡ true → (r : Rule) → p r ≡ true
-everywhere p all r = passes (λ s. bytes_eq (rule_number s) (rule_number r)) p all_rules r (names_each r) all
+everywhere p all r = passes (named (rule_number r)) p all_rules r (names_each r) all
 
 some_same : {A : Type 0} (x y : A) → Some x ≡ Some y → x ≡ y
 some_same x y e = cc
 
 -- rules of one number are one
 pub numbers_apart : (r s : Rule) → rule_number r ≡ rule_number s → r ≡ s
-numbers_apart r s e = some_same r s (sym (names_each r) ∙ ap (λ t. find (λ x. bytes_eq (rule_number x) t) all_rules) e ∙ names_each s)
+numbers_apart r s e = some_same r s (sym (names_each r) ∙ ap rule_of_number e ∙ names_each s)
 
 -- a text in which no two rules agree
 module _ (said : Rule → List ℕ) where
@@ -82,10 +82,8 @@ single_first q (x ∷ xs) r e one = by (q x) refl (single_first q xs r) e one
     by false h later e' one' = later e' one'
 
 -- each rule stands once
-pub stands_once : (r : Rule) → filter (λ s. bytes_eq (rule_number s) (rule_number r)) all_rules ≡ r ∷ []
-stands_once r =
-    single_first (λ s. bytes_eq (rule_number s) (rule_number r)) all_rules r (names_each r)
-    (everywhere (λ x. is_single (filter (λ s. bytes_eq (rule_number s) (rule_number x)) all_rules)) refl r)
+pub stands_once : (r : Rule) → filter (named (rule_number r)) all_rules ≡ r ∷ []
+stands_once r = single_first (named (rule_number r)) all_rules r (names_each r) (everywhere (λ x. is_single (filter (named (rule_number x)) all_rules)) refl r)
 
 pub near_itself : (r : Rule) → near (rule_number r) r ≡ true
 near_itself = everywhere (λ r. near (rule_number r) r) refl

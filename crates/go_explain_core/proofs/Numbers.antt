@@ -6,7 +6,7 @@ use Rattle.std.proofs.lemmas.Slice.Eq.{bytes_eq-Decides}
 use Rattle.go_text_core.specs.Rules.{rule_number}
 use Rattle.go_text_core.specs.declared.rule.Rule.{Rule}
 use Rattle.go_text_core.specs.declared.rule.Rule.TheVariants.{L1, L2, L3, P1, P2, K2, K3, K4, I1, I2, I3, I4, I5, I6, I7, B1, B2, B3, B4, B5, B6, N1, N2, N3, N4, N5, N6, N7, N8, N9, S1, S2, S3, S4, S5, S6, S7, S8, F1, F2, F3, F4, F5, F6, F7, F8, C1, C2, C3, C4, Y1, Y2, Y3, Y4, Y5, Y6, Y7, Y8, X1, Q1, Q2, Q3, Q4, O1, O2, O3, O4, O5, E1, E2, E3, E4, E5, H1, H2, Z1, M0, J1, J2, J3, V1, V2, V3, V4}
-use Rattle.go_explain_core.specs.Naming.{all_rules, rule_of_number}
+use Rattle.go_explain_core.specs.Naming.{all_rules, named, rule_of_number, small}
 
 pub names_each : (r : Rule) → rule_of_number (rule_number r) ≡ Some r
 names_each L1 = refl
@@ -103,8 +103,18 @@ found p (x ∷ xs) r e = by (p x) refl (found p xs r) e
     by true h later k = cc
     by false h later k = later k
 
-pub names_no_other : (text : List ℕ) (r : Rule) → rule_of_number text ≡ Some r → rule_number r ≡ text
-names_no_other text r e = (bytes_eq-Decides (rule_number r) text).0 (found (λ x. bytes_eq (rule_number x) text) all_rules r e)
+pub names_no_other : (text : List ℕ) (r : Rule) → rule_of_number text ≡ Some r → small (rule_number r) ≡ small text
+names_no_other text r e = (bytes_eq-Decides (small (rule_number r)) (small text)).0 (found (named text) all_rules r e)
+
+-- a test that says whether two texts are alike is the one that says so
+pub same_test : (b : Bool) (x y : List ℕ) → (b ≡ true → x ≡ y) → (x ≡ y → b ≡ true) → b ≡ bytes_eq x y
+same_test b x y sound complete = by b (bytes_eq x y) refl refl
+  where
+    by : (a t : Bool) → b ≡ a → bytes_eq x y ≡ t → b ≡ bytes_eq x y
+    by true true is test = is ∙ sym test
+    by false false is test = is ∙ sym test
+    by true false is test = let bad : true ≡ false = sym ((bytes_eq-Decides x y).1 (sound is)) ∙ test in absurd (cc)
+    by false true is test = let bad : false ≡ true = sym is ∙ complete ((bytes_eq-Decides x y).0 test) in absurd (cc)
 
 pub names_none : (text : List ℕ) → rule_of_number text ≡ None → (r : Rule) → rule_number r ≢ text
 names_none text none r same =

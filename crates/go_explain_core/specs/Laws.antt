@@ -2,22 +2,21 @@
 use Rattle.std.specs.Prelude.{◌≡◌, ◌≢◌, ◌==◌, ◌||◌, ℕ, Bool, true, false, not, nat_lt, List, [], ◌∷◌, Some, None, take, filter}
 use Rattle.std.specs.List.{list_all, last_or}
 use Rattle.std.specs.Option.{option_map_or}
-use Rattle.std.specs.Str.{bytes_eq}
 use Rattle.go_text_core.specs.Rules.{rule_number}
 use Rattle.go_text_core.specs.declared.rule.Rule.{Rule}
 use Rattle.go_explain_core.specs.Examples.{example_of}
 use Rattle.go_explain_core.specs.Meanings.{rule_meaning}
 use Rattle.go_explain_core.specs.Mendings.{mending_of}
-use Rattle.go_explain_core.specs.Naming.{all_rules, rule_of_number, near}
+use Rattle.go_explain_core.specs.Naming.{all_rules, named, rule_of_number, near, small}
 use Rattle.go_explain_core.specs.Telling.{explained_text, list_line}
 
 -- a rule's number names it
 abbrev pub NamesEach : Type 0
 NamesEach = (r : Rule) → rule_of_number (rule_number r) ≡ Some r
 
--- what names a rule is its number
+-- what names a rule is its number, but for whether its letter is large or small
 abbrev pub NamesNoOther : Type 0
-NamesNoOther = (text : List ℕ) (r : Rule) → rule_of_number text ≡ Some r → rule_number r ≡ text
+NamesNoOther = (text : List ℕ) (r : Rule) → rule_of_number text ≡ Some r → small (rule_number r) ≡ small text
 
 -- what names no rule is the number of none
 abbrev pub NamesNone : Type 0
@@ -25,7 +24,7 @@ NamesNone = (text : List ℕ) → rule_of_number text ≡ None → (r : Rule) �
 
 -- each rule stands once among all
 abbrev pub StandsOnce : Type 0
-StandsOnce = (r : Rule) → filter (λ s. bytes_eq (rule_number s) (rule_number r)) all_rules ≡ r ∷ []
+StandsOnce = (r : Rule) → filter (named (rule_number r)) all_rules ≡ r ∷ []
 
 -- a rule is near its own number
 abbrev pub IsNearItself : Type 0

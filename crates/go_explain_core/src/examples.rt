@@ -9,7 +9,7 @@ const EXAMPLES: [&str; 84] = [
     "package a\n\nconst price = #5\n", // L1
     "package a\n\nconst name = \"Ada\n", // L2
     "package a\n\nconst n = 08\n", // L3
-    "package a\n\nfunc f( {\n}\n", // P1
+    "package a\n\ntype List = []int\n\nfunc f( {\n}\n", // P1
     "", // P2: `deep`
     "-- ex.com/a/a.go --\npackage a\n-- ex.com/a/b.go --\npackage b\n", // K2
     "package _\n\nconst c = 1\n", // K3
@@ -26,7 +26,7 @@ const EXAMPLES: [&str; 84] = [
     "package main\n\nfunc main() int {\n\treturn 0\n}\n", // B3
     "package a\n\nfunc f() int {\n\tx := 1\n\tx := 2\n\treturn x\n}\n", // B4
     "package a\n\ntype T struct {\n\tname string\n\tname int\n}\n", // B5
-    "package a\n\nfunc (n int) Double() int {\n\treturn n + n\n}\n", // B6
+    "package a\n\ntype Int = int\n\nfunc (n int) Double() int {\n\treturn n + n\n}\n\nfunc (n Int) Half() int {\n\treturn n / 2\n}\n", // B6
     "package a\n\nfunc f() int {\n\treturn x\n}\n", // N1
     "-- ex.com/a/a.go --\npackage a\n\nimport \"ex.com/b\"\n\nconst m = b.Limit\nconst n = b.size\n-- ex.com/b/b.go --\npackage b\n\nconst Limit = 2\nconst size = 1\n", // N2
     "-- ex.com/a/a.go --\npackage a\n\nimport \"ex.com/b\"\n\nconst m = b.Limit\nconst n = b.Size\n-- ex.com/b/b.go --\npackage b\n\nconst Limit = 2\n", // N3
@@ -56,7 +56,7 @@ const EXAMPLES: [&str; 84] = [
     "package a\n\nfunc add(x, y int) int {\n\treturn x + y\n}\n\nfunc f() int {\n\treturn add(1)\n}\n", // C2
     "package a\n\nfunc double(n int) int {\n\treturn n + n\n}\n\nfunc f() int {\n\treturn double(\"two\")\n}\n", // C3
     "package a\n\nfunc f(text string) int {\n\treturn int(text)\n}\n", // C4
-    "package a\n\ntype Node struct {\n\tvalue int\n\tnext  Node\n}\n", // Y1
+    "package a\n\ntype Node struct {\n\tvalue int\n\tnext  Node\n}\n\ntype First = Second\ntype Second = First\n", // Y1
     "package a\n\ntype Shape interface {\n\tArea() int\n}\n\ntype Holder struct {\n\t*Shape\n}\n", // Y2
     "package a\n\nfunc f(n int) bool {\n\treturn n == \"one\"\n}\n", // Y3
     "package a\n\nvar n int = \"one\"\n", // Y4

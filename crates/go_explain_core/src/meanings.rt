@@ -8,14 +8,14 @@ use go_text_core::Rule;
 const MEANINGS: [&str; 84] = [
     "a character that no token may have, or a text that is not UTF-8", // L1
     "a string or a comment without its end", // L2
-    "a literal that is written wrongly, or of a kind that is not taken", // L3
-    "the text is not written as Go, or uses what is not taken", // P1
+    "a literal that is written wrongly, or of a kind that is not supported yet", // L3
+    "the text is not written as Go, or uses what is not supported yet, as slices, or an alias of what is no type's name", // P1
     "something is nested more than 200 deep", // P2
     "the package clause differs from that of the first file in this folder", // K2
     "a package cannot be named _", // K3
     "the package is not checked, since a file of it does not parse", // K4
     "this is not an import path", // I1
-    "no package of this path is here", // I2
+    "this module has no package of this path; the standard library and other modules are not supported yet", // I2
     "an internal package is imported from outside the folder that holds it", // I3
     "packages that import one another in a circle", // I4
     "a package main cannot be imported", // I5
@@ -26,14 +26,14 @@ const MEANINGS: [&str; 84] = [
     "init, and main in package main, is a function without parameters and results", // B3
     "no name to the left of := is new", // B4
     "a second field or method of this name", // B5
-    "the receiver is of no type that this package defines and that may have methods", // B6
+    "the receiver is of no type that this package defines, by its name or by an alias, and that may have methods", // B6
     "no declaration of this name holds here", // N1
     "the package declares this name, but does not export it", // N2
     "the package does not declare this name", // N3
     "a package stands here for a value", // N4
     "a type stands here for a value", // N5
     "this is no type, or before a dot no package", // N6
-    "a predeclared name of Go that is not taken", // N7
+    "a predeclared name of Go that is not supported yet", // N7
     "the blank identifier _ has no value", // N8
     "the import that binds this name is refused", // N9
     "the type has no field or method of this name", // S1
@@ -49,14 +49,14 @@ const MEANINGS: [&str; 84] = [
     "a field of an embedded struct cannot be set by its name here", // F3
     "the same field is set more than once", // F4
     "some elements name their field, and some do not", // F5
-    "as many elements are wanted as there are fields", // F6
+    "elements without names must be one for each field", // F6
     "an element is for a field of another package that is not exported", // F7
     "the type before the braces is no struct", // F8
     "this is no function, method or type, and cannot be called", // C1
     "too many or too few arguments", // C2
     "an argument is of another type than its parameter", // C3
     "a value of this type cannot be converted so", // C4
-    "a type that contains itself", // Y1
+    "a type that contains itself, or an alias that leads back to itself", // Y1
     "a pointer type, or a pointer to an interface, cannot be embedded", // Y2
     "the operands do not fit the operator, or no single value stands where one is wanted", // Y3
     "a value is not of the type that is wanted, or there are too many or too few", // Y4
@@ -64,25 +64,25 @@ const MEANINGS: [&str; 84] = [
     "break and continue stand inside a for", // Y6
     "no constant of bool, int or string, out of range, a division by 0, or defined through itself", // Y7
     "only a call may stand alone as a statement", // Y8
-    "Go allows this, and it is not taken", // X1
+    "not supported yet: a function that is not called, a shift or a bit operator, string of an int, a package variable that begins with no constant, or a constant of more than 64 bits", // X1
     "a request names a package that is not there, or that is not checked", // Q1
     "a request names a place where no identifier stands", // Q2
     "a request names an identifier that is not a use of a name", // Q3
     "a request names a place outside the module of its session", // Q4
     "the module is held by another session", // O1
     "this is not a module path", // O2
-    "the module overlaps another that is taken", // O3
-    "too many sessions or modules are open", // O4
+    "the path of this module lies inside the path of one that another session holds, or around it", // O3
+    "32 sessions are open, and no more can be", // O4
     "no session of this number is open", // O5
     "this gives no import path (1 to 16 elements of letters, digits and - . _ ~, with no dot at their ends), or lies outside the module", // E1
-    "this is not a name of a source file", // E2
+    "the name of a Go file has letters, digits and _ - . alone, and at most 64 of them", // E2
     "the text is longer than 1,048,576 bytes", // E3
     "more than 256 files in one package", // E4
     "too many packages in one module", // E5
-    "the service has taken as many events as it remembers", // H1
+    "the service has taken 1,048,576 events, and keeps no more: it must be started anew", // H1
     "the service has been stopped", // H2
     "a result that nobody waits for", // Z1
-    "memory ran out", // M0
+    "there is not enough memory for this", // M0
     "there is no function main to be run", // J1
     "a function that would be run uses what cannot be run", // J2
     "the run took more steps than it was given", // J3

@@ -9,7 +9,7 @@ const MENDINGS: [&str; 84] = [
     "package a\n\nconst price = 5\n", // L1
     "package a\n\nconst name = \"Ada\"\n", // L2
     "package a\n\nconst n = 8\n", // L3
-    "package a\n\nfunc f() {\n}\n", // P1
+    "package a\n\ntype Number = int\n\nfunc f() {\n}\n", // P1
     "package a\n\nconst deep = 1\n", // P2
     "-- ex.com/a/a.go --\npackage a\n-- ex.com/a/b.go --\npackage a\n", // K2
     "package a\n\nconst c = 1\n", // K3
@@ -26,7 +26,7 @@ const MENDINGS: [&str; 84] = [
     "package main\n\nfunc main() {\n}\n", // B3
     "package a\n\nfunc f() int {\n\tx := 1\n\tx = 2\n\treturn x\n}\n", // B4
     "package a\n\ntype T struct {\n\tname string\n\tsize int\n}\n", // B5
-    "package a\n\ntype Number int\n\nfunc (n Number) Double() Number {\n\treturn n + n\n}\n", // B6
+    "package a\n\ntype Number int\n\ntype Int = Number\n\nfunc (n Number) Double() Number {\n\treturn n + n\n}\n\nfunc (n Int) Half() Int {\n\treturn n / 2\n}\n", // B6
     "package a\n\nfunc f(x int) int {\n\treturn x\n}\n", // N1
     "-- ex.com/a/a.go --\npackage a\n\nimport \"ex.com/b\"\n\nconst m = b.Limit\nconst n = b.Size\n-- ex.com/b/b.go --\npackage b\n\nconst Limit = 2\nconst Size = 1\n", // N2
     "-- ex.com/a/a.go --\npackage a\n\nimport \"ex.com/b\"\n\nconst m = b.Limit\nconst n = b.Size\n-- ex.com/b/b.go --\npackage b\n\nconst Limit = 2\nconst Size = 1\n", // N3
@@ -56,7 +56,7 @@ const MENDINGS: [&str; 84] = [
     "package a\n\nfunc add(x, y int) int {\n\treturn x + y\n}\n\nfunc f() int {\n\treturn add(1, 2)\n}\n", // C2
     "package a\n\nfunc double(n int) int {\n\treturn n + n\n}\n\nfunc f() int {\n\treturn double(2)\n}\n", // C3
     "package a\n\nfunc f(text string) int {\n\treturn len(text)\n}\n", // C4
-    "package a\n\ntype Node struct {\n\tvalue int\n\tnext  *Node\n}\n", // Y1
+    "package a\n\ntype Node struct {\n\tvalue int\n\tnext  *Node\n}\n\ntype First = Second\ntype Second = Node\n", // Y1
     "package a\n\ntype Shape interface {\n\tArea() int\n}\n\ntype Holder struct {\n\tShape\n}\n", // Y2
     "package a\n\nfunc f(n int) bool {\n\treturn n == 1\n}\n", // Y3
     "package a\n\nvar n int = 1\n", // Y4
@@ -71,18 +71,18 @@ const MENDINGS: [&str; 84] = [
     "Ask for a package below the module, or in a session that holds the other module.\n", // Q4
     "Close the first session, or open another module.\n", // O1
     "Give 1 to 16 elements with a / between each two, each of letters, digits and - . _ ~ with no dot at its ends, as ex.com/a.\n", // O2
-    "Close the other session, or open a module that lies beside it.\n", // O3
-    "Close a session first.\n", // O4
+    "Close the other session, or open a module whose path lies beside the other: neither inside it nor around it.\n", // O3
+    "Close a session that is not needed, and open this one again.\n", // O4
     "Open the session first, or name one that is open.\n", // O5
     "Name the folder with letters, digits and - . _ ~ with no dot at its ends, as my-code.\n", // E1
     "Name the file with at most 64 letters, digits and _ - . before and in .go, as my_code.go.\n", // E2
     "Divide the file into several of the same package.\n", // E3
     "Divide the package into several.\n", // E4
     "Divide the module into several.\n", // E5
-    "Start the service anew.\n", // H1
+    "End govisd and start it anew. The sessions open their modules and send their files again.\n", // H1
     "Start the service anew.\n", // H2
     "Nothing is to be mended: the result is passed over.\n", // Z1
-    "Give the program more memory, or check fewer packages at once.\n", // M0
+    "Give the program more memory, as by a larger ulimit -v, or check fewer packages at once.\n", // M0
     "Run a package main, and declare func main() { } in it.\n", // J1
     "Use what can be run in the functions that main reaches.\n", // J2
     "Give the run more steps, or see that the program ends.\n", // J3

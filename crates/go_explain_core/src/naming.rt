@@ -1,8 +1,6 @@
 //! The rules by their names.
 ghost use Rattle.std.specs.Prelude.{◌≡◌, find};
-ghost use Rattle.std.specs.Str.{bytes_eq};
-ghost use Rattle.go_text_core.specs.Rules.{rule_number};
-ghost use Rattle.go_explain_core.specs.Naming.{all_rules, rule_of_number, near};
+ghost use Rattle.go_explain_core.specs.Naming.{all_rules, named, near, rule_of_number};
 
 use go_text_core::Rule;
 
@@ -101,14 +99,21 @@ pub fn rules() -> &'static [Rule]
     RULES.as_slice()
 }
 
-// The first of some rules whose number is a text.
-fn find_named(rules: &[Rule], text: &str) -> Option<Rule>
-    ensures { result ≡ find (λ r. bytes_eq (rule_number r) text.now) rules.now }
+// Whether a text is the number of a rule, be its letter written large or small.
+fn is_named(rule: Rule, text: &str) -> bool
+    ensures { result ≡ named text.now rule }
 {
-    rules.iter().copied().find(|rule| rule.number() == text)
+    rule.number().eq_ignore_ascii_case(text)
 }
 
-/// The rule whose number is a text, as `N1`, if there is one.
+// The first of some rules whose number is a text, be its letter written large or small.
+fn find_named(rules: &[Rule], text: &str) -> Option<Rule>
+    ensures { result ≡ find (named text.now) rules.now }
+{
+    rules.iter().copied().find(|rule| is_named(*rule, text))
+}
+
+/// The rule whose number is a text, as `N1` or `n1`, if there is one.
 pub fn rule_named(text: &str) -> Option<Rule>
     ensures { result ≡ rule_of_number text.now }
 {

@@ -1,0 +1,6 @@
+mod Apart
+mod Cases
+mod Lists
+mod Sounds
+mod Taken
+pub mod Trees

@@ -1,0 +1,12 @@
+//! The modules that are taken never overlap, each published snapshot is the one of its sources, and what is published is of workspaces: of each run of
+//! the service, whatever sessions send and workers do.
+#![tactic(auto)]
+
+mod handed;
+mod laws;
+
+pub use handed::are_handed_in;
+pub use laws::{
+    modules_stay_apart, own_paths, published_are_taken, published_trees, runs_are_sound,
+    submissions_are_own, trees_are_well,
+};

@@ -1,0 +1,12 @@
+mod Chains
+mod Checks
+mod Filling
+mod Looped
+mod Loops
+mod Orders
+mod Parts
+mod Reached
+mod Settling
+mod Tables
+mod Types
+mod Whole

@@ -1,0 +1,24 @@
+-- The headline, from the laws that it joins.
+use Rattle.std.proofs.Common.{◌+◌}
+use Rattle.go_list_core.specs.Added.{AddedImportsAreJudged}
+use Rattle.go_snap_core.specs.graph_core.Workspaces.{IsWorkspace}
+use Rattle.go_submit_core.specs.Laws.{BatchesReplace, LastTrees, OneWorker}
+use Rattle.go_submit_core.specs.Published.{IsOneWorker}
+use Rattle.go_draft_core.specs.Laws.{EditsChangeOneFile}
+use Rattle.go_laws_core.specs.AnswerLaws.{OutcomesAreOfOccurrences}
+use Rattle.go_apart_laws.specs.Laws.{OwnPaths, PublishedTrees, RunsAreSound, SourcesAreWell, SubmissionsAreOwn, TreesAreWell}
+use Rattle.go_headline_laws.specs.Headline.{Headline, sources_at}
+use Rattle.go_headline_laws.proofs.Answering.{has_answers}
+use Rattle.go_headline_laws.proofs.Changing.{changes_own_alone}
+use Rattle.go_headline_laws.proofs.Ordering.{order_does_not_count}
+use Rattle.go_headline_laws.proofs.Showing.{shows}
+
+pub headline : RunsAreSound → TreesAreWell → SourcesAreWell → OwnPaths → PublishedTrees → SubmissionsAreOwn → EditsChangeOneFile → BatchesReplace → LastTrees → OneWorker → OutcomesAreOfOccurrences → AddedImportsAreJudged → Headline
+headline sound trees_well sources_well own_paths published own_trees edit replace trees one outcomes judged = record {
+  snapshots = λ es rs t fit x k b at.
+      let well : IsWorkspace (sources_at t (k + 1)) = sources_well es rs t fit x (k + 1) in
+      let is : IsOneWorker (sources_at t (k + 1)) b.snapshot = (sound es rs t x).each k b at in
+      (has_answers outcomes one (sources_at t (k + 1)) well b.snapshot is, shows judged (sources_at t (k + 1)) b.snapshot well is.sources);
+  alone = changes_own_alone own_paths published own_trees edit replace trees trees_well;
+  one_worker = order_does_not_count sound sources_well one;
+}

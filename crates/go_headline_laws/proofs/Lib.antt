@@ -1,0 +1,5 @@
+mod Answering
+mod Changing
+mod Joining
+mod Ordering
+mod Showing

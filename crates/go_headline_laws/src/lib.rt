@@ -1,0 +1,8 @@
+//! What is promised of everything that sessions and workers do, as one record: `specs/Headline.antt`. A law, with nothing to run.
+//!
+//! The Go specification, "Declarations and scope", "Import declarations", "Qualified identifiers", "Selectors", "Calls", "Composite literals".
+#![tactic(auto)]
+
+mod laws;
+
+pub use laws::headline;

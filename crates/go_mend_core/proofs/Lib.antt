@@ -1,0 +1,2 @@
+pub mod BracketLemmas
+pub mod MendLemmas

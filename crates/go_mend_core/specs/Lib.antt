@@ -1,0 +1,10 @@
+pub mod Candidates
+pub mod Foreign
+pub mod Forms
+pub mod Lexical
+pub mod Mended
+pub mod Mends
+pub mod Numbers
+pub mod Outcomes
+pub mod Said
+pub mod Tokens

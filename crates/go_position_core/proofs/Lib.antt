@@ -1,0 +1,3 @@
+pub mod LineStarts
+pub mod Steps
+pub mod Walks

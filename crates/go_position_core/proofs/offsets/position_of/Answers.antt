@@ -1,0 +1,10 @@
+use Rattle.std.proofs.Common.{◌≤◌, length, arith}
+use Rattle.go_position_core.specs.Positions.{units}
+use Rattle.go_position_core.specs.mirrors.Walks.{total}
+use Rattle.go_position_core.proofs.Walks.{text_fits}
+use Rattle.go_position_core.proofs.offsets.position_of.Goals as goal
+
+pub position_in-requires : goal.position_in-requires
+position_in-requires c =
+    let fits : total (units c.args.encoding) c.as_bytes.result.now ≤ length c.as_bytes.result.now = text_fits c.args.encoding c.as_bytes.result.now c.as_bytes.ensures.utf8 in
+    omega (arith, fits, c.as_bytes.type_inv.0)

@@ -1,0 +1,4 @@
+pub mod Positions
+pub mod Edits
+pub mod Laws
+pub mod mirrors
