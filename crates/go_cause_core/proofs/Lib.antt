@@ -1,0 +1,3 @@
+pub mod Directly
+pub mod Growing
+pub mod Rooted

@@ -1,0 +1,6 @@
+use Rattle.std.proofs.Common.{length}
+use Rattle.go_cycle_core.specs.Cycle.{InRange}
+use Rattle.go_cause_core.proofs.resolving.add_cycles.Given as goal
+
+abbrev pub invariant-loop-number : goal.invariant-loop-number
+invariant-loop-number l = InRange (length l.faults) l.edges.items

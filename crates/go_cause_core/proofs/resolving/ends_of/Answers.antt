@@ -1,0 +1,6 @@
+use Rattle.std.proofs.Common.{subst, sym}
+use Rattle.go_chain_core.specs.Chains.{AllInside}
+use Rattle.go_cause_core.proofs.resolving.ends_of.Goals as goal
+
+pub chain_ends-requires : goal.chain_ends-requires
+chain_ends-requires c = subst AllInside (sym c.deref.ensures.value) c.in_ok-next.ensures
