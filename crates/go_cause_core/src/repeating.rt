@@ -8,7 +8,7 @@ use go_snap_core::graph_core::PackageSource;
 use go_snap_core::{PlacedFault, Snapshot};
 use go_text_core::{is_digit, is_letter};
 use std::alloc::{AllocError, Global};
-use std::collections::HashMap;
+use std::collections::BTreeMap;
 
 // The identifier at an offset of a text.
 fn identifier_at(text: &str, offset: usize) -> Option<&str> {
@@ -30,7 +30,7 @@ fn spelled_at<'a>(packages: &'a [PackageSource], fault: &PlacedFault) -> Option<
 
 // The first fault of a name, where that is another; else the fault of the number is the first.
 fn first_of<'a>(
-    firsts: &mut HashMap<&'a str, usize>,
+    firsts: &mut BTreeMap<&'a str, usize>,
     name: &'a str,
     number: usize,
 ) -> Result<Option<usize>, AllocError> {
@@ -48,12 +48,12 @@ fn firsts_of(
     faults: &[PlacedFault],
 ) -> Result<Vec<Option<usize>>, AllocError> {
     let mut list = Vec::new(alloc);
-    let mut firsts = HashMap::new(alloc);
+    let mut firsts = BTreeMap::new(alloc);
     let mut last = 0;
     for number in 0..faults.len() {
         let fault = &faults[number];
         if fault.package != last {
-            firsts = HashMap::new(alloc);
+            firsts = BTreeMap::new(alloc);
             last = fault.package;
         }
         let mut first = None;
