@@ -3,13 +3,13 @@
 
     python3 bench/serving.py PROGRAM [--seconds N] [--modules N] [--packages N] [PART]..
 
-Each part starts `PROGRAM serve` on a free port of the loopback address, says what it looked at, and ends with an error where a reply is another than the
-one that is wanted. `rows` are the lines of one session, also sent by bytes; `crowd` 32 sessions at once for so many seconds (60 unless told), each against
-a model of what it must be told; `hostile` peers that send no requests, half lines, lines that are too long, never read, go away, or do so in a build;
-`memory` one session that edits until the memory of the process ends, while 31 others go on; `memory_of_batches` what batches of one edit keep, in ten
-packages and in 32 modules with 128 packages each, unless told; `deep` trees as high as they may be, and one higher, under a limit of 256 KB for the stack;
-`descriptors` more connections than there are file descriptors for; `speed` the times of edits in such a workspace. `memory_of_batches` and `speed` have
-bounds, and end with an error where one does not hold.
+Each part starts `PROGRAM serve` on a free port of the loopback address, says what it looked at, and ends with an error where a reply is another than the one
+that is wanted. `rows` are the lines of one session, also sent by bytes; `crowd` 32 sessions at once for so many seconds (60 unless told), each against a
+model of what it must be told; `hostile` peers that send no requests, half lines, lines that are too long, never read, go away, or do so in a build; `memory`
+one session that edits until the memory of the process ends, while 31 others go on; `starved` builds that find no memory, which are answered all the same,
+within a bound once nobody else works; `memory_of_batches` what batches of one edit keep, in ten packages and in 32 modules with 128 packages each, unless
+told; `deep` trees as high as they may be, and one higher, under a limit of 256 KB for the stack; `descriptors` more connections than there are file
+descriptors for; `speed` the times of edits in such a workspace. `memory_of_batches` and `speed` have bounds, and end with an error where one does not hold.
 """
 import argparse
 import json
@@ -59,6 +59,13 @@ class Daemon:
         """The memory of the process in MB."""
         with open(f"/proc/{self.process.pid}/status", encoding="ascii") as file:
             return next(int(line.split()[1]) for line in file if line.startswith("VmRSS")) / 1024
+
+    def refuse_memory(self, is_refused):
+        """Lets the process have no more addresses than it has, or as many as it wants again."""
+        with open(f"/proc/{self.process.pid}/statm", encoding="ascii") as file:
+            size = int(file.read().split()[0]) * resource.getpagesize()
+        most = resource.prlimit(self.process.pid, resource.RLIMIT_AS)[1]
+        resource.prlimit(self.process.pid, resource.RLIMIT_AS, (size if is_refused else most, most))
 
     def spent_by_threads(self):
         """The processor time of each thread in milliseconds."""
@@ -456,6 +463,48 @@ def memory(program):
         print("memory: the draft was as it was, and the others went on")
 
 
+def ask_all(peers, **request):
+    """Asks all at once: the replies, and the longest time in which none came while some were waited for."""
+    failures, ends, replies = Failures(), [time.time()], [None] * len(peers)
+
+    def ask(number, peer):
+        replies[number] = peer.ask(**request)
+        ends.append(time.time())
+
+    failures.join(failures.run(ask, [*enumerate(peers)]))
+    ends.sort()
+    return replies, max(after - before for before, after in zip(ends, ends[1:]))
+
+
+def starved(program, most=30):
+    """Where memory is refused each build is answered within some seconds behind the last reply to another, and right once there is memory again."""
+    with Daemon(program) as daemon:
+        peers, waits, refused = [Peer(daemon) for _ in range(8)], [], 0
+        for number, peer in enumerate(peers):
+            peer.open(f"ex.com/m{number}")
+        for turn in range(6):
+            for number, peer in enumerate(peers):
+                text = large_edit(turn)["text"].replace("package p", f"package m{number}")
+                peer.edit(f"ex.com/m{number}", "a.go", text)
+            daemon.refuse_memory(True)
+            # all at once, and each while no other works
+            told, wait = ask_all(peers, cmd="build")
+            replies, waits = list(told), [*waits, wait]
+            for peer in peers:
+                told, wait = ask_all([peer], cmd="build")
+                replies, waits = [*replies, *told], [*waits, wait]
+            daemon.refuse_memory(False)
+            if not all(it == {"err": "M0"} or it.get("ok", {}).get("faults") == [] for it in replies):
+                raise SystemExit(f"builds without memory are told {replies}")
+            refused += replies.count({"err": "M0"})
+            for peer in peers:
+                if peer.build()["faults"]:
+                    raise SystemExit("packages without faults have some")
+        if not refused or max(waits) > most:
+            raise SystemExit(f"FAILED: {refused} builds are told M0, and one waited {max(waits):.1f} s, which must be at most {most}")
+        print(f"starved: {refused} of {6 * 2 * len(peers)} builds are told M0, the longest wait {max(waits):.1f} s; each is built once there is memory")
+
+
 def one_deep(daemon, me):
     """Trees at the limit of height have no fault, and higher ones P2."""
     own = f"ex.com/m{me}"
@@ -780,7 +829,7 @@ def memory_of_batches(program, modules=32, packages=128):
     bounds.tell()
 
 
-PARTS = {it.__name__: it for it in (rows, crowd, hostile, memory, memory_of_batches, deep, descriptors, speed)}
+PARTS = {it.__name__: it for it in (rows, crowd, hostile, memory, starved, memory_of_batches, deep, descriptors, speed)}
 
 
 def main():

@@ -45,7 +45,7 @@ impl HeldLocal {
 ///
 /// # Errors
 ///
-/// `AllocError` where memory is wanting.
+/// `AllocError` where memory is wanting, or more than 2,097,152 stars would be held before types of variables.
 pub fn hold_local(
     alloc: Global,
     values: &mut HeldValues,

@@ -13,14 +13,18 @@ use go_fault_core::handle_core::TypeRef;
 use go_handle_core::operand_core::{Operand, ValueType};
 use go_term_core::{MemberPlace, TypeTerm};
 use std::alloc::{AllocError, Global};
-use std::collections::HashMap;
+use std::collections::{BTreeMap, HashMap};
 use std::sync::Arc;
+
+// How many stars before types may be held for one package, each of which takes a box. Variables of ever longer pointer types have some half of the square
+// of their number: in a text of 64 KB eight million.
+const MOST_STARS: usize = 2_097_152;
 
 // What a local stands for, held.
 type HeldValue = Arc<Option<Operand<TypeTerm>>>;
 
-// Where a type is looked up: by the place of its declaration, or of its first field or method, how many of these it has, and the stars before it.
-// Types of several packages may share one.
+// Where a type is looked up in its package: by the place of its declaration, or of its first field or method, how many of these it has, and the stars
+// before it.
 #[derive(Clone, Copy, PartialEq, Eq, Hash)]
 struct Spot {
     file: usize,
@@ -29,14 +33,20 @@ struct Spot {
     stars: usize,
 }
 
+// The values that are held of types of one package.
+type PackageValues = HashMap<Spot, Vec<HeldValue>>;
+
 /// The values of variables that were held, each once, so that variables of one type share what is held of it.
 pub struct HeldValues {
-    kept: HashMap<Spot, Vec<HeldValue>>,
+    /// By the path of the package where the type is written, which is empty for a type that is written alike everywhere.
+    kept: BTreeMap<String, PackageValues>,
+    /// How many stars may still be held.
+    room: usize,
 }
 
 impl Drop for HeldValues {
     fn drop(self) {
-        let HeldValues { kept: _ } = self;
+        let HeldValues { kept: _, room: _ } = self;
     }
 }
 
@@ -58,8 +68,11 @@ fn member_spot(place: MemberPlace, members: usize, stars: usize) -> Spot {
     }
 }
 
-// Where a type under stars is looked up. Those that are written alike wherever they stand share one.
-fn term_spot(stars: usize, term: &TypeTerm) -> Spot {
+// Where a type is looked up: the path of its package, and where there.
+type TypeSpot<'t> = (&'t str, Spot);
+
+// Where a type under stars is looked up. Those that are written alike wherever they stand have no path, and share one spot.
+fn term_spot(stars: usize, term: &TypeTerm) -> TypeSpot<'_> {
     let plain = Spot {
         file: 0,
         at: 0,
@@ -67,27 +80,33 @@ fn term_spot(stars: usize, term: &TypeTerm) -> Spot {
         stars,
     };
     match term {
-        TypeTerm::NoType | TypeTerm::Basic(_) | TypeTerm::Error => plain,
-        TypeTerm::Defined(key) => Spot {
-            file: key.decl.file,
-            at: key.decl.number,
-            members: 0,
-            stars,
+        TypeTerm::NoType | TypeTerm::Basic(_) | TypeTerm::Error => ("", plain),
+        TypeTerm::Defined(key) => {
+            let spot = Spot {
+                file: key.decl.file,
+                at: key.decl.number,
+                members: 0,
+                stars,
+            };
+            (key.path.as_str(), spot)
+        }
+        TypeTerm::Pointer(base) => term_spot(stars.saturating_add(1), base),
+        TypeTerm::Struct(path, fields, _) => match fields.first() {
+            Some(first) => (path.as_str(), member_spot(first.place, fields.len(), stars)),
+            None => ("", plain),
         },
-        TypeTerm::Pointer(base) => term_spot(stars, base),
-        TypeTerm::Struct(_, fields, _) => match fields.first() {
-            Some(first) => member_spot(first.place, fields.len(), stars),
-            None => plain,
-        },
-        TypeTerm::Interface(_, methods) => match methods.first() {
-            Some(first) => member_spot(first.place, methods.len(), stars),
-            None => plain,
+        TypeTerm::Interface(path, methods) => match methods.first() {
+            Some(first) => (
+                path.as_str(),
+                member_spot(first.place, methods.len(), stars),
+            ),
+            None => ("", plain),
         },
     }
 }
 
 // Where a value is looked up: none where it is no variable of a type.
-fn value_spot(value: &Option<Operand<TypeRef<'_>>>) -> Option<Spot> {
+fn value_spot<'p>(value: &Option<Operand<TypeRef<'p>>>) -> Option<TypeSpot<'p>> {
     let Some(operand) = value else {
         return None;
     };
@@ -180,33 +199,50 @@ fn held_anew(alloc: Global, value: Option<Operand<TypeRef<'_>>>) -> Result<HeldV
     }
 }
 
+// Keeps a value among those of its package, to be looked up at a spot.
+fn keep_at(
+    alloc: Global,
+    values: &mut PackageValues,
+    spot: Spot,
+    held: HeldValue,
+) -> Result<(), AllocError> {
+    if let Some(kept) = values.get_mut(&spot) {
+        kept.push(held)?;
+        return Ok(());
+    }
+    let mut kept = Vec::new(alloc);
+    kept.push(held)?;
+    values.insert(spot, kept)?;
+    Ok(())
+}
+
 impl HeldValues {
     /// No value was held.
     pub fn new(alloc: Global) -> HeldValues {
         HeldValues {
-            kept: HashMap::new(alloc),
+            kept: BTreeMap::new(alloc),
+            room: MOST_STARS,
         }
     }
 
     // The value that was held and is one that is lent, which is looked up at a spot.
-    fn find(&self, spot: &Spot, lent: &Option<Operand<TypeRef<'_>>>) -> Option<&HeldValue>
+    fn find(&self, at: TypeSpot<'_>, lent: &Option<Operand<TypeRef<'_>>>) -> Option<&HeldValue>
         ensures { IfSome result (λ held. option_map operand_shown (arc_value held.now) ≡ lent.now) }
     {
-        match self.kept.get(spot) {
-            Some(kept) => first_held(kept.as_slice(), lent),
-            None => None,
-        }
+        let (path, spot) = at;
+        let kept = self.kept.get(path)?.get(&spot)?;
+        first_held(kept.as_slice(), lent)
     }
 
     // Keeps a value that is held, to be looked up at a spot.
-    fn keep(&mut self, alloc: Global, spot: Spot, held: HeldValue) -> Result<(), AllocError> {
-        if let Some(kept) = self.kept.get_mut(&spot) {
-            kept.push(held)?;
-            return Ok(());
+    fn keep(&mut self, alloc: Global, at: TypeSpot<'_>, held: HeldValue) -> Result<(), AllocError> {
+        let (path, spot) = at;
+        if let Some(values) = self.kept.get_mut(path) {
+            return keep_at(alloc, values, spot, held);
         }
-        let mut kept = Vec::new(alloc);
-        kept.push(held)?;
-        self.kept.insert(spot, kept)?;
+        let mut values = HashMap::new(alloc);
+        keep_at(alloc, &mut values, spot, held)?;
+        self.kept.insert(String::from_str(alloc, path)?, values)?;
         Ok(())
     }
 
@@ -214,7 +250,7 @@ impl HeldValues {
     ///
     /// # Errors
     ///
-    /// `AllocError` where memory is wanting.
+    /// `AllocError` where memory is wanting, or more than 2,097,152 stars would be held before types.
     pub(crate) fn hold(
         &mut self,
         alloc: Global,
@@ -222,14 +258,18 @@ impl HeldValues {
     ) -> Result<HeldValue, AllocError>
         ensures { IfOk result (λ held. option_map operand_shown (arc_value held) ≡ value.entry) }
     {
-        let Some(spot) = value_spot(&value) else {
+        let Some(at) = value_spot(&value) else {
             return held_anew(alloc, value);
         };
-        if let Some(held) = self.find(&spot, &value) {
+        if let Some(held) = self.find(at, &value) {
             return Arc::try_clone(held);
         }
+        let Some(room) = self.room.checked_sub(at.1.stars) else {
+            return Err(AllocError);
+        };
+        self.room = room;
         let held = held_anew(alloc, value)?;
-        self.keep(alloc, spot, Arc::try_clone(&held)?)?;
+        self.keep(alloc, at, Arc::try_clone(&held)?)?;
         Ok(held)
     }
 }

@@ -1,59 +1,63 @@
 -- The names and texts of the files of a package with one of them set or left out.
-use Rattle.std.proofs.Common.{◌≡◌, ◌⊎◌, inl, inr, ⊎_elim, ℕ, ◌+◌, ◌<◌, Bool, true, false, not, cond, List, [], ◌∷◌, ◌++◌, length, take, get_or, Option, Some, None, refl, sym, ap, ◌∙◌, subst, append-nil}
-use Rattle.std.specs.Prelude.{string_bytes}
+use Rattle.std.proofs.Common.{◌≡◌, ◌⊎◌, inl, inr, ⊎_elim, ℕ, ◌+◌, ◌<◌, Bool, true, false, not, cond, List, [], ◌∷◌, ◌++◌, length, take, get_or, All, Option, Some, None, refl, sym, ap, ◌∙◌, subst, append-nil, arith}
 use Rattle.std.specs.List.{AllByRecursion, IsDistinct, filter}
 use Rattle.std.specs.List.Sorted.{IsStrictlySortedBy}
+use Rattle.std.specs.BTreeMap.{is_at}
 use Rattle.std.specs.Map.{keys_of}
 use Rattle.std.specs.Ordering.{is_eq}
 use Rattle.std.specs.Str.{bytes_eq}
 use Rattle.std.specs.declared.cmp.Ordering.TheVariants.{Less}
-use Rattle.std.specs.declared.string.String.{String}
 use Rattle.std.proofs.lemmas.List.{take_more}
-use Rattle.std.proofs.lemmas.List.Elements.{filter-append}
+use Rattle.std.proofs.lemmas.List.Elements.{All-filter, All-head, All-tail, filter-append}
 use Rattle.std.proofs.lemmas.Map.Keys.{IsDistinct-cons, sorted_head, sorted_tail}
 use Rattle.std.proofs.lemmas.Map.Text.{is_eq-slice_cmp}
-use Rattle.go_submit_core.specs.graph_core.Sources.{SourceModel}
-use Rattle.go_submit_core.specs.graph_core.Workspaces.{HaveDistinctNames, PackageModel, Puts, by_bytes, files_at, given_files, is_path_inside, names_of_files}
-use Rattle.go_submit_core.specs.graph_core.Reading.{map_last}
+use Rattle.go_submit_core.specs.graph_core.Sources.{IsRead, SourceModel}
+use Rattle.go_submit_core.specs.graph_core.Workspaces.{AreAllRead, HaveDistinctNames, IsWorkspace, PackageModel, Puts, by_bytes, files_at, is_path_inside, names_of_files, texts_of_files}
 use Rattle.go_text_core.specs.declared.rule.Rule.{Rule}
 use Rattle.go_text_core.specs.declared.rule.Rule.TheVariants.{M0}
 use Rattle.go_submit_core.specs.Trees.{TreeModel, is_file_name, tree_rule}
-use Rattle.go_draft_core.specs.Edits.{IsEditRefusal, IsEdited, edited_texts, files_or_none, other_files, text_there, texts_of}
+use Rattle.go_draft_core.specs.Edits.{IsEditRefusal, IsEdited, edited_texts, files_or_none, other_files, text_there}
 
 -- one more file of a package is looked at
-
-abbrev Pair : SourceModel → List ℕ × List ℕ
-Pair f = (f.name, f.text)
 
 others_more : (name : List ℕ) (fs : List SourceModel) (i : ℕ) (x : SourceModel) → i < length fs → other_files name (take (i + 1) fs) ≡ other_files name (take i fs) ++ cond (not (bytes_eq (get_or fs i x).name name)) (get_or fs i x ∷ []) []
 others_more name fs i x within = ap (other_files name) (take_more fs i x within) ∙ filter-append (λ (f : SourceModel). not (bytes_eq f.name name)) (take i fs) (get_or fs i x ∷ [])
 
-pub others_here : {Y Z : Type 0} (name : List ℕ) (fs : List SourceModel) (i : ℕ) (x : SourceModel) (texts new : List (String Y × String Z)) (t : String Y × String Z) → i < length fs → x ≡ get_or fs i x → bytes_eq x.name name ≡ false → string_bytes t.0 ≡ x.name → string_bytes t.1 ≡ x.text → new ≡ texts ++ t ∷ [] → given_files texts ≡ texts_of (other_files name (take i fs)) → given_files new ≡ texts_of (other_files name (take (i + 1) fs))
-others_here name fs i x texts new t within at apart named has more before =
-    ap given_files more
-    ∙ map_last (λ y. (string_bytes y.0, string_bytes y.1)) texts t
-    ∙ ap (λ l. l ++ (string_bytes t.0, string_bytes t.1) ∷ []) before
-    ∙ ap (λ p. texts_of (other_files name (take i fs)) ++ p ∷ []) (λ j. (named j, has j))
-    ∙ sym (ap texts_of (others_more name fs i x within ∙ ap (λ (y : SourceModel). other_files name (take i fs) ++ cond (not (bytes_eq y.name name)) (y ∷ []) []) (sym at) ∙ ap (λ b. other_files name (take i fs) ++ cond (not b) (x ∷ []) []) apart) ∙ map_last Pair (other_files name (take i fs)) x)
+pub others_here : (name : List ℕ) (fs : List SourceModel) (i : ℕ) (x y : SourceModel) (others new : List SourceModel) → i < length fs → x ≡ get_or fs i x → bytes_eq x.name name ≡ false → y ≡ x → new ≡ others ++ y ∷ [] → others ≡ other_files name (take i fs) → new ≡ other_files name (take (i + 1) fs)
+others_here name fs i x y others new within at apart shared more before =
+    more
+    ∙ (λ j. before j ++ shared j ∷ [])
+    ∙ sym (others_more name fs i x within ∙ ap (λ (z : SourceModel). other_files name (take i fs) ++ cond (not (bytes_eq z.name name)) (z ∷ []) []) (sym at) ∙ ap (λ b. other_files name (take i fs) ++ cond (not b) (x ∷ []) []) apart)
 
-pub others_past : (name : List ℕ) (fs : List SourceModel) (i : ℕ) (x : SourceModel) (given : List (List ℕ × List ℕ)) → i < length fs → x ≡ get_or fs i x → bytes_eq x.name name ≡ true → given ≡ texts_of (other_files name (take i fs)) → given ≡ texts_of (other_files name (take (i + 1) fs))
-others_past name fs i x given within at same before =
+pub others_past : (name : List ℕ) (fs : List SourceModel) (i : ℕ) (x : SourceModel) (others : List SourceModel) → i < length fs → x ≡ get_or fs i x → bytes_eq x.name name ≡ true → others ≡ other_files name (take i fs) → others ≡ other_files name (take (i + 1) fs)
+others_past name fs i x others within at same before =
     before
-    ∙ sym (ap texts_of (others_more name fs i x within ∙ ap (λ (y : SourceModel). other_files name (take i fs) ++ cond (not (bytes_eq y.name name)) (y ∷ []) []) (sym at) ∙ ap (λ b. other_files name (take i fs) ++ cond (not b) (x ∷ []) []) same ∙ append-nil (other_files name (take i fs))))
+    ∙ sym (others_more name fs i x within ∙ ap (λ (z : SourceModel). other_files name (take i fs) ++ cond (not (bytes_eq z.name name)) (z ∷ []) []) (sym at) ∙ ap (λ b. other_files name (take i fs) ++ cond (not b) (x ∷ []) []) same ∙ append-nil (other_files name (take i fs)))
 
-pub given_more : {Y Z : Type 0} (texts new : List (String Y × String Z)) (t : String Y × String Z) (name : List ℕ) → new ≡ texts ++ t ∷ [] → string_bytes t.0 ≡ name → given_files new ≡ given_files texts ++ (name, string_bytes t.1) ∷ []
-given_more texts new t name more named = ap given_files more ∙ map_last (λ y. (string_bytes y.0, string_bytes y.1)) texts t ∙ ap (λ n. given_files texts ++ (n, string_bytes t.1) ∷ []) named
+-- the files of a package of a workspace are read, and so are those of them that are not of a name
 
-pub given_same : {Y Z : Type 0} (texts : List (String Y × String Z)) → given_files texts ≡ given_files texts ++ []
-given_same texts = sym (append-nil (given_files texts))
+none_read : All IsRead []
+none_read k d lt = absurd (omega arith)
+
+files_read : (ps : List PackageModel) (path : List ℕ) → All AreAllRead ps → All IsRead (files_or_none (files_at ps path))
+files_read [] path all = none_read
+files_read (p ∷ ps) path all = step (is_at (by_bytes path) p.0) (files_read ps path (All-tail AreAllRead p ps all))
+  where
+    step : (b : Bool) → All IsRead (files_or_none (files_at ps path)) → All IsRead (files_or_none (cond b (Some p.1) (files_at ps path)))
+    step true rest = All-head AreAllRead p ps all
+    step false rest = rest
+
+pub left_read : (ps : List PackageModel) (path name : List ℕ) (left : List SourceModel) → IsWorkspace ps → left ≡ other_files name (files_or_none (files_at ps path)) → All IsRead left
+left_read ps path name left well is =
+    subst (All IsRead) (sym is) (All-filter (λ (f : SourceModel). not (bytes_eq f.name name)) IsRead (files_or_none (files_at ps path)) (files_read ps path well.read))
 
 -- the names differ
 
-all_others : (P : List ℕ → Type 0) (name : List ℕ) (fs : List SourceModel) (rest : List (List ℕ × List ℕ)) → AllByRecursion P (names_of_files fs) → AllByRecursion P (keys_of rest) → AllByRecursion P (keys_of (texts_of (other_files name fs) ++ rest))
+all_others : (P : List ℕ → Type 0) (name : List ℕ) (fs : List SourceModel) (rest : List (List ℕ × List ℕ)) → AllByRecursion P (names_of_files fs) → AllByRecursion P (keys_of rest) → AllByRecursion P (keys_of (texts_of_files (other_files name fs) ++ rest))
 all_others P name [] rest all last = last
 all_others P name (f ∷ fs) rest all last = step (bytes_eq f.name name) (all_others P name fs rest all.1 last)
   where
-    step : (b : Bool) → AllByRecursion P (keys_of (texts_of (other_files name fs) ++ rest)) → AllByRecursion P (keys_of (texts_of (cond (not b) (f ∷ other_files name fs) (other_files name fs)) ++ rest))
+    step : (b : Bool) → AllByRecursion P (keys_of (texts_of_files (other_files name fs) ++ rest)) → AllByRecursion P (keys_of (texts_of_files (cond (not b) (f ∷ other_files name fs) (other_files name fs)) ++ rest))
     step true others = others
     step false others = (all.0, others)
 
@@ -74,14 +78,14 @@ distinct_texts : (name : List ℕ) (fs : List SourceModel) (text : Option (List 
 distinct_texts name [] text sorted = one_name name text
 distinct_texts name (f ∷ fs) text sorted = step (bytes_eq f.name name) refl (distinct_texts name fs text (sorted_tail by_bytes f.name (names_of_files fs) sorted))
   where
-    step : (b : Bool) → bytes_eq f.name name ≡ b → IsDistinct bytes_eq (keys_of (edited_texts fs name text)) → IsDistinct bytes_eq (keys_of (texts_of (cond (not b) (f ∷ other_files name fs) (other_files name fs)) ++ text_there name text))
+    step : (b : Bool) → bytes_eq f.name name ≡ b → IsDistinct bytes_eq (keys_of (edited_texts fs name text)) → IsDistinct bytes_eq (keys_of (texts_of_files (cond (not b) (f ∷ other_files name fs) (other_files name fs)) ++ text_there name text))
     step true e rest = rest
     step false e rest = IsDistinct-cons bytes_eq f.name (keys_of (edited_texts fs name text)) (all_others (λ y. bytes_eq f.name y ≡ false) name fs (text_there name text) (below_apart f.name (names_of_files fs) (sorted_head by_bytes f.name (names_of_files fs) sorted)) (apart_there f.name name text e)) rest
 
-pub texts_are : (name : List ℕ) (fs : List SourceModel) (text : Option (List ℕ)) (old new : List (List ℕ × List ℕ)) → old ≡ texts_of (other_files name fs) → new ≡ old ++ text_there name text → new ≡ edited_texts fs name text
+pub texts_are : (name : List ℕ) (fs : List SourceModel) (text : Option (List ℕ)) (old new : List (List ℕ × List ℕ)) → old ≡ texts_of_files (other_files name fs) → new ≡ old ++ text_there name text → new ≡ edited_texts fs name text
 texts_are name fs text old new is more = more ∙ ap (λ l. l ++ text_there name text) is
 
-pub distinct_edited : (name : List ℕ) (fs : List SourceModel) (text : Option (List ℕ)) (old new : List (List ℕ × List ℕ)) → IsStrictlySortedBy by_bytes (names_of_files fs) → old ≡ texts_of (other_files name fs) → new ≡ old ++ text_there name text → HaveDistinctNames new
+pub distinct_edited : (name : List ℕ) (fs : List SourceModel) (text : Option (List ℕ)) (old new : List (List ℕ × List ℕ)) → IsStrictlySortedBy by_bytes (names_of_files fs) → old ≡ texts_of_files (other_files name fs) → new ≡ old ++ text_there name text → HaveDistinctNames new
 distinct_edited name fs text old new sorted is more = subst HaveDistinctNames (sym (texts_are name fs text old new is more)) (distinct_texts name fs text sorted)
 
 none_sorted : IsStrictlySortedBy by_bytes (names_of_files [])

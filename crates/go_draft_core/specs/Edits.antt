@@ -1,17 +1,13 @@
 -- Edits of drafts.
-use Rattle.std.specs.Prelude.{◌≡◌, ◌⊎◌, ℕ, true, false, not, List, [], ◌∷◌, ◌++◌, map, Option, Some, None}
+use Rattle.std.specs.Prelude.{◌≡◌, ◌⊎◌, ℕ, true, false, not, List, [], ◌∷◌, ◌++◌, Option, Some, None}
 use Rattle.std.specs.List.{filter}
 use Rattle.std.specs.Str.{bytes_eq}
 use Rattle.go_text_core.specs.declared.rule.Rule.{Rule}
 use Rattle.go_text_core.specs.declared.rule.Rule.TheVariants.{M0, E1, E2}
 use Rattle.go_path_core.specs.Path.{IsPath}
 use Rattle.go_submit_core.specs.graph_core.Sources.{SourceModel}
-use Rattle.go_submit_core.specs.graph_core.Workspaces.{PackageModel, Puts, files_at, is_path_inside}
+use Rattle.go_submit_core.specs.graph_core.Workspaces.{PackageModel, Puts, files_at, is_path_inside, texts_of_files}
 use Rattle.go_submit_core.specs.Trees.{TreeModel, is_file_name, tree_rule}
-
--- the names and texts of files
-abbrev pub texts_of : List SourceModel → List (List ℕ × List ℕ)
-texts_of fs = map (λ f. (f.name, f.text)) fs
 
 -- the files that are not of this name
 abbrev pub other_files : List ℕ → List SourceModel → List SourceModel
@@ -23,7 +19,7 @@ text_there name (Some text) = (name, text) ∷ []
 
 -- the other files as they were, and this one with this text, or without it
 abbrev pub edited_texts : List SourceModel → List ℕ → Option (List ℕ) → List (List ℕ × List ℕ)
-edited_texts fs name text = texts_of (other_files name fs) ++ text_there name text
+edited_texts fs name text = texts_of_files (other_files name fs) ++ text_there name text
 
 abbrev pub files_or_none : Option (List SourceModel) → List SourceModel
 files_or_none None = []

@@ -1,14 +1,14 @@
 -- What an edit changes, in the words of files and texts.
 use Rattle.std.specs.Prelude.{◌≡◌, ◌≢◌, ◌⊎◌, ◌↔◌, ℕ, List, Option, Some, Contains}
 use Rattle.go_submit_core.specs.graph_core.Sources.{SourceModel}
-use Rattle.go_submit_core.specs.graph_core.Workspaces.{PackageModel, files_at}
-use Rattle.go_draft_core.specs.Edits.{IsEdited, texts_of}
+use Rattle.go_submit_core.specs.graph_core.Workspaces.{PackageModel, files_at, texts_of_files}
+use Rattle.go_draft_core.specs.Edits.{IsEdited}
 
 -- in the package of a path a file of this name has this text
 pub record HasText (ps : List PackageModel) (path name text : List ℕ) : Type 0 where
   pub files : List SourceModel
   pub of_package : files_at ps path ≡ Some files
-  pub there : Contains (texts_of files) (name, text)
+  pub there : Contains (texts_of_files files) (name, text)
 
 -- the file of the name has then the text, or none; all other files have the texts that they had
 pub record ChangesOneFile (old : List PackageModel) (path name : List ℕ) (text : Option (List ℕ)) (new : List PackageModel) : Type 0 where

@@ -1,11 +1,12 @@
 //! Edits of drafts.
-ghost use Rattle.std.specs.Prelude.{◌≡◌, ◌++◌, ◌⊎◌, IfErr, IfOk, MatchOption, None, OnOk, Some, option_map, string_bytes, true};
+ghost use Rattle.std.specs.Prelude.{◌≡◌, ◌++◌, ◌⊎◌, All, IfErr, IfOk, MatchOption, None, OnOk, Some, option_map, string_bytes, true};
 ghost use Rattle.std.specs.BTreeMap.{is_at};
 ghost use Rattle.std.specs.List.Sorted.{IsStrictlySortedBy};
 ghost use Rattle.std.specs.Str.{bytes_eq};
-ghost use Rattle.go_submit_core.specs.graph_core.Workspaces.{HaveDistinctNames, by_bytes, files_at, given_files, is_path_inside, names_of_files};
+ghost use Rattle.go_submit_core.specs.graph_core.Sources.{IsRead};
+ghost use Rattle.go_submit_core.specs.graph_core.Workspaces.{HaveDistinctNames, by_bytes, files_at, is_path_inside, names_of_files, texts_of_files};
 ghost use Rattle.go_submit_core.specs.Trees.{is_file_name, tree_rule, tree_with};
-ghost use Rattle.go_draft_core.specs.Edits.{IsEditOf, IsEditRefusal, IsEdited, edited_texts, files_or_none, other_files, text_there, texts_of};
+ghost use Rattle.go_draft_core.specs.Edits.{IsEditOf, IsEditRefusal, IsEdited, edited_texts, files_or_none, other_files, text_there};
 
 use crate::places::draft_path;
 use go_path_core::ImportPath;
@@ -41,88 +42,78 @@ fn is_named(file: &SourceFile, name: &str) -> bool
     file.name() == name
 }
 
-// The name and the text of a file, once more.
-fn text_of(alloc: Global, file: &SourceFile) -> Result<(String, String), AllocError>
-    ensures name { IfOk result (λ t. string_bytes t.0 ≡ file.now.name) }
-    ensures text { IfOk result (λ t. string_bytes t.1 ≡ file.now.text) }
-{
-    let name = String::from_str(alloc, file.name())?;
-    let text = String::from_str(alloc, file.text())?;
-    Ok((name, text))
-}
-
-// The names and texts of the files that are not of a name.
+// The files that are not of a name. They are shared.
 #[tactic(auto, using(crate::proofs::Texts::others_here, crate::proofs::Texts::others_past))]
-fn other_texts(
+fn files_beside(
     alloc: Global,
     files: &[SourceFile],
     name: &str,
-) -> Result<Vec<(String, String)>, AllocError>
-    ensures { IfOk result (λ texts. given_files texts.items ≡ texts_of (other_files name.now files.now)) }
+) -> Result<Vec<SourceFile>, AllocError>
+    ensures { IfOk result (λ others. others.items ≡ other_files name.now files.now) }
 {
-    let mut texts = Vec::new(alloc);
+    let mut others = Vec::new(alloc);
     for file in files {
         if !is_named(file, name) {
-            add(&mut texts, text_of(alloc, file)?)?;
+            add(&mut others, file.share()?)?;
         }
     }
-    Ok(texts)
+    Ok(others)
 }
 
 // The same of the package of a path, if there is one.
-fn texts_beside(
+fn files_left(
     alloc: Global,
     packages: &[PackageSource],
     path: &ImportPath,
     name: &str,
-) -> Result<Vec<(String, String)>, AllocError>
-    ensures texts { IfOk result (λ texts. given_files texts.items ≡ texts_of (other_files name.now (files_or_none (files_at packages.now path.now)))) }
+) -> Result<Vec<SourceFile>, AllocError>
+    ensures files { IfOk result (λ left. left.items ≡ other_files name.now (files_or_none (files_at packages.now path.now))) }
     ensures order { OnOk result (IsStrictlySortedBy by_bytes (names_of_files (files_or_none (files_at packages.now path.now)))) }
 {
     match files_of(packages, path) {
         Some(files) => {
-            let texts = other_texts(alloc, files, name)?;
-            Ok(texts)
+            let left = files_beside(alloc, files, name)?;
+            Ok(left)
         }
         None => Ok(Vec::new(alloc)),
     }
 }
 
-// Adds a text under its name, if there is one.
-#[tactic(auto, using(crate::proofs::Texts::given_more, crate::proofs::Texts::given_same))]
-fn add_text(
+// Reads a text as the file of a name, if there is one, and adds it.
+fn add_file(
     alloc: Global,
-    texts: &mut Vec<(String, String)>,
+    files: &mut Vec<SourceFile>,
     name: &str,
     text: Option<String>,
 ) -> Result<(), AllocError>
-    ensures { OnOk result (given_files texts.new.items ≡ given_files texts.old.items ++ text_there name.now (option_map (λ s. string_bytes s) text)) }
+    ensures texts { OnOk result (texts_of_files files.new.items ≡ texts_of_files files.old.items ++ text_there name.now (option_map (λ s. string_bytes s) text)) }
+    ensures read { OnOk result (All IsRead files.old.items → All IsRead files.new.items) }
 {
     match text {
         Some(text) => {
             let name = String::from_str(alloc, name)?;
-            add(texts, (name, text))?;
+            add(files, SourceFile::read(alloc, name, text)?)?;
             Ok(())
         }
         None => Ok(()),
     }
 }
 
-// The names and texts of the files of the package of a path, with one set to a text, or without it.
-#[tactic(auto, using(crate::proofs::Texts::texts_are, crate::proofs::Texts::distinct_edited))]
-fn texts_edited(
+// The files of the package of a path, with one of them set to a text, or without it. The others are shared.
+fn files_edited(
     alloc: Global,
-    packages: &[PackageSource],
+    packages: &Workspace,
     path: &ImportPath,
     name: &str,
     text: Option<String>,
-) -> Result<Vec<(String, String)>, AllocError>
-    ensures texts { IfOk result (λ texts. given_files texts.items ≡ edited_texts (files_or_none (files_at packages.now path.now)) name.now (option_map (λ s. string_bytes s) text)) }
-    ensures distinct { IfOk result (λ texts. HaveDistinctNames (given_files texts.items)) }
+) -> Result<Vec<SourceFile>, AllocError>
+    ensures texts { IfOk result (λ files. texts_of_files files.items ≡ edited_texts (files_or_none (files_at packages.now path.now)) name.now (option_map (λ s. string_bytes s) text)) }
+    ensures names { IfOk result (λ files. HaveDistinctNames (texts_of_files files.items)) }
+    ensures read { IfOk result (λ files. All IsRead files.items) }
 {
-    let mut texts = texts_beside(alloc, packages, path, name)?;
-    add_text(alloc, &mut texts, name, text)?;
-    Ok(texts)
+    let mut files = files_left(alloc, packages.packages(), path, name)?;
+    add_file(alloc, &mut files, name, text)?;
+    Ok(files)
 }
 
 // The packages with a file set to a text, or without it.
@@ -136,9 +127,9 @@ fn put_file(
 ) -> Result<Workspace, AllocError>
     ensures { IfOk result (λ new. IsEdited packages.now path.now name.now (option_map (λ s. string_bytes s) text) new) }
 {
-    let texts = texts_edited(alloc, packages.packages(), path, name, text)?;
+    let files = files_edited(alloc, packages, path, name, text)?;
     let mut edited = packages.copy(alloc)?;
-    match edited.put(alloc, path, texts) {
+    match edited.put_read(alloc, path, files) {
         Ok(()) => Ok(edited),
         Err(_) => Err(AllocError),
     }

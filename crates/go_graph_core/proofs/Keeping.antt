@@ -23,7 +23,7 @@ use Rattle.go_path_core.specs.text_core.Each.{true_or_false}
 use Rattle.go_path_core.specs.Path.{elements, IsPath, IsPrefix}
 use Rattle.go_path_core.proofs.Paths.{begins_is}
 use Rattle.go_graph_core.specs.Sources.{SourceModel}
-use Rattle.go_graph_core.specs.Workspaces.{PackageModel, by_bytes, files_at, IsWorkspace, IsPackage, AreAllRead, AreReadFrom, given_files, Puts, is_path_inside, packages_inside, packages_outside, put_all, replaced, Replaces}
+use Rattle.go_graph_core.specs.Workspaces.{PackageModel, by_bytes, files_at, IsWorkspace, IsPackage, AreAllRead, AreReadFrom, given_files, texts_of_files, Puts, is_path_inside, packages_inside, packages_outside, put_all, replaced, Replaces}
 use Rattle.go_graph_core.proofs.Contents.{placed_content}
 use Rattle.go_graph_core.proofs.Places.{IsOrdered, turned, equal_texts, same_text}
 
@@ -298,6 +298,15 @@ none_given (f ∷ fs) h = absurd (omega arith)
 pub as_many_given : {Y Z : Type 0} (files : List (String Y × String Z)) → length (given_files files) ≡ length files
 as_many_given [] = refl
 as_many_given (f ∷ fs) = ap suc (as_many_given fs)
+
+-- no texts where no files are counted
+pub no_texts : (fs : List SourceModel) → length fs ≡ 0 → texts_of_files fs ≡ []
+no_texts [] h = refl
+no_texts (f ∷ fs) h = absurd (omega (arith, h))
+
+pub as_many_texts : (fs : List SourceModel) → length (texts_of_files fs) ≡ length fs
+as_many_texts [] = refl
+as_many_texts (f ∷ fs) = ap suc (as_many_texts fs)
 
 -- a package of files that are read
 pub read_package : (path : List ℕ) (given : List (List ℕ × List ℕ)) (fs : List SourceModel) → IsPath path → AreReadFrom given fs → 0 < length given → IsPackage (path, fs)

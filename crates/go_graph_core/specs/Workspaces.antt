@@ -53,6 +53,10 @@ files_at ps path = lookup (is_at (by_bytes path)) ps
 abbrev pub given_files : {Y Z : Type 0} → List (String Y × String Z) → List (List ℕ × List ℕ)
 given_files fs = map (λ f. (string_bytes f.0, string_bytes f.1)) fs
 
+-- the names and texts of files
+abbrev pub texts_of_files : List SourceModel → List (List ℕ × List ℕ)
+texts_of_files fs = map (λ f. (f.name, f.text)) fs
+
 -- no two of them have one name
 abbrev pub HaveDistinctNames : List (List ℕ × List ℕ) → Type 0
 HaveDistinctNames given = IsDistinct bytes_eq (keys_of given)

@@ -23,7 +23,7 @@ pub use imports::{ImportAt, ImportOutcome};
 pub use laws::one_assembly;
 pub use planning::{Plan, plan_imports};
 pub use source::SourceFile;
-pub use workspace::{PackageSource, Workspace};
+pub use workspace::{PackageSource, Workspace, read_files};
 
 /// What the crates above name of `go_cycle_core`.
 pub mod cycle_core {

@@ -5,7 +5,7 @@ ghost use Rattle.std.specs.List.Sorted.{IsStrictlySortedBy};
 ghost use Rattle.std.specs.Map.{keys_of, remove_entry};
 ghost use Rattle.go_graph_core.specs.mirrors.Positions.{IsPosition};
 ghost use Rattle.go_graph_core.specs.Sources.{IsRead, IsPlacedSource};
-ghost use Rattle.go_graph_core.specs.Workspaces.{by_bytes, names_of_files, IsWorkspace, IsPackage, AreAllRead, HaveDistinctNames, given_files, AreReadFrom, Puts, Replaces, put_all, packages_inside, is_path_inside};
+ghost use Rattle.go_graph_core.specs.Workspaces.{by_bytes, names_of_files, IsWorkspace, IsPackage, AreAllRead, HaveDistinctNames, given_files, texts_of_files, AreReadFrom, Puts, Replaces, put_all, packages_inside, is_path_inside};
 
 use crate::source::SourceFile;
 use go_parse_core::parse_types::add;
@@ -192,18 +192,39 @@ impl Workspace {
         ensures err { IfErr result (λ rule. (rule ≡ Rule.M0) × (self.new ≡ self.old)) }
         ensures memory { OnErr result (0 < length files.items) }
     {
+        let Ok(files) = read_files(alloc, files) else {
+            return Err(Rule::M0);
+        };
+        self.put_read(alloc, path, files)
+    }
+
+    /// Puts files that were read, each of another name, in the place of the files of the path. A file that other workspaces have too is shared with
+    /// them. Without files there is no package of that path any more, and no memory is taken.
+    ///
+    /// # Errors
+    ///
+    /// `Rule::M0` for want of memory. The workspace is then as it was.
+    pub fn put_read(
+        &mut self,
+        alloc: Global,
+        path: &ImportPath,
+        files: Vec<SourceFile>,
+    ) -> Result<(), Rule>
+        requires names { HaveDistinctNames (texts_of_files files.items) }
+        requires read { All IsRead files.items }
+        ensures ok { OnOk result (Puts self.old path.now (texts_of_files files.items) self.new) }
+        ensures err { IfErr result (λ rule. (rule ≡ Rule.M0) × (self.new ≡ self.old)) }
+        ensures memory { OnErr result (0 < length files.items) }
+    {
         if files.is_empty() {
             remove_package(&mut self.packages, path);
             return Ok(());
         }
         let at = position_of(self.packages.as_slice(), path.as_str());
-        let Ok(files) = read_files(alloc, files) else {
-            return Err(Rule::M0);
-        };
         let Ok(path) = path.share() else {
             return Err(Rule::M0);
         };
-        let Ok(source) = PackageSource::new(alloc, path, files) else {
+        let Ok(source) = PackageSource::new(alloc, path, in_order(files)) else {
             return Err(Rule::M0);
         };
         if let Err(AllocError) = put_at(&mut self.packages, at, source) {
@@ -339,15 +360,33 @@ fn put_each(packages: &mut Vec<PackageSource>, from: Vec<PackageSource>)
     }
 }
 
-/// Reads files, in byte order of name.
-fn read_files(alloc: Global, files: Vec<(String, String)>) -> Result<Vec<SourceFile>, AllocError>
-    requires { HaveDistinctNames (given_files files.items) }
-    ensures { IfOk result (λ v. AreReadFrom (given_files files.items) v.items) }
+/// Reads files, each by its name and text.
+///
+/// # Errors
+///
+/// `AllocError` for want of memory. No files want none.
+pub fn read_files(
+    alloc: Global,
+    files: Vec<(String, String)>,
+) -> Result<Vec<SourceFile>, AllocError>
+    ensures texts { IfOk result (λ v. texts_of_files v.items ≡ given_files files.items) }
+    ensures read { IfOk result (λ v. All IsRead v.items) }
+    ensures memory { OnErr result (0 < length files.items) }
 {
     let mut sources = Vec::with_capacity(alloc, files.len())?;
     for (name, text) in files {
         add(&mut sources, SourceFile::read(alloc, name, text)?)?;
     }
-    sources.sort_unstable_by(|one, other| one.name().cmp(other.name()));
     Ok(sources)
+}
+
+/// Files in byte order of name.
+fn in_order(files: Vec<SourceFile>) -> Vec<SourceFile>
+    requires names { HaveDistinctNames (texts_of_files files.items) }
+    requires read { All IsRead files.items }
+    ensures { AreReadFrom (texts_of_files files.items) result.items }
+{
+    let mut files = files;
+    files.sort_unstable_by(|one, other| one.name().cmp(other.name()));
+    files
 }

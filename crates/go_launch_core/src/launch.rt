@@ -52,14 +52,33 @@ impl Places<Site> for SitePlaces {
 /// function `main` the `init` functions of the packages that it reaches by imports run, and its own: the packages one after another, each time the
 /// first in order of path whose imports are done, the functions of a package in their order. `Run::Spent` comes only where all steps were done.
 ///
-/// What memory it takes is bounded by the objects, by how deep the calls are, and by what is printed.
+/// What memory it takes is bounded by the objects, by the words that are alive, at most 16,777,216 with one for each call that waits, and by what is
+/// printed, at most `most_printed` bytes. As many slots as 64 for each of the steps, and 16,777,216 more, may be laid in front of those that are used.
 ///
 /// # Errors
 ///
 /// `Rule::J1` exactly where there is no object of the path, or its package is not called `main`, or has no function `main`; `Rule::J2` exactly where
 /// there is one, and a package that it reaches by imports has no object, or references lead, from `main` or from an `init` that runs, to a function of
-/// which no code is made; `Rule::M0` where memory is wanting; `Rule::Z1` where an instruction lacks what it asks for, as in objects that were not
-/// made of one workspace.
+/// which no code is made; `Rule::M0` where memory is wanting, or the run goes beyond these bounds; `Rule::Z1` where an instruction lacks what it asks for,
+/// as in objects that were not made of one workspace.
+pub fn run_printing(
+    alloc: Global,
+    objects: &[Object<Site>],
+    main: &ImportPath,
+    steps: u64,
+    most_printed: usize,
+) -> Result<go_run_core::Run, Rule>
+    ensures ok { IfOk result (λ run. Gives (program_of place_declared (map object_shown objects.now) main.now) steps (run_shown run)) }
+    ensures err { IfErr result (λ rule. (rule ≡ Rule.M0) ⊎ ((rule ≡ Rule.J1) × HasNoMain (program_of place_declared (map object_shown objects.now) main.now)) ⊎ ((rule ≡ Rule.J2) × IsBeyond (program_of place_declared (map object_shown objects.now) main.now)) ⊎ ((rule ≡ Rule.Z1) × GetsStuck (program_of place_declared (map object_shown objects.now) main.now) steps)) }
+{
+    go_run_core::run_printing(alloc, &SitePlaces, objects, main, steps, most_printed)
+}
+
+/// Runs the package of a path as [`run_printing`] does it, where at most 16,777,216 bytes may be printed.
+///
+/// # Errors
+///
+/// Those of [`run_printing`].
 pub fn run(
     alloc: Global,
     objects: &[Object<Site>],

@@ -4,4 +4,4 @@
 mod launch;
 
 pub use go_run_core::{PanicValue, Run};
-pub use launch::{SitePlaces, run};
+pub use launch::{SitePlaces, run, run_printing};

@@ -5,6 +5,7 @@ ghost use Rattle.go_machine_core.specs.Machine.{At, all_begun, run_from, machine
 ghost use Rattle.go_machine_core.specs.Programs.{linked_shown};
 ghost use Rattle.go_machine_core.specs.mirrors.Shown.{frames_shown, from_state};
 
+use crate::bounds::Bounds;
 use crate::callers::Callers;
 use crate::frame::begin;
 use crate::linked::{Linked, code_of};
@@ -62,16 +63,18 @@ fn run_on(
 }
 
 /// Runs the functions of these numbers, one after another, in at most so many steps, one for each instruction. What memory a run takes is bounded by
-/// how deep its calls are and by what it prints.
+/// the words that are alive, at most 16,777,216 with one for each call, and by what it prints, at most `most_printed` bytes.
 ///
 /// # Errors
 ///
-/// `AllocError` where memory is wanting.
+/// `AllocError` where memory is wanting, or the run goes beyond these bounds, or lays more slots in all than 64 for each step that it may take and
+/// 16,777,216 more.
 pub fn execute(
     alloc: Global,
     program: &[Linked<'_>],
     starts: &[usize],
     steps: u64,
+    most_printed: usize,
 ) -> Result<Ran, AllocError>
     ensures { IfOk result (λ ran. ran_shown ran ≡ machine (map linked_shown program.now) starts.now steps) }
 {
@@ -88,6 +91,7 @@ pub fn execute(
         frame,
         callers,
         output,
+        bounds: Bounds::new(steps, most_printed),
     };
     let end = run_on(alloc, program, &mut state, steps)?;
     let output = state.output;

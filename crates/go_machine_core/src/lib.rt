@@ -3,6 +3,7 @@
 //! The Go specification, "Integer operators", "Integer overflow", "Comparison operators", "Calls", "Bootstrapping".
 #![tactic(auto)]
 
+mod bounds;
 mod callers;
 mod execution;
 mod frame;

@@ -1,4 +1,5 @@
 //! The state of a run.
+use crate::bounds::Bounds;
 use crate::callers::Callers;
 use crate::frame::Frame;
 
@@ -32,4 +33,5 @@ pub struct State {
     pub frame: Frame,
     pub callers: Callers,
     pub output: String,
+    pub bounds: Bounds,
 }

@@ -170,6 +170,8 @@ fn enter(
     let Some(called) = begin(alloc, program, function, arguments)? else {
         return Ok(Some(End::Stuck));
     };
+    let waiting = state.frame.stack.len();
+    state.bounds.begin(called.slots.len(), waiting)?;
     let caller = mem::replace(&mut state.frame, called);
     state.callers.push(caller)?;
     Ok(None)
@@ -201,6 +203,8 @@ fn leave(state: &mut State) -> Result<Option<End>, AllocError>
     let Some(caller) = state.callers.pop() else {
         return Ok(Some(End::Ended));
     };
+    let waiting = caller.stack.len();
+    state.bounds.leave(state.frame.slots.len(), waiting);
     state.frame = caller;
     Ok(None)
 }
@@ -214,6 +218,8 @@ fn leave_with(state: &mut State) -> Result<Option<End>, AllocError>
     let Some(caller) = state.callers.pop() else {
         return Ok(Some(End::Ended));
     };
+    let waiting = caller.stack.len();
+    state.bounds.leave(state.frame.slots.len(), waiting);
     state.frame = caller;
     state.frame.stack.push(word)?;
     Ok(None)
@@ -237,6 +243,9 @@ fn println(state: &mut State, letters: &[Word]) -> Result<Option<End>, AllocErro
         return Ok(Some(End::Stuck));
     };
     write_line(&mut state.output, letters, &taken)?;
+    if !state.bounds.allow(state.output.len()) {
+        return Err(AllocError);
+    }
     state.frame.place += 1;
     Ok(None)
 }

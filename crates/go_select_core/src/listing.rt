@@ -14,9 +14,9 @@ use go_level_core::{Levels, Operand, Reached, Selected, behind, expand, is_field
 use go_text_core::{Name, add};
 use std::alloc::{AllocError, Global};
 
-// How many embedded fields the paths of one listing may have in all. A chain of embedded types has some half of its square: in a text of a megabyte
-// they would take gigabytes.
-const MOST_STEPS: usize = 1_048_576;
+// How many embedded fields the paths of one listing may have in all, which take eight bytes each: half a gigabyte. A chain of embedded types has some
+// half of its square, so this is enough for a chain of 11,585 types. In a text of a megabyte they would take gigabytes.
+const MOST_STEPS: usize = 67_108_864;
 
 /// The types that paths reach from a type, and the identifiers of their members.
 #[derive(Drop)]

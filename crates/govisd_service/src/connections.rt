@@ -33,6 +33,9 @@ const LOOKS: u64 = 5;
 /// How many seconds a peer may leave a write waiting.
 const WRITE_SECONDS: u64 = 60;
 
+/// How many seconds a peer may send nothing while it waits for no reply.
+const IDLE_SECONDS: u64 = 3600;
+
 /// How many milliseconds, and how often, the end of a connection waits for what still comes.
 const DRAIN: u64 = 25;
 
@@ -97,7 +100,7 @@ fn has_place<H: Clock>(rt: &H, open: &AtomicU64) -> bool {
     open.load(Ordering::SeqCst) < CONNECTIONS
 }
 
-// Serves a stream, and counts it out.
+// Serves a stream, and counts it out. A read or a write that waits too long fails, and ends it.
 fn serve_stream<L: Named, H: Wait, S: Read + Write + OpenStream + Drop>(
     rt: &H,
     alloc: Global,
@@ -107,6 +110,7 @@ fn serve_stream<L: Named, H: Wait, S: Read + Write + OpenStream + Drop>(
 ) {
     let mut reader = stream;
     let _set = reader.set_nodelay(true);
+    let _idle = reader.set_read_timeout(Some(Duration::from_secs(IDLE_SECONDS)));
     let _limit = reader.set_write_timeout(Some(Duration::from_secs(WRITE_SECONDS)));
     if let Ok(mut writer) = reader.try_clone() {
         let _end = serve_connection(rt, alloc, hall, &mut reader, &mut writer);
@@ -302,7 +306,8 @@ fn serve_named<
 
 /// Serves the connections of a listener in a hall of its own, with so many workers. Each connection has lines without numbers and at most one session
 /// at a time, which is closed where the connection ends, for whatever cause. At most 32 are served at once; another waits a twentieth of a second for a
-/// place, and is then told `{"err":"O4"}` and closed. A peer that leaves a write waiting for a minute is closed.
+/// place, and is then told `{"err":"O4"}` and closed. A peer that leaves a write waiting for a minute is closed, and so is one that sends nothing for an
+/// hour while it waits for no reply.
 ///
 /// [`ServeEnd::Done`] once so many connections came, where a number is given, those that were turned away among them; [`ServeEnd::ReadFault`] where an
 /// accept failed; [`ServeEnd::Memory`], with nothing accepted, where a hall or its workers cannot be made. At each end the connections that are served

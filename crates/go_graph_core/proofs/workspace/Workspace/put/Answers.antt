@@ -1,40 +1,14 @@
-use Rattle.std.proofs.Common.{◌≡◌, ◌<◌, ◌∙◌, sym, ap, subst, length, arith, vec_len}
-use Rattle.std.proofs.lemmas.Bool.{eqb-true}
-use Rattle.std.specs.BTreeMap.{is_at, insert_entry}
-use Rattle.std.specs.Map.{remove_entry}
-use Rattle.go_path_core.specs.Path.{IsPath}
-use Rattle.go_graph_core.specs.Workspaces.{given_files, by_bytes, IsPackage, IsWorkspace}
-use Rattle.go_graph_core.proofs.Keeping.{put_nothing, put_some, none_given, as_many_given, read_package, some_read, positive, well_put, well_removed}
-use Rattle.go_graph_core.proofs.Places.{IsOrdered}
+use Rattle.std.proofs.Common.{◌<◌, ◌∙◌, sym, subst, length, arith, ap}
+use Rattle.std.specs.Result.{OnOk, OnErr}
+use Rattle.go_graph_core.specs.Workspaces.{given_files, texts_of_files, HaveDistinctNames, Puts}
+use Rattle.go_graph_core.proofs.Keeping.{as_many_given, as_many_texts}
 use Rattle.go_graph_core.proofs.workspace.Workspace.put.Goals as goal
 
-pub invariant_of-self : goal.invariant_of-self
-invariant_of-self c = subst IsWorkspace (sym c.remove_package.ensures) (well_removed (is_at (by_bytes c.args.path.now)) c.self.inside.packages.items c.self.invariant)
-
-pub returns-then-is_empty-clause-ok : goal.returns-then-is_empty-clause-ok
-returns-then-is_empty-clause-ok c =
-    let none : length c.args.files.items ≡ 0 = (let z : vec_len c.args.files ≡ 0 = eqb-true _ _ (sym c.is_empty.ensures ∙ c.if-is_empty.true) in let k = c.args.files.ok in omega (arith, z)) in
-    put_nothing c.args.self.now c.args.path.now (given_files c.args.files.items) c.remove_package.new.packages.items
-    (subst IsOrdered c.self.view_is c.self.invariant.order) (none_given c.args.files.items none)
-    (c.remove_package.ensures ∙ ap (remove_entry (is_at (by_bytes c.args.path.now))) c.self.view_is)
-
-pub new-requires-clause-some : goal.new-requires-clause-some
-new-requires-clause-some c =
-    let z : 0 < vec_len c.args.files = positive _ (sym c.is_empty.ensures ∙ c.if-is_empty.false) in
-    let k = c.args.files.ok in
-    let n = as_many_given c.args.files.items in
-    some_read (given_files c.args.files.items) c.in-Ok.files.items c.in-Ok.ensures (omega (arith, z, n))
-
-pub invariant_of-self-2 : goal.invariant_of-self-2
-invariant_of-self-2 c =
-    let some : 0 < length (given_files c.args.files.items) = (let z : 0 < vec_len c.args.files = positive _ (sym c.is_empty.ensures ∙ c.if-is_empty.false) in let k = c.args.files.ok in let n = as_many_given c.args.files.items in omega (arith, z, n)) in
-    let well : IsPackage (c.in-Ok-share.path, c.in-Ok.files.items) = read_package c.in-Ok-share.path (given_files c.args.files.items) c.in-Ok.files.items (subst IsPath (sym c.in-Ok-share.ensures) c.as_str.ensures.path) c.in-Ok.ensures some in
-    let e : c.put_at.new.packages.items ≡ insert_entry by_bytes c.self.inside.packages.items c.in-Ok-share.path c.in-Ok.files.items = c.in_default-put_at.ensures.ok ∙ ap (λ p. insert_entry by_bytes c.self.inside.packages.items p.0 p.1) c.in-Ok-new.ensures in
-    subst IsWorkspace (sym e) (well_put c.self.inside.packages.items c.in-Ok-share.path c.in-Ok.files.items c.self.invariant well c.in-Ok.ensures.contents)
+pub put_read-requires-clause-names : goal.put_read-requires-clause-names
+put_read-requires-clause-names c = subst HaveDistinctNames (sym c.in-Ok.ensures.texts) c.requires
 
 pub returns-clause-ok : goal.returns-clause-ok
-returns-clause-ok c =
-    let some : 0 < length (given_files c.args.files.items) = (let z : 0 < vec_len c.args.files = positive _ (sym c.is_empty.ensures ∙ c.if-is_empty.false) in let k = c.args.files.ok in let n = as_many_given c.args.files.items in omega (arith, z, n)) in
-    let e : c.put_at.new.packages.items ≡ insert_entry by_bytes c.args.self.now c.args.path.now c.in-Ok.files.items =
-    c.in_default-put_at.ensures.ok ∙ (ap (λ p. insert_entry by_bytes c.self.inside.packages.items p.0 p.1) c.in-Ok-new.ensures ∙ (λ i. insert_entry by_bytes (c.self.view_is i) (c.in-Ok-share.ensures i) c.in-Ok.files.items)) in
-    put_some c.args.self.now c.args.path.now (given_files c.args.files.items) c.put_at.new.packages.items c.in-Ok.files.items c.in-Ok.ensures (some_read (given_files c.args.files.items) c.in-Ok.files.items c.in-Ok.ensures some) e
+returns-clause-ok c = subst (λ given. OnOk c.put_read.result (Puts c.args.self.now c.args.path.now given c.put_read.new.self)) c.in-Ok.ensures.texts c.put_read.ensures.ok
+
+pub returns-clause-memory : goal.returns-clause-memory
+returns-clause-memory c = subst (λ n. OnErr c.put_read.result (0 < n)) (sym (as_many_texts c.in-Ok.files.items) ∙ (ap length c.in-Ok.ensures.texts ∙ as_many_given c.args.files.items)) c.put_read.ensures.memory

@@ -5,7 +5,7 @@ use Rattle.go_link_core.specs.Linked.{program_of, runnable_shown}
 use Rattle.go_run_core.specs.declared.outcome.Run.{Run}
 use Rattle.go_run_core.specs.Runs.{IsStuck, comes_to, run_shown}
 use Rattle.go_run_core.proofs.Telling.{gets_stuck, gives_run}
-use Rattle.go_run_core.proofs.running.run.Goals as goal
+use Rattle.go_run_core.proofs.running.run_printing.Goals as goal
 
 pub returns-in-Some-clause-ok : goal.returns-in-Some-clause-ok
 returns-in-Some-clause-ok g c =
