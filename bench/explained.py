@@ -2,8 +2,9 @@
 """explained.py GOVISD: checks the example of each rule that `govisd explain` tells, and the example mended.
 
 Each example that is Go is written into a folder, and `govisd check` has to find the rule in it, and no other but those that
-BESIDE names; in the example mended it has to find nothing. What it writes as lines and as JSON has to say the same, in order, with lines and
-columns that fit the offsets."""
+BESIDE names; in the example mended it has to find nothing. What it writes as lines with --all and as JSON has to say the same, in order, with
+lines and columns that fit the offsets; and without --all the lines of those faults alone that follow from none, each name that is not declared once a
+package. What is told as JSON by `govisd explain --json` has to be the same texts."""
 import json
 import os
 import subprocess
@@ -48,14 +49,27 @@ def place_of(folder, fault):
     return before.count(b"\n") + 1, len(before) - (before.rfind(b"\n") + 1) + 1
 
 
-def lines_of(folder, faults):
-    """What `govisd check` writes of these faults without --json, but for the number of packages."""
+def first_lines(text):
+    """The line of each fault, and how many there are. What is said below a fault begins with a blank."""
+    lines = [line for line in text.splitlines() if not line.startswith(" ")]
+    return lines[:-1] + [lines[-1].split(" in ")[0]]
+
+
+def lines_of(folder, faults, are_all):
+    """What `govisd check` writes of these faults without --json, but for the number of packages and what is said below each."""
+    names = set()
     for fault in faults:
+        name = (fault["package"], fault["name"])
+        is_again = fault["rule"] == "N1" and name in names
+        if fault["rule"] == "N1":
+            names.add(name)
+        if (fault["cause"] or is_again) and not are_all:
+            continue
         if (fault["line"], fault["column"]) != place_of(folder, fault):
             sys.exit(f"another place: {fault}")
         if fault["package"] != os.path.join("ex.com", os.path.dirname(fault["file"])).rstrip("/"):
             sys.exit(f"another package: {fault}")
-        yield "{file}:{line}:{column}: {rule} {meaning}".format(**fault)
+        yield "{file}:{line}:{column}: {rule} {message}".format(**fault)
     yield {0: "no faults", 1: "1 fault"}.get(len(faults), f"{len(faults)} faults")
 
 
@@ -63,27 +77,32 @@ def rules_of(program, text):
     with tempfile.TemporaryDirectory() as folder:
         write(folder, text)
         words = (program, "check", folder, "--module", "ex.com")
-        ran, plain = run(*words, "--json"), run(*words)
+        ran, plain, whole = run(*words, "--json"), run(*words), run(*words, "--all")
         faults = [json.loads(line) for line in ran.stdout.splitlines()]
         status = 1 if faults else 0
-        if (ran.returncode, plain.returncode) != (status, status) or ran.stderr or plain.stderr:
-            sys.exit(f"status {ran.returncode} and {plain.returncode}: {ran.stderr}{plain.stderr}")
+        if {ran.returncode, plain.returncode, whole.returncode} != {status} or ran.stderr or plain.stderr or whole.stderr:
+            sys.exit(f"status {ran.returncode}, {plain.returncode} and {whole.returncode}: {ran.stderr}{plain.stderr}{whole.stderr}")
         places = [(fault["package"], fault["file"], fault["offset"], fault["rule"]) for fault in faults]
         if places != sorted(set(places)):
             sys.exit(f"not in order: {places}")
-        lines = plain.stdout.splitlines()
-        if lines[:-1] + [lines[-1].split(" in ")[0]] != list(lines_of(folder, faults)):
-            sys.exit(f"other lines: {plain.stdout}")
+        for said, are_all in ((plain, False), (whole, True)):
+            if first_lines(said.stdout) != list(lines_of(folder, faults, are_all)):
+                sys.exit(f"other lines: {said.stdout}")
         return {fault["rule"] for fault in faults}
 
 
 def main():
     program = sys.argv[1]
     rules = [line.split()[0] for line in run(program, "explain").stdout.splitlines()]
+    told = [json.loads(line) for line in run(program, "explain", "--json").stdout.splitlines()]
+    if [it["rule"] for it in told] != rules:
+        sys.exit(f"other rules as JSON: {[it['rule'] for it in told]}")
     wrong, tried = 0, 0
-    for rule in rules:
+    for rule, object in zip(rules, told):
         said = run(program, "explain", rule).stdout
         example, mended = said.split("\n\nExample:\n\n")[1].split("\nHow to mend it:\n\n")
+        if object != {"example": example, "meaning": said.split("\n")[0].split(": ", 1)[1], "mending": mended, "rule": rule}:
+            sys.exit(f"other texts as JSON: {object}")
         if not example.startswith(("package ", "-- ")):
             continue
         tried += 1

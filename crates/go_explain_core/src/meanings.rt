@@ -6,7 +6,7 @@ use go_text_core::Rule;
 
 // What the rules mean, in their order.
 const MEANINGS: [&str; 84] = [
-    "a character that no token may have, or a text that is not UTF-8", // L1
+    "a character that no token may have, a text that is not UTF-8, or a file that cannot be read", // L1
     "a string or a comment without its end", // L2
     "a literal that is written wrongly, or of a kind that is not supported yet", // L3
     "the text is not written as Go, or uses what is not supported yet, as slices, or an alias of what is no type's name", // P1
@@ -49,7 +49,7 @@ const MEANINGS: [&str; 84] = [
     "a field of an embedded struct cannot be set by its name here", // F3
     "the same field is set more than once", // F4
     "some elements name their field, and some do not", // F5
-    "elements without names must be one for each field", // F6
+    "without names of fields there must be one value for each field", // F6
     "an element is for a field of another package that is not exported", // F7
     "the type before the braces is no struct", // F8
     "this is no function, method or type, and cannot be called", // C1
@@ -64,25 +64,25 @@ const MEANINGS: [&str; 84] = [
     "break and continue stand inside a for", // Y6
     "no constant of bool, int or string, out of range, a division by 0, or defined through itself", // Y7
     "only a call may stand alone as a statement", // Y8
-    "not supported yet: a function that is not called, a shift or a bit operator, string of an int, a package variable that begins with no constant, or a constant of more than 64 bits", // X1
+    "not supported yet: a function that is used as a value, a shift or a bit operator, string of an int, a package variable that begins with no constant, or a constant of more than 64 bits", // X1
     "a request names a package that is not there, or that is not checked", // Q1
     "a request names a place where no identifier stands", // Q2
     "a request names an identifier that is not a use of a name", // Q3
     "a request names a place outside the module of its session", // Q4
     "the module is held by another session", // O1
     "this is not a module path", // O2
-    "the path of this module lies inside the path of one that another session holds, or around it", // O3
-    "32 sessions are open, and no more can be", // O4
+    "the path of this module lies inside or around that of a module that another session holds, or that was ever built", // O3
+    "32 sessions are open, or 32 other modules are held or were ever built", // O4
     "no session of this number is open", // O5
     "this gives no import path (1 to 16 elements of letters, digits and - . _ ~, with no dot at their ends), or lies outside the module", // E1
-    "the name of a Go file has letters, digits and _ - . alone, and at most 64 of them", // E2
+    "the name of a Go file may have letters, digits and _ - . alone, and at most 64 of them", // E2
     "the text is longer than 1,048,576 bytes", // E3
     "more than 256 files in one package", // E4
-    "too many packages in one module", // E5
-    "the service has taken 1,048,576 events, and keeps no more: it must be started anew", // H1
+    "more than 128 packages in one module of a session", // E5
+    "the history of the daemon is full, at 1,048,576 events: it must be started anew", // H1
     "the service has been stopped", // H2
     "a result that nobody waits for", // Z1
-    "there is not enough memory for this", // M0
+    "memory ran out before this was done", // M0
     "there is no function main to be run", // J1
     "a function that would be run uses what cannot be run", // J2
     "the run took more steps than it was given", // J3

@@ -71,18 +71,18 @@ const MENDINGS: [&str; 84] = [
     "Ask for a package below the module, or in a session that holds the other module.\n", // Q4
     "Close the first session, or open another module.\n", // O1
     "Give 1 to 16 elements with a / between each two, each of letters, digits and - . _ ~ with no dot at its ends, as ex.com/a.\n", // O2
-    "Close the other session, or open a module whose path lies beside the other: neither inside it nor around it.\n", // O3
-    "Close a session that is not needed, and open this one again.\n", // O4
+    "Open a module whose path lies beside the other. One that was ever built counts until the daemon ends: start it anew to be rid of it.\n", // O3
+    "Close a session that is not needed. A module that was ever built counts until the daemon ends: where there are 32, start it anew.\n", // O4
     "Open the session first, or name one that is open.\n", // O5
     "Name the folder with letters, digits and - . _ ~ with no dot at its ends, as my-code.\n", // E1
     "Name the file with at most 64 letters, digits and _ - . before and in .go, as my_code.go.\n", // E2
     "Divide the file into several of the same package.\n", // E3
     "Divide the package into several.\n", // E4
     "Divide the module into several.\n", // E5
-    "End govisd and start it anew. The sessions open their modules and send their files again.\n", // H1
+    "Start the daemon anew. The sessions open their modules and send their files again.\n", // H1
     "Start the service anew.\n", // H2
     "Nothing is to be mended: the result is passed over.\n", // Z1
-    "Give the program more memory, as by a larger ulimit -v, or check fewer packages at once.\n", // M0
+    "Give the program more memory, as by a larger ulimit -v, or check fewer packages at once. A daemon goes on, and what it holds stays.\n", // M0
     "Run a package main, and declare func main() { } in it.\n", // J1
     "Use what can be run in the functions that main reaches.\n", // J2
     "Give the run more steps, or see that the program ends.\n", // J3

@@ -1,6 +1,7 @@
 //! What is written of rules.
 ghost use Rattle.std.specs.Prelude.{◌≡◌, ◌++◌, flat_map, IfOk, OnOk, string_bytes};
-ghost use Rattle.go_explain_core.specs.Telling.{explained_text, hint, list_line, list_text, near_piece, unknown_text};
+ghost use Rattle.std.specs.Prelude.{encode_utf8};
+ghost use Rattle.go_explain_core.specs.Telling.{explained_text, hint, json_byte, json_front, json_line, json_list, json_said, json_text, list_line, list_text, listed_text, near_piece, told_text, unknown_text};
 
 use crate::naming::{is_near, rules};
 use crate::{explain, meaning};
@@ -26,16 +27,94 @@ fn push_explained(text: &mut String, rule: Rule) -> Result<(), AllocError>
     push(text, said.mending)
 }
 
-/// What a rule means, an example that breaks it, and the example mended, as `govisd explain N1` writes them.
+// Adds a character.
+fn push_char(text: &mut String, letter: char) -> Result<(), AllocError>
+    ensures { OnOk result (string_bytes text.new ≡ string_bytes text.old ++ encode_utf8 letter) }
+{
+    text.push(letter)
+}
+
+// Adds a byte of ASCII as it stands in a string of JSON.
+fn push_json_byte(text: &mut String, byte: u8) -> Result<(), AllocError>
+    ensures { OnOk result (string_bytes text.new ≡ string_bytes text.old ++ json_byte byte) }
+{
+    if byte == b'"' {
+        return push(text, "\\\"");
+    }
+    if byte == b'\\' {
+        return push(text, "\\\\");
+    }
+    if byte == b'\n' {
+        return push(text, "\\n");
+    }
+    if byte == b'\t' {
+        return push(text, "\\t");
+    }
+    push_char(text, char::from(byte))
+}
+
+// Adds the bytes of a string of JSON.
+fn push_json(text: &mut String, bytes: &[u8]) -> Result<(), AllocError>
+    ensures { OnOk result (string_bytes text.new ≡ string_bytes text.old ++ json_text bytes.now) }
+{
+    for byte in bytes {
+        push_json_byte(text, *byte)?;
+    }
+    Ok(())
+}
+
+// Adds the first two members of the object of a rule.
+fn push_front(text: &mut String, rule: Rule) -> Result<(), AllocError>
+    ensures { OnOk result (string_bytes text.new ≡ string_bytes text.old ++ json_front rule) }
+{
+    let said = explain(rule);
+    push(text, "{\"example\":\"")?;
+    push_json(text, said.example.as_bytes())?;
+    push(text, "\",\"meaning\":\"")?;
+    push(text, said.meaning)
+}
+
+// Adds the members of the object of a rule.
+fn push_said(text: &mut String, rule: Rule) -> Result<(), AllocError>
+    ensures { OnOk result (string_bytes text.new ≡ string_bytes text.old ++ json_said rule) }
+{
+    let said = explain(rule);
+    push_front(text, rule)?;
+    push(text, "\",\"mending\":\"")?;
+    push_json(text, said.mending.as_bytes())
+}
+
+// Adds what is said of a rule as a JSON object in a line.
+fn push_object(text: &mut String, rule: Rule) -> Result<(), AllocError>
+    ensures { OnOk result (string_bytes text.new ≡ string_bytes text.old ++ json_line rule) }
+{
+    push_said(text, rule)?;
+    push(text, "\",\"rule\":\"")?;
+    push(text, rule.number())?;
+    push(text, "\"}\n")
+}
+
+// Adds what is said of a rule, as lines or as a JSON object.
+fn push_told(text: &mut String, rule: Rule, is_json: bool) -> Result<(), AllocError>
+    ensures { OnOk result (string_bytes text.new ≡ string_bytes text.old ++ told_text is_json rule) }
+{
+    if is_json {
+        return push_object(text, rule);
+    }
+    push_explained(text, rule)
+}
+
+/// What a rule means, an example that breaks it, and the example mended, as `govisd explain N1` writes them; or as a JSON object in a line, with the
+/// members `example`, `meaning`, `mending` and `rule`.
 ///
 /// # Errors
 ///
 /// `AllocError` for want of memory.
-pub fn explained(alloc: Global, rule: Rule) -> Result<String, AllocError>
-    ensures { IfOk result (λ text. string_bytes text ≡ explained_text rule) }
+pub fn explained(alloc: Global, rule: Rule, is_json: bool) -> Result<String, AllocError>
+    ensures { IfOk result (λ text. string_bytes text ≡ told_text is_json rule) }
 {
     let mut text = String::new(alloc);
-    push_explained(&mut text, rule)?;
+    push_told(&mut text, rule, is_json)?;
     Ok(text)
 }
 
@@ -57,16 +136,36 @@ fn push_lines(text: &mut String, all: &[Rule]) -> Result<(), AllocError>
     Ok(())
 }
 
-/// All rules and what they mean, one a line, as `govisd explain` writes them.
+// Adds the objects of rules.
+fn push_objects(text: &mut String, all: &[Rule]) -> Result<(), AllocError>
+    ensures { OnOk result (string_bytes text.new ≡ string_bytes text.old ++ flat_map json_line all.now) }
+{
+    for rule in all {
+        push_object(text, *rule)?;
+    }
+    Ok(())
+}
+
+// Adds all rules, as lines or as JSON objects.
+fn push_listed(text: &mut String, is_json: bool) -> Result<(), AllocError>
+    ensures { OnOk result (string_bytes text.new ≡ string_bytes text.old ++ listed_text is_json) }
+{
+    if is_json {
+        return push_objects(text, rules());
+    }
+    push_lines(text, rules())
+}
+
+/// All rules and what they mean, one a line, as `govisd explain` writes them; or each as a JSON object in a line, as [`explained`] has it.
 ///
 /// # Errors
 ///
 /// `AllocError` for want of memory.
-pub fn listed(alloc: Global) -> Result<String, AllocError>
-    ensures { IfOk result (λ text. string_bytes text ≡ list_text) }
+pub fn listed(alloc: Global, is_json: bool) -> Result<String, AllocError>
+    ensures { IfOk result (λ text. string_bytes text ≡ listed_text is_json) }
 {
     let mut text = String::new(alloc);
-    push_lines(&mut text, rules())?;
+    push_listed(&mut text, is_json)?;
     Ok(text)
 }
 

@@ -1,4 +1,6 @@
 pub mod Folders
+pub mod Modules
+pub mod Named
 pub mod Names
 pub mod Places
 pub mod mirrors

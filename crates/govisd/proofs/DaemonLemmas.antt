@@ -7,19 +7,19 @@ use Rattle.clap.specs.declared.error.Error.{Error}
 use Rattle.clap.specs.declared.error.kind.ErrorKind.TheVariants as kind
 use Rattle.clap.proofs.OnLiterals.{clap_on_literals}
 use Rattle.govisd.specs.declared.program.Ran.{Ran}
-use Rattle.govisd_words.specs.declared.words.CountOption.{CountOption}
-use Rattle.govisd_words.specs.declared.words.CountOption.TheVariants.{Workers}
+use Rattle.govisd_words.specs.declared.words.ValueOption.{ValueOption}
+use Rattle.govisd_words.specs.declared.words.ValueOption.TheVariants.{Workers}
 use Rattle.govisd_words.specs.declared.words.Request.{Request}
-use Rattle.govisd_words.specs.declared.words.Request.TheVariants.{Resolve, Explain, Check, Run, Script, Serve, Help, Version, BadCount}
+use Rattle.govisd_words.specs.declared.words.Request.TheVariants.{Resolve, Explain, Check, Run, Script, Serve, Help, Version, BadValue}
 use Rattle.govisd_words.specs.Asking.{Asks, ToRefuse, ToScript, ToServe, command_line, asked_by_subcommand as asked_by, refusals, said, script_with, serve_with}
 use Rattle.govisd.specs.Daemons.{Scripts, Serves}
-use Rattle.govisd.specs.Runs.{Around, Does, RefusesCount, RefusesNowhere, RefusesWorkers, Runs, ScriptsAlone, ScriptsEach, ServesAsTold, ServesEach}
+use Rattle.govisd.specs.Runs.{Around, Does, RefusesValue, RefusesNowhere, RefusesWorkers, Runs, ScriptsAlone, ScriptsEach, ServesAsTold, ServesEach}
 use Rattle.govisd.specs.Says.{RunsOut}
 use Rattle.govisd.proofs.FlagLemmas.{refused_for}
 use Rattle.govisd_words.proofs.PlainWords.{script_workers, script_workers_named, serve_at, serve_at_named, serve_told, serve_told_named}
 use Rattle.govisd.proofs.RunLemmas.{asked, failed, ran_out}
 
-same_option : (a b : CountOption) → ToRefuse a ≡ ToRefuse b → a ≡ b
+same_option : (a b : ValueOption) → ToRefuse a ≡ ToRefuse b → a ≡ b
 same_option a b e = cc
 
 same_address : (a b : Text) (m n : ℕ) (i j : Option ℕ) → ToServe a m i ≡ ToServe b n j → a ≡ b
@@ -29,36 +29,36 @@ same_address a b m n i j e = cc
 module _ (among : Around) (ran : Ran) (given left out out' err err' : Option (List ℕ)) where
   scripts : (request : Request) (workers : ℕ) → said request ≡ ToScript workers → Does among (Ok request) ran given left out out' err err' → Scripts ran given left out out' err err'
   scripts Resolve workers is h = absurd (cc)
-  scripts (Explain rule) workers is h = absurd (cc)
+  scripts (Explain rule json) workers is h = absurd (cc)
   scripts (Run order) workers is h = absurd (cc)
   scripts (Check order) workers is h = absurd (cc)
   scripts (Script count) workers is h = h
   scripts (Serve daemon) workers is h = absurd (cc)
   scripts (Help topic) workers is h = absurd (cc)
   scripts Version workers is h = absurd (cc)
-  scripts (BadCount option) workers is h = absurd (cc)
+  scripts (BadValue option) workers is h = absurd (cc)
 
   serves : (request : Request) (address : Text) (workers : ℕ) (connections : Option ℕ) → said request ≡ ToServe address workers connections → Does among (Ok request) ran given left out out' err err' → Serves address ran err err' × Keeps out out' × Keeps given left
   serves Resolve address workers connections is h = absurd (cc)
-  serves (Explain rule) address workers connections is h = absurd (cc)
+  serves (Explain rule json) address workers connections is h = absurd (cc)
   serves (Run order) address workers connections is h = absurd (cc)
   serves (Check order) address workers connections is h = absurd (cc)
   serves (Script count) address workers connections is h = absurd (cc)
   serves (Serve daemon) address workers connections is h = (subst (λ a. Serves a ran err err') (same_address _ address _ workers _ connections is) h.0, h.1, h.2)
   serves (Help topic) address workers connections is h = absurd (cc)
   serves Version address workers connections is h = absurd (cc)
-  serves (BadCount option) address workers connections is h = absurd (cc)
+  serves (BadValue option) address workers connections is h = absurd (cc)
 
-  refuses : (request : Request) (option : CountOption) → said request ≡ ToRefuse option → Does among (Ok request) ran given left out out' err err' → RefusesCount option ran err err' × Keeps out out' × Keeps given left
+  refuses : (request : Request) (option : ValueOption) → said request ≡ ToRefuse option → Does among (Ok request) ran given left out out' err err' → RefusesValue option ran err err' × Keeps out out' × Keeps given left
   refuses Resolve option is h = absurd (cc)
-  refuses (Explain rule) option is h = absurd (cc)
+  refuses (Explain rule json) option is h = absurd (cc)
   refuses (Run order) option is h = absurd (cc)
   refuses (Check order) option is h = absurd (cc)
   refuses (Script count) option is h = absurd (cc)
   refuses (Serve daemon) option is h = absurd (cc)
   refuses (Help topic) option is h = absurd (cc)
   refuses Version option is h = absurd (cc)
-  refuses (BadCount other) option is h = (subst (λ o. RefusesCount o ran err err') (same_option other option is) h.0, h.1, h.2)
+  refuses (BadValue other) option is h = (subst (λ o. RefusesValue o ran err err') (same_option other option is) h.0, h.1, h.2)
 
   scripted : (words : List Text) (workers : ℕ) → refusals words ≡ [] → asked_by words ≡ ToScript workers → Runs among words ran given left out out' err err' → Scripts ran given left out out' err err' ⊎ (RunsOut ran err err' × Keeps out out' × Keeps given left)
   scripted words workers none is r = by r.asked r.asks r.does
@@ -80,8 +80,8 @@ module _ (among : Around) (ran : Ran) (given left out out' err err' : Option (Li
   served : (words : List Text) (address : Text) (workers : ℕ) (connections : Option ℕ) → refusals words ≡ [] → asked_by words ≡ ToServe address workers connections → Runs among words ran given left out out' err err' → ((Serves address ran err err' ⊎ RunsOut ran err err') × Keeps out out') × Keeps given left
   served words address workers connections none is r = comes words (Serves address ran err err') (λ request asks did. serves request address workers connections (asks ∙ is) did) none r
 
-  pub count_refused : (words : List Text) (option : CountOption) → refusals words ≡ [] → asked_by words ≡ ToRefuse option → Runs among words ran given left out out' err err' → ((RefusesCount option ran err err' ⊎ RunsOut ran err err') × Keeps out out') × Keeps given left
-  count_refused words option none is r = comes words (RefusesCount option ran err err') (λ request asks did. refuses request option (asks ∙ is) did) none r
+  pub count_refused : (words : List Text) (option : ValueOption) → refusals words ≡ [] → asked_by words ≡ ToRefuse option → Runs among words ran given left out out' err err' → ((RefusesValue option ran err err' ⊎ RunsOut ran err err') × Keeps out out') × Keeps given left
+  count_refused words option none is r = comes words (RefusesValue option ran err err') (λ request asks did. refuses request option (asks ∙ is) did) none r
 
 -- ---- the command lines
 

@@ -11,7 +11,7 @@ use Rattle.clap.specs.declared.error.kind.ErrorKind.TheVariants as kind
 use Rattle.clap.proofs.OnLiterals.{clap_on_literals}
 use Rattle.govisd.specs.declared.program.Ran.{Ran}
 use Rattle.govisd_words.specs.declared.words.Request.{Request}
-use Rattle.govisd_words.specs.declared.words.Request.TheVariants.{Resolve, Explain, Check, Run, Script, Serve, Help, Version, BadCount}
+use Rattle.govisd_words.specs.declared.words.Request.TheVariants.{Resolve, Explain, Check, Run, Script, Serve, Help, Version, BadValue}
 use Rattle.govisd_words.specs.Asking.{Asks, ToHelp, ToResolve, ToTellVersion, command_behind, command_line, asked_by_subcommand as asked_by, refusals, said}
 use Rattle.govisd.specs.Runs.{Around, Does, HelpsAlone, HelpsByFlag, Refuses, RefusesFor, RefusesNothing, RefusesWordBehind, Resolves, ResolvesAlone, Runs, ShowsOrRunsOut, ShowsText, TellsVersion}
 use Rattle.govisd.specs.Says.{RunsOut}
@@ -56,25 +56,25 @@ failed_for words e k one (inr h) = inr (only_one (kind_of e) k (subst (IsAmong (
 module _ (among : Around) (ran : Ran) (given left out out' err err' : Option (List ℕ)) where
   resolves : (request : Request) → said request ≡ ToResolve → Does among (Ok request) ran given left out out' err err' → Resolves ran given left out out' err err'
   resolves Resolve is h = h
-  resolves (Explain rule) is h = absurd (cc)
+  resolves (Explain rule json) is h = absurd (cc)
   resolves (Run order) is h = absurd (cc)
   resolves (Check order) is h = absurd (cc)
   resolves (Help topic) is h = absurd (cc)
   resolves Version is h = absurd (cc)
   resolves (Script workers) is h = absurd (cc)
   resolves (Serve daemon) is h = absurd (cc)
-  resolves (BadCount option) is h = absurd (cc)
+  resolves (BadValue option) is h = absurd (cc)
 
   tells : (request : Request) → said request ≡ ToTellVersion → Does among (Ok request) ran given left out out' err err' → ShowsText ran version_text out out' err err' × Keeps given left
   tells Resolve is h = absurd (cc)
-  tells (Explain rule) is h = absurd (cc)
+  tells (Explain rule json) is h = absurd (cc)
   tells (Run order) is h = absurd (cc)
   tells (Check order) is h = absurd (cc)
   tells (Help topic) is h = absurd (cc)
   tells Version is h = h
   tells (Script workers) is h = absurd (cc)
   tells (Serve daemon) is h = absurd (cc)
-  tells (BadCount option) is h = absurd (cc)
+  tells (BadValue option) is h = absurd (cc)
 
   resolved : (words : List Text) → refusals words ≡ [] → asked_by words ≡ ToResolve → Runs among words ran given left out out' err err' → Resolves ran given left out out' err err' ⊎ (RunsOut ran err err' × Keeps out out' × Keeps given left)
   resolved words none is r = by r.asked r.asks r.does

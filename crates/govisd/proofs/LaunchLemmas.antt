@@ -4,9 +4,9 @@ use Rattle.std.specs.Prelude.{codes, option_map}
 use Rattle.std.specs.Io.KnownBytes.{Keeps}
 use Rattle.clap.specs.Walk.{Text}
 use Rattle.govisd.specs.declared.program.Ran.{Ran}
-use Rattle.govisd_words.specs.declared.words.CountOption.TheVariants.{Steps}
+use Rattle.govisd_words.specs.declared.words.ValueOption.TheVariants.{Steps}
 use Rattle.govisd_words.specs.declared.words.Request.{Request}
-use Rattle.govisd_words.specs.declared.words.Request.TheVariants.{Resolve, Explain, Check, Run, Script, Serve, Help, Version, BadCount}
+use Rattle.govisd_words.specs.declared.words.Request.TheVariants.{Resolve, Explain, Check, Run, Script, Serve, Help, Version, BadValue}
 use Rattle.govisd_words.specs.Asking.{ToRun, command_line, asked_by_subcommand as asked_by, refusals, run_with, said}
 use Rattle.govisd.specs.Launches.{RunsFolder}
 use Rattle.govisd.specs.Runs.{Around, Does, RefusesSteps, Runs, RunsAsTold, RunsEach}
@@ -31,7 +31,7 @@ same_steps a b p q m n i j e = cc
 module _ (among : Around) (ran : Ran) (given left out out' err err' : Option (List ℕ)) where
   launches : (request : Request) (folder : Text) (path main : Option Text) (steps : ℕ) → said request ≡ ToRun folder path main steps → Does among (Ok request) ran given left out out' err err' → RunsFolder among.launches folder path main steps ran out out' err err' × Keeps given left
   launches Resolve folder path main steps is h = absurd (cc)
-  launches (Explain rule) folder path main steps is h = absurd (cc)
+  launches (Explain rule json) folder path main steps is h = absurd (cc)
   launches (Check order) folder path main steps is h = absurd (cc)
   launches (Run order) folder path main steps is h =
       let path' = option_map (λ word. word.now) order.module_path in
@@ -44,7 +44,7 @@ module _ (among : Around) (ran : Ran) (given left out out' err err' : Option (Li
   launches (Serve daemon) folder path main steps is h = absurd (cc)
   launches (Help topic) folder path main steps is h = absurd (cc)
   launches Version folder path main steps is h = absurd (cc)
-  launches (BadCount option) folder path main steps is h = absurd (cc)
+  launches (BadValue option) folder path main steps is h = absurd (cc)
 
   launched : (words : List Text) (folder : Text) (path main : Option Text) (steps : ℕ) → refusals words ≡ [] → asked_by words ≡ ToRun folder path main steps → Runs among words ran given left out out' err err' → (RunsFolder among.launches folder path main steps ran out out' err err' ⊎ (RunsOut ran err err' × Keeps out out')) × Keeps given left
   launched words folder path main steps none is r = done among ran given left out out' err err' words (RunsFolder among.launches folder path main steps ran out out' err err') (λ request asks did. launches request folder path main steps (asks ∙ is) did) none r

@@ -1,5 +1,5 @@
 -- Texts that are made before they are written.
-use Rattle.std.proofs.Common.{◌≡◌, inl, inr, ℕ, List, Option, Some, None, Result, Ok, Err, IfOk, Bor, sym, subst}
+use Rattle.std.proofs.Common.{◌≡◌, inl, inr, ℕ, Bool, List, Option, Some, None, Result, Ok, Err, IfOk, Bor, sym, subst}
 use Rattle.std.specs.Prelude.{option_map, string_bytes}
 use Rattle.std.specs.declared.string.String.{String}
 use Rattle.govisd.specs.declared.program.Ran.{Ran}
@@ -17,10 +17,10 @@ refused (Err e) text ran err err' is h = inr h
 
 module _ {Z E : Type 0} (made : Result (String Z) E) (ran : Ran) (out err err' : Option (List ℕ)) where
   -- no rule has a name
-  pub no_rule : (word : Option (Bor (List ℕ))) (name : Bor (List ℕ)) → word ≡ Some name → None ≡ rule_of_number name.now → IfOk made (λ t. string_bytes t ≡ unknown_text name.now) → RefusesMade made ran err err' → Explains (option_map (λ w. w.now) word) ran out out err err'
-  no_rule word name is none said h =
-      subst (λ w. Explains (option_map (λ v. v.now) w) ran out out err err') (sym is)
-      (subst (λ f. ExplainsFound name.now f ran out out err err') none (refused made (unknown_text name.now) ran err err' said h, keeps_same out))
+  pub no_rule : (json : Bool) (word : Option (Bor (List ℕ))) (name : Bor (List ℕ)) → word ≡ Some name → None ≡ rule_of_number name.now → IfOk made (λ t. string_bytes t ≡ unknown_text name.now) → RefusesMade made ran err err' → Explains json (option_map (λ w. w.now) word) ran out out err err'
+  no_rule json word name is none said h =
+      subst (λ w. Explains json (option_map (λ v. v.now) w) ran out out err err') (sym is)
+      (subst (λ f. ExplainsFound json name.now f ran out out err err') none (refused made (unknown_text name.now) ran err err' said h, keeps_same out))
 
   -- no command has a name
   pub no_command : (topic : Option (Bor (List ℕ))) (name : Bor (List ℕ)) → topic ≡ Some name → None ≡ help_of name.now → IfOk made (λ t. string_bytes t ≡ unknown_command_text name.now) → RefusesMade made ran err err' → Helps (option_map (λ w. w.now) topic) ran out out err err'

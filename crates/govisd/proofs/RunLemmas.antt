@@ -11,17 +11,19 @@ use Rattle.clap.proofs.OnLiterals.{clap_on_literals}
 use Rattle.go_text_core.specs.Rules.{rule_number}
 use Rattle.go_text_core.specs.declared.rule.Rule.{Rule}
 use Rattle.go_explain_core.specs.Naming.{rule_of_number}
-use Rattle.go_explain_core.specs.Telling.{explained_text, list_text, unknown_text}
+use Rattle.go_explain_core.specs.Telling.{explained_text, json_line, json_list, list_text, listed_text, told_text, unknown_text}
 use Rattle.go_explain_core.proofs.Everywhere.{everywhere}
 use Rattle.go_explain_core.proofs.Numbers.{names_each}
 use Rattle.govisd.specs.declared.program.Ran.{Ran}
 use Rattle.govisd_words.specs.declared.words.Request.{Request}
-use Rattle.govisd_words.specs.declared.words.Request.TheVariants.{Resolve, Explain, Check, Run, Script, Serve, Help, Version, BadCount}
+use Rattle.govisd_words.specs.declared.words.Request.TheVariants.{Resolve, Explain, Check, Run, Script, Serve, Help, Version, BadValue}
 use Rattle.govisd_words.specs.Asking.{Asks, ToCheck, ToExplain, ToHelp, is_plain, command_line, asked_by_subcommand as asked_by, refusals, said}
-use Rattle.govisd.specs.Runs.{Around, ChecksEach, ChecksEachAsJson, ChecksEachModule, ChecksFolder, Does, Explains, ExplainsEach, ExplainsFound, Helps, HelpsEach, HelpsFound, ListsAll, Refuses, RefusesName, RefusesOtherCommands, RefusesOthers, Runs, ShowsOrRunsOut}
+use Rattle.go_folder_core.specs.declared.orders.Style.{Style}
+use Rattle.govisd_words.specs.Styles.{json_style, plain_style}
+use Rattle.govisd.specs.Runs.{Around, ChecksEach, ChecksEachAsJson, ChecksEachModule, ChecksFolder, ChecksHere, Does, Explains, ExplainsEach, ExplainsEachAsJson, ExplainsFound, Helps, HelpsEach, HelpsFound, ListsAll, ListsAllAsJson, Refuses, RefusesName, RefusesOtherCommands, RefusesOthers, Runs, ShowsOrRunsOut}
 use Rattle.govisd.specs.Says.{RunsOut}
 use Rattle.govisd_words.specs.Texts.{help_of, unknown_command_text}
-use Rattle.govisd_words.proofs.PlainWords.{check_folder, check_folder_named, check_module, check_module_json, check_module_json_named, check_module_named, explain_word, explain_word_named, help_word, help_word_named}
+use Rattle.govisd_words.proofs.PlainWords.{check_folder, check_folder_named, check_module, check_module_json, check_module_json_named, check_module_named, explain_word, explain_word_json, explain_word_json_named, explain_word_named, help_word, help_word_named}
 
 -- words that are not refused ask for what they name
 pub asked : (words : List Text) (request : Request) → refusals words ≡ [] → Asks words (Ok request) → said request ≡ asked_by words
@@ -34,59 +36,64 @@ pub failed : (words : List Text) (e : Error) → refusals words ≡ [] → Asks 
 failed words e none (inl h) = h
 failed words e none (inr h) = absurd (subst (IsAmong (kind_of e)) none h.0)
 
-same_rule : (a b : Option Text) → ToExplain a ≡ ToExplain b → a ≡ b
-same_rule a b e = cc
+same_rule : (a b : Option Text) (i j : Bool) → ToExplain a i ≡ ToExplain b j → a ≡ b
+same_rule a b i j e = cc
+
+same_told : (a b : Option Text) (i j : Bool) → ToExplain a i ≡ ToExplain b j → i ≡ j
+same_told a b i j e = cc
 
 same_topic : (a b : Option Text) → ToHelp a ≡ ToHelp b → a ≡ b
 same_topic a b e = cc
 
-same_folder : (a b : Text) (p q : Option Text) (i j : Bool) → ToCheck a p i ≡ ToCheck b q j → a ≡ b
+same_folder : (a b : Text) (p q : Option Text) (i j : Style) → ToCheck a p i ≡ ToCheck b q j → a ≡ b
 same_folder a b p q i j e = cc
 
-same_path : (a b : Text) (p q : Option Text) (i j : Bool) → ToCheck a p i ≡ ToCheck b q j → p ≡ q
+same_path : (a b : Text) (p q : Option Text) (i j : Style) → ToCheck a p i ≡ ToCheck b q j → p ≡ q
 same_path a b p q i j e = cc
 
-same_form : (a b : Text) (p q : Option Text) (i j : Bool) → ToCheck a p i ≡ ToCheck b q j → i ≡ j
+same_form : (a b : Text) (p q : Option Text) (i j : Style) → ToCheck a p i ≡ ToCheck b q j → i ≡ j
 same_form a b p q i j e = cc
 
 -- one run
 module _ (among : Around) (ran : Ran) (given left out out' err err' : Option (List ℕ)) where
-  explains : (request : Request) (word : Option Text) → said request ≡ ToExplain word → Does among (Ok request) ran given left out out' err err' → Explains word ran out out' err err' × Keeps given left
-  explains Resolve word is h = absurd (cc)
-  explains (Explain rule) word is h = (subst (λ w. Explains w ran out out' err err') (same_rule _ word is) h.0, h.1)
-  explains (Run order) word is h = absurd (cc)
-  explains (Check order) word is h = absurd (cc)
-  explains (Help topic) word is h = absurd (cc)
-  explains Version word is h = absurd (cc)
-  explains (Script workers) word is h = absurd (cc)
-  explains (Serve daemon) word is h = absurd (cc)
-  explains (BadCount option) word is h = absurd (cc)
+  explains : (request : Request) (word : Option Text) (json : Bool) → said request ≡ ToExplain word json → Does among (Ok request) ran given left out out' err err' → Explains json word ran out out' err err' × Keeps given left
+  explains Resolve word told is h = absurd (cc)
+  explains (Explain rule json) word told is h =
+      let here = subst (λ w. Explains json w ran out out' err err') (same_rule _ word json told is) h.0 in
+      (subst (λ j. Explains j word ran out out' err err') (same_told _ word json told is) here, h.1)
+  explains (Run order) word told is h = absurd (cc)
+  explains (Check order) word told is h = absurd (cc)
+  explains (Help topic) word told is h = absurd (cc)
+  explains Version word told is h = absurd (cc)
+  explains (Script workers) word told is h = absurd (cc)
+  explains (Serve daemon) word told is h = absurd (cc)
+  explains (BadValue option) word told is h = absurd (cc)
 
   pub helps : (request : Request) (word : Option Text) → said request ≡ ToHelp word → Does among (Ok request) ran given left out out' err err' → Helps word ran out out' err err' × Keeps given left
   helps Resolve word is h = absurd (cc)
-  helps (Explain rule) word is h = absurd (cc)
+  helps (Explain rule json) word is h = absurd (cc)
   helps (Run order) word is h = absurd (cc)
   helps (Check order) word is h = absurd (cc)
   helps (Help topic) word is h = (subst (λ w. Helps w ran out out' err err') (same_topic _ word is) h.0, h.1)
   helps Version word is h = absurd (cc)
   helps (Script workers) word is h = absurd (cc)
   helps (Serve daemon) word is h = absurd (cc)
-  helps (BadCount option) word is h = absurd (cc)
+  helps (BadValue option) word is h = absurd (cc)
 
-  checks : (request : Request) (folder : Text) (path : Option Text) (json : Bool) → said request ≡ ToCheck folder path json → Does among (Ok request) ran given left out out' err err' → ChecksFolder among.answers folder json path ran out out' err err' × Keeps given left
-  checks Resolve folder path json is h = absurd (cc)
-  checks (Explain rule) folder path json is h = absurd (cc)
-  checks (Run order) folder path json is h = absurd (cc)
-  checks (Check order) folder path json is h =
+  checks : (request : Request) (folder : Text) (path : Option Text) (style : Style) → said request ≡ ToCheck folder path style → Does among (Ok request) ran given left out out' err err' → ChecksFolder among.answers folder style path ran out out' err err' × Keeps given left
+  checks Resolve folder path style is h = absurd (cc)
+  checks (Explain rule json) folder path style is h = absurd (cc)
+  checks (Run order) folder path style is h = absurd (cc)
+  checks (Check order) folder path style is h =
       let asked = option_map (λ word. word.now) order.module_path in
-      let here = subst (λ f. ChecksFolder among.answers f order.json asked ran out out' err err') (same_folder _ folder _ path _ json is) h.0 in
-      let formed = subst (λ j. ChecksFolder among.answers folder j asked ran out out' err err') (same_form _ folder _ path _ json is) here in
-      (subst (λ p. ChecksFolder among.answers folder json p ran out out' err err') (same_path _ folder _ path _ json is) formed, h.1)
-  checks (Help topic) folder path json is h = absurd (cc)
-  checks Version folder path json is h = absurd (cc)
-  checks (Script workers) folder path json is h = absurd (cc)
-  checks (Serve daemon) folder path json is h = absurd (cc)
-  checks (BadCount option) folder path json is h = absurd (cc)
+      let here = subst (λ f. ChecksFolder among.answers f order.style asked ran out out' err err') (same_folder _ folder _ path _ style is) h.0 in
+      let formed = subst (λ j. ChecksFolder among.answers folder j asked ran out out' err err') (same_form _ folder _ path _ style is) here in
+      (subst (λ p. ChecksFolder among.answers folder style p ran out out' err err') (same_path _ folder _ path _ style is) formed, h.1)
+  checks (Help topic) folder path style is h = absurd (cc)
+  checks Version folder path style is h = absurd (cc)
+  checks (Script workers) folder path style is h = absurd (cc)
+  checks (Serve daemon) folder path style is h = absurd (cc)
+  checks (BadValue option) folder path style is h = absurd (cc)
 
   pub ran_out : (e : Error) → kind_of e ≡ kind.OutOfMemory → Refuses (kind_of e) ran err err' → RunsOut ran err err'
   ran_out e is h =
@@ -103,26 +110,26 @@ module _ (among : Around) (ran : Ran) (given left out out' err err' : Option (Li
           (inl h.0, h.1)
       by (Err e) asks did = (inr (ran_out e (failed words e none asks) did.0, did.1), did.2)
 
-  explained : (words : List Text) (word : Option Text) → refusals words ≡ [] → asked_by words ≡ ToExplain word → Runs among words ran given left out out' err err' → (Explains word ran out out' err err' ⊎ (RunsOut ran err err' × Keeps out out')) × Keeps given left
-  explained words word none is r = done words (Explains word ran out out' err err') (λ request asks did. explains request word (asks ∙ is) did) none r
+  explained : (words : List Text) (word : Option Text) (json : Bool) → refusals words ≡ [] → asked_by words ≡ ToExplain word json → Runs among words ran given left out out' err err' → (Explains json word ran out out' err err' ⊎ (RunsOut ran err err' × Keeps out out')) × Keeps given left
+  explained words word json none is r = done words (Explains json word ran out out' err err') (λ request asks did. explains request word json (asks ∙ is) did) none r
 
   pub helped : (words : List Text) (word : Option Text) → refusals words ≡ [] → asked_by words ≡ ToHelp word → Runs among words ran given left out out' err err' → (Helps word ran out out' err err' ⊎ (RunsOut ran err err' × Keeps out out')) × Keeps given left
   helped words word none is r = done words (Helps word ran out out' err err') (λ request asks did. helps request word (asks ∙ is) did) none r
 
-  checked : (words : List Text) (folder : Text) (path : Option Text) (json : Bool) → refusals words ≡ [] → asked_by words ≡ ToCheck folder path json → Runs among words ran given left out out' err err' → (ChecksFolder among.answers folder json path ran out out' err err' ⊎ (RunsOut ran err err' × Keeps out out')) × Keeps given left
-  checked words folder path json none is r = done words (ChecksFolder among.answers folder json path ran out out' err err') (λ request asks did. checks request folder path json (asks ∙ is) did) none r
+  checked : (words : List Text) (folder : Text) (path : Option Text) (style : Style) → refusals words ≡ [] → asked_by words ≡ ToCheck folder path style → Runs among words ran given left out out' err err' → (ChecksFolder among.answers folder style path ran out out' err err' ⊎ (RunsOut ran err err' × Keeps out out')) × Keeps given left
+  checked words folder path style none is r = done words (ChecksFolder among.answers folder style path ran out out' err err') (λ request asks did. checks request folder path style (asks ∙ is) did) none r
 
-  found : (word : Text) (rule : Rule) → rule_of_number word ≡ Some rule → Explains (Some word) ran out out' err err' ⊎ (RunsOut ran err err' × Keeps out out') → ShowsOrRunsOut (explained_text rule) ran out out' err err'
-  found word rule is (inl h) = subst (λ f. ExplainsFound word f ran out out' err err') is h
-  found word rule is (inr h) = inr h
+  found : (json : Bool) (word : Text) (rule : Rule) → rule_of_number word ≡ Some rule → Explains json (Some word) ran out out' err err' ⊎ (RunsOut ran err err' × Keeps out out') → ShowsOrRunsOut (told_text json rule) ran out out' err err'
+  found json word rule is (inl h) = subst (λ f. ExplainsFound json word f ran out out' err err') is h
+  found json word rule is (inr h) = inr h
 
-  lost : (word : Text) → rule_of_number word ≡ None → Explains (Some word) ran out out' err err' ⊎ (RunsOut ran err err' × Keeps out out') → RefusesName (unknown_text word) ran err err' × Keeps out out'
-  lost word is (inl h) = subst (λ f. ExplainsFound word f ran out out' err err') is h
+  lost : (word : Text) → rule_of_number word ≡ None → Explains false (Some word) ran out out' err err' ⊎ (RunsOut ran err err' × Keeps out out') → RefusesName (unknown_text word) ran err err' × Keeps out out'
+  lost word is (inl h) = subst (λ f. ExplainsFound false word f ran out out' err err') is h
   lost word is (inr h) = (inr h.0, h.1)
 
-  whole : Explains None ran out out' err err' ⊎ (RunsOut ran err err' × Keeps out out') → ShowsOrRunsOut list_text ran out out' err err'
-  whole (inl h) = h
-  whole (inr h) = inr h
+  whole : (json : Bool) → Explains json None ran out out' err err' ⊎ (RunsOut ran err err' × Keeps out out') → ShowsOrRunsOut (listed_text json) ran out out' err err'
+  whole json (inl h) = h
+  whole json (inr h) = inr h
 
   known : (name text : Text) → help_of name ≡ Some text → Helps (Some name) ran out out' err err' ⊎ (RunsOut ran err err' × Keeps out out') → ShowsOrRunsOut text ran out out' err err'
   known name text is (inl h) = inl (subst (λ f. HelpsFound name f ran out out' err err') is h)
@@ -138,38 +145,69 @@ numbers_plain = everywhere (λ rule. is_plain (rule_number rule)) refl
 pub each_rule : (among : Around) → ExplainsEach among
 each_rule among program rule ran given left out out' err err' r =
     let plain = numbers_plain rule in
-    let h = explained among ran given left out out' err err' (command_line program (codes "explain" ∷ (rule_number rule ∷ []))) (Some (rule_number rule)) (explain_word program (rule_number rule) plain) (explain_word_named program (rule_number rule) plain) r in
-    (found among ran given left out out' err err' (rule_number rule) rule (names_each rule) h.0, h.1)
+    let h = explained among ran given left out out' err err' (command_line program (codes "explain" ∷ (rule_number rule ∷ []))) (Some (rule_number rule)) false (explain_word program (rule_number rule) plain) (explain_word_named program (rule_number rule) plain) r in
+    (found among ran given left out out' err err' false (rule_number rule) rule (names_each rule) h.0, h.1)
+
+pub each_rule_as_json : (among : Around) → ExplainsEachAsJson among
+each_rule_as_json among program rule ran given left out out' err err' r =
+    let plain = numbers_plain rule in
+    let h = explained among ran given left out out' err err' (command_line program (codes "explain" ∷ (rule_number rule ∷ (codes "--json" ∷ [])))) (Some (rule_number rule)) true (explain_word_json program (rule_number rule) plain) (explain_word_json_named program (rule_number rule) plain) r in
+    (found among ran given left out out' err err' true (rule_number rule) rule (names_each rule) h.0, h.1)
 
 pub no_rule : (among : Around) → RefusesOthers among
 no_rule among program word plain none ran given left out out' err err' r =
-    let h = explained among ran given left out out' err err' (command_line program (codes "explain" ∷ (word ∷ []))) (Some word) (explain_word program word plain) (explain_word_named program word plain) r in
+    let h = explained among ran given left out out' err err' (command_line program (codes "explain" ∷ (word ∷ []))) (Some word) false (explain_word program word plain) (explain_word_named program word plain) r in
     (lost among ran given left out out' err err' word none h.0, h.1)
 
 alone : (program : Text) → refusals (command_line program (codes "explain" ∷ [])) ≡ []
 unfolding clap_on_literals
 alone program = refl
 
-alone_named : (program : Text) → asked_by (command_line program (codes "explain" ∷ [])) ≡ ToExplain None
+alone_named : (program : Text) → asked_by (command_line program (codes "explain" ∷ [])) ≡ ToExplain None false
 unfolding clap_on_literals
 alone_named program = refl
 
 pub all_rules : (among : Around) → ListsAll among
 all_rules among program ran given left out out' err err' r =
-    let h = explained among ran given left out out' err err' (command_line program (codes "explain" ∷ [])) None (alone program) (alone_named program) r in
-    (whole among ran given left out out' err err' h.0, h.1)
+    let h = explained among ran given left out out' err err' (command_line program (codes "explain" ∷ [])) None false (alone program) (alone_named program) r in
+    (whole among ran given left out out' err err' false h.0, h.1)
+
+as_json : (program : Text) → refusals (command_line program (codes "explain" ∷ (codes "--json" ∷ []))) ≡ []
+unfolding clap_on_literals
+as_json program = refl
+
+as_json_named : (program : Text) → asked_by (command_line program (codes "explain" ∷ (codes "--json" ∷ []))) ≡ ToExplain None true
+unfolding clap_on_literals
+as_json_named program = refl
+
+pub all_rules_as_json : (among : Around) → ListsAllAsJson among
+all_rules_as_json among program ran given left out out' err err' r =
+    let h = explained among ran given left out out' err err' (command_line program (codes "explain" ∷ (codes "--json" ∷ []))) None true (as_json program) (as_json_named program) r in
+    (whole among ran given left out out' err err' true h.0, h.1)
+
+here : (program : Text) → refusals (command_line program (codes "check" ∷ [])) ≡ []
+unfolding clap_on_literals
+here program = refl
+
+here_named : (program : Text) → asked_by (command_line program (codes "check" ∷ [])) ≡ ToCheck (codes ".") None plain_style
+unfolding clap_on_literals
+here_named program = refl
+
+pub no_folder : (among : Around) → ChecksHere among
+no_folder among program ran given left out out' err err' r =
+    checked among ran given left out out' err err' (command_line program (codes "check" ∷ [])) (codes ".") None plain_style (here program) (here_named program) r
 
 pub each_folder : (among : Around) → ChecksEach among
 each_folder among program folder plain ran given left out out' err err' r =
-    checked among ran given left out out' err err' (command_line program (codes "check" ∷ (folder ∷ []))) folder None false (check_folder program folder plain) (check_folder_named program folder plain) r
+    checked among ran given left out out' err err' (command_line program (codes "check" ∷ (folder ∷ []))) folder None plain_style (check_folder program folder plain) (check_folder_named program folder plain) r
 
 pub each_module : (among : Around) → ChecksEachModule among
 each_module among program folder path plain plain' ran given left out out' err err' r =
-    checked among ran given left out out' err err' (command_line program (codes "check" ∷ (folder ∷ (codes "--module" ∷ (path ∷ []))))) folder (Some path) false (check_module program folder path plain plain') (check_module_named program folder path plain plain') r
+    checked among ran given left out out' err err' (command_line program (codes "check" ∷ (folder ∷ (codes "--module" ∷ (path ∷ []))))) folder (Some path) plain_style (check_module program folder path plain plain') (check_module_named program folder path plain plain') r
 
 pub each_as_json : (among : Around) → ChecksEachAsJson among
 each_as_json among program folder path plain plain' ran given left out out' err err' r =
-    checked among ran given left out out' err err' (command_line program (codes "check" ∷ (folder ∷ (codes "--module" ∷ (path ∷ (codes "--json" ∷ [])))))) folder (Some path) true (check_module_json program folder path plain plain') (check_module_json_named program folder path plain plain') r
+    checked among ran given left out out' err err' (command_line program (codes "check" ∷ (folder ∷ (codes "--module" ∷ (path ∷ (codes "--json" ∷ [])))))) folder (Some path) json_style (check_module_json program folder path plain plain') (check_module_json_named program folder path plain plain') r
 
 pub each_command : (among : Around) → HelpsEach among
 each_command among program name text plain is ran given left out out' err err' r =

@@ -11,25 +11,27 @@ use Rattle.govisd_core.specs.Inputs.{ReadsUpTo}
 use Rattle.govisd_core.specs.Outputs.{IsCutShort}
 use Rattle.govisd_core.specs.Reports.{IsEnd, ReadsAll, max_bytes}
 use Rattle.govisd_core.specs.declared.run.ResolveEnd.{ResolveEnd}
-use Rattle.govisd_core.specs.declared.run.ResolveEnd.TheVariants.{WriteFault, Memory}
+use Rattle.govisd_core.specs.declared.run.ResolveEnd.TheVariants.{Memory}
 use Rattle.govisd.specs.declared.program.Ran.{Ran}
-use Rattle.govisd_words.specs.declared.words.CountOption.{CountOption}
-use Rattle.govisd_words.specs.declared.words.CountOption.TheVariants.{Workers, Steps}
+use Rattle.govisd_words.specs.declared.words.ValueOption.{ValueOption}
+use Rattle.govisd_words.specs.declared.words.ValueOption.TheVariants.{Workers, Steps}
 use Rattle.govisd_words.specs.declared.words.Request.{Request}
-use Rattle.govisd_words.specs.declared.words.Request.TheVariants.{Resolve, Explain, Check, Run, Script, Serve, Help, Version, BadCount}
+use Rattle.govisd_words.specs.declared.words.Request.TheVariants.{Resolve, Explain, Check, Run, Script, Serve, Help, Version, BadValue}
 use Rattle.go_explain_core.specs.Naming.{rule_of_number}
 use Rattle.govisd_folders.specs.Checks.{IsAnswerOfCheck}
 use Rattle.govisd_folders.specs.declared.checking.CheckAnswer.{CheckAnswer}
 use Rattle.go_text_core.specs.Rules.{rule_number}
 use Rattle.go_text_core.specs.declared.rule.Rule.{Rule}
 use Rattle.govisd_words.specs.Asking.{Asks, is_plain, command_line}
-use Rattle.go_explain_core.specs.Telling.{explained_text, list_text, unknown_text}
+use Rattle.go_explain_core.specs.Telling.{explained_text, json_line, json_list, list_text, listed_text, told_text, unknown_text}
 use Rattle.govisd_words.specs.Counts.{connections_in, steps_in, workers_in}
+use Rattle.govisd_words.specs.Styles.{json_style, plain_style}
+use Rattle.go_folder_core.specs.declared.orders.Style.{Style}
 use Rattle.govisd.specs.Daemons.{Scripts, Serves}
 use Rattle.govisd.specs.Launches.{Launching, RunsFolder}
-use Rattle.govisd.specs.Says.{RunsOut, SaysText, WritesAnswer}
+use Rattle.govisd.specs.Says.{RunsOut, SaysText, SaysUnwritten, WritesAnswer}
 use Rattle.govisd_words.specs.Statuses.{end_status, refusal_status}
-use Rattle.govisd_words.specs.Texts.{bad_count_text, end_text, help_of, program_help_text, refused_text, unknown_command_text, version_text}
+use Rattle.govisd_words.specs.Texts.{bad_value_text, end_text, help_of, program_help_text, refused_text, unknown_command_text, version_text}
 
 -- a run of `resolve`: how it ended, over the bytes that the reader had, what was written, and what was said
 pub record Resolves (ran : Ran) (given left out out' err err' : Option (List ℕ)) : Type 0 where
@@ -44,7 +46,7 @@ pub record Resolves (ran : Ran) (given left out out' err err' : Option (List ℕ
 abbrev pub ShowsText : Ran → List ℕ → Option (List ℕ) → Option (List ℕ) → Option (List ℕ) → Option (List ℕ) → Type 0
 ShowsText ran text out out' err err' =
     ((ran.status ≡ 0) × (ran.is_told ≡ true) × Appends out out' text × Keeps err err')
-    ⊎ ((ran.status ≡ 1) × IsCutShort out out' text × SaysText ran.is_told (end_text WriteFault) err err')
+    ⊎ (IsCutShort out out' text × SaysUnwritten ran err err')
 
 -- a text that was made is shown
 abbrev pub ShowsMade : {Z E : Type 0} → Result (String Z) E → Ran → Option (List ℕ) → Option (List ℕ) → Option (List ℕ) → Option (List ℕ) → Type 0
@@ -64,31 +66,31 @@ abbrev pub RefusesName : List ℕ → Ran → Option (List ℕ) → Option (List
 RefusesName text ran err err' = ((ran.status ≡ 2) × SaysText ran.is_told text err err') ⊎ RunsOut ran err err'
 
 -- what is written of the rule that a word names
-abbrev pub ExplainsFound : Text → Option Rule → Ran → Option (List ℕ) → Option (List ℕ) → Option (List ℕ) → Option (List ℕ) → Type 0
-ExplainsFound word None ran out out' err err' = RefusesName (unknown_text word) ran err err' × Keeps out out'
-ExplainsFound word (Some rule) ran out out' err err' = ShowsOrRunsOut (explained_text rule) ran out out' err err'
+abbrev pub ExplainsFound : Bool → Text → Option Rule → Ran → Option (List ℕ) → Option (List ℕ) → Option (List ℕ) → Option (List ℕ) → Type 0
+ExplainsFound json word None ran out out' err err' = RefusesName (unknown_text word) ran err err' × Keeps out out'
+ExplainsFound json word (Some rule) ran out out' err err' = ShowsOrRunsOut (told_text json rule) ran out out' err err'
 
--- a rule is explained, or all are listed
-abbrev pub Explains : Option Text → Ran → Option (List ℕ) → Option (List ℕ) → Option (List ℕ) → Option (List ℕ) → Type 0
-Explains None ran out out' err err' = ShowsOrRunsOut list_text ran out out' err err'
-Explains (Some word) ran out out' err err' = ExplainsFound word (rule_of_number word) ran out out' err err'
+-- a rule is explained, or all are listed, maybe as JSON
+abbrev pub Explains : Bool → Option Text → Ran → Option (List ℕ) → Option (List ℕ) → Option (List ℕ) → Option (List ℕ) → Type 0
+Explains json None ran out out' err err' = ShowsOrRunsOut (listed_text json) ran out out' err err'
+Explains json (Some word) ran out out' err err' = ExplainsFound json word (rule_of_number word) ran out out' err err'
 
--- what the check of a folder may answer: by the folder, by whether JSON is asked for, and by the path of the module, if one is given; none
+-- what the check of a folder may answer: by the folder, by how the faults are to be written, and by the path of the module, if one is given; none
 -- where memory runs out
 abbrev pub Answering : Type 1
-Answering = Text → Bool → Option Text → Option CheckAnswer → Type 0
+Answering = Text → Style → Option Text → Option CheckAnswer → Type 0
 
 -- this folder was checked, and the answer was given
-pub record GivesAnswer (Answers : Answering) (folder : Text) (json : Bool) (path : Option Text) (ran : Ran) (out out' err err' : Option (List ℕ)) : Type 0 where
+pub record GivesAnswer (Answers : Answering) (folder : Text) (style : Style) (path : Option Text) (ran : Ran) (out out' err err' : Option (List ℕ)) : Type 0 where
   pub answer : CheckAnswer
-  pub answers : Answers folder json path (Some answer)
-  pub is : IsAnswerOfCheck folder json path answer
+  pub answers : Answers folder style path (Some answer)
+  pub is : IsAnswerOfCheck folder style path answer
   pub gives : WritesAnswer answer ran out out' err err'
 
 -- or memory ran out in its check
-abbrev pub ChecksFolder : Answering → Text → Bool → Option Text → Ran → Option (List ℕ) → Option (List ℕ) → Option (List ℕ) → Option (List ℕ) → Type 0
-ChecksFolder Answers folder json path ran out out' err err' =
-    GivesAnswer Answers folder json path ran out out' err err' ⊎ (Answers folder json path None × RunsOut ran err err' × Keeps out out')
+abbrev pub ChecksFolder : Answering → Text → Style → Option Text → Ran → Option (List ℕ) → Option (List ℕ) → Option (List ℕ) → Option (List ℕ) → Type 0
+ChecksFolder Answers folder style path ran out out' err err' =
+    GivesAnswer Answers folder style path ran out out' err err' ⊎ (Answers folder style path None × RunsOut ran err err' × Keeps out out')
 
 -- what the program stands among: what checks folders, and what runs them
 pub record Around : Type 1 where
@@ -118,15 +120,15 @@ pub record Refuses (kind : ErrorKind) (ran : Ran) (err err' : Option (List ℕ))
   pub says : RefusalSays kind ran err err'
 
 -- a number that is none of those that are taken is refused, and that is said
-abbrev pub RefusesCount : CountOption → Ran → Option (List ℕ) → Option (List ℕ) → Type 0
-RefusesCount option ran err err' = (ran.status ≡ 2) × SaysText ran.is_told (bad_count_text option) err err'
+abbrev pub RefusesValue : ValueOption → Ran → Option (List ℕ) → Option (List ℕ) → Type 0
+RefusesValue option ran err err' = (ran.status ≡ 2) × SaysText ran.is_told (bad_value_text option) err err'
 
 -- what is done for what was asked for, among these
 abbrev pub Does : Around → Result Request Error → Ran → Option (List ℕ) → Option (List ℕ) → Option (List ℕ) → Option (List ℕ) → Option (List ℕ) → Option (List ℕ) → Type 0
 Does among (Ok Resolve) ran given left out out' err err' = Resolves ran given left out out' err err'
-Does among (Ok (Explain rule)) ran given left out out' err err' = Explains (option_map (λ word. word.now) rule) ran out out' err err' × Keeps given left
+Does among (Ok (Explain rule json)) ran given left out out' err err' = Explains json (option_map (λ word. word.now) rule) ran out out' err err' × Keeps given left
 Does among (Ok (Check order)) ran given left out out' err err' =
-    ChecksFolder among.answers order.folder.now order.json (option_map (λ word. word.now) order.module_path) ran out out' err err' × Keeps given left
+    ChecksFolder among.answers order.folder.now order.style (option_map (λ word. word.now) order.module_path) ran out out' err err' × Keeps given left
 Does among (Ok (Run order)) ran given left out out' err err' =
     RunsFolder among.launches order.folder.now (option_map (λ word. word.now) order.module_path) (option_map (λ word. word.now) order.main_path) order.steps ran out out' err err' × Keeps given left
 Does among (Ok (Script workers)) ran given left out out' err err' = Scripts ran given left out out' err err'
@@ -134,7 +136,7 @@ Does among (Ok (Serve daemon)) ran given left out out' err err' =
     Serves daemon.address.now ran err err' × Keeps out out' × Keeps given left
 Does among (Ok (Help topic)) ran given left out out' err err' = Helps (option_map (λ word. word.now) topic) ran out out' err err' × Keeps given left
 Does among (Ok Version) ran given left out out' err err' = ShowsText ran version_text out out' err err' × Keeps given left
-Does among (Ok (BadCount option)) ran given left out out' err err' = RefusesCount option ran err err' × Keeps out out' × Keeps given left
+Does among (Ok (BadValue option)) ran given left out out' err err' = RefusesValue option ran err err' × Keeps out out' × Keeps given left
 Does among (Err e) ran given left out out' err err' = Refuses (kind_of e) ran err err' × Keeps out out' × Keeps given left
 
 -- it is done for what the words ask for
@@ -152,6 +154,10 @@ RunsFor among words Happens =
 abbrev pub ExplainsEach : Around → Type 0
 ExplainsEach among = (program : Text) (rule : Rule) → RunsFor among (command_line program (codes "explain" ∷ (rule_number rule ∷ []))) (ShowsOrRunsOut (explained_text rule))
 
+-- and as JSON where that is asked for
+abbrev pub ExplainsEachAsJson : Around → Type 0
+ExplainsEachAsJson among = (program : Text) (rule : Rule) → RunsFor among (command_line program (codes "explain" ∷ (rule_number rule ∷ (codes "--json" ∷ [])))) (ShowsOrRunsOut (json_line rule))
+
 -- and with a word that names no rule says so
 abbrev pub RefusesOthers : Around → Type 0
 RefusesOthers among =
@@ -161,19 +167,27 @@ RefusesOthers among =
 abbrev pub ListsAll : Around → Type 0
 ListsAll among = (program : Text) → RunsFor among (command_line program (codes "explain" ∷ [])) (ShowsOrRunsOut list_text)
 
+abbrev pub ListsAllAsJson : Around → Type 0
+ListsAllAsJson among = (program : Text) → RunsFor among (command_line program (codes "explain" ∷ (codes "--json" ∷ []))) (ShowsOrRunsOut json_list)
+
+-- `check` alone checks the folder that the program runs in, where memory does not run out before
+abbrev pub ChecksHere : Around → Type 0
+ChecksHere among =
+    (program : Text) → RunsFor among (command_line program (codes "check" ∷ [])) (λ ran out out' err err'. ChecksFolder among.answers (codes ".") plain_style None ran out out' err err' ⊎ (RunsOut ran err err' × Keeps out out'))
+
 -- `check` with a folder checks this one, where memory does not run out before
 abbrev pub ChecksEach : Around → Type 0
-ChecksEach among = (program folder : Text) → is_plain folder ≡ true → RunsFor among (command_line program (codes "check" ∷ (folder ∷ []))) (λ ran out out' err err'. ChecksFolder among.answers folder false None ran out out' err err' ⊎ (RunsOut ran err err' × Keeps out out'))
+ChecksEach among = (program folder : Text) → is_plain folder ≡ true → RunsFor among (command_line program (codes "check" ∷ (folder ∷ []))) (λ ran out out' err err'. ChecksFolder among.answers folder plain_style None ran out out' err err' ⊎ (RunsOut ran err err' × Keeps out out'))
 
 -- with the path of its module, it is checked as that of this module
 abbrev pub ChecksEachModule : Around → Type 0
 ChecksEachModule among =
-    (program folder path : Text) → is_plain folder ≡ true → is_plain path ≡ true → RunsFor among (command_line program (codes "check" ∷ (folder ∷ (codes "--module" ∷ (path ∷ []))))) (λ ran out out' err err'. ChecksFolder among.answers folder false (Some path) ran out out' err err' ⊎ (RunsOut ran err err' × Keeps out out'))
+    (program folder path : Text) → is_plain folder ≡ true → is_plain path ≡ true → RunsFor among (command_line program (codes "check" ∷ (folder ∷ (codes "--module" ∷ (path ∷ []))))) (λ ran out out' err err'. ChecksFolder among.answers folder plain_style (Some path) ran out out' err err' ⊎ (RunsOut ran err err' × Keeps out out'))
 
 -- and as JSON where that is asked for
 abbrev pub ChecksEachAsJson : Around → Type 0
 ChecksEachAsJson among =
-    (program folder path : Text) → is_plain folder ≡ true → is_plain path ≡ true → RunsFor among (command_line program (codes "check" ∷ (folder ∷ (codes "--module" ∷ (path ∷ (codes "--json" ∷ [])))))) (λ ran out out' err err'. ChecksFolder among.answers folder true (Some path) ran out out' err err' ⊎ (RunsOut ran err err' × Keeps out out'))
+    (program folder path : Text) → is_plain folder ≡ true → is_plain path ≡ true → RunsFor among (command_line program (codes "check" ∷ (folder ∷ (codes "--module" ∷ (path ∷ (codes "--json" ∷ [])))))) (λ ran out out' err err'. ChecksFolder among.answers folder json_style (Some path) ran out out' err err' ⊎ (RunsOut ran err err' × Keeps out out'))
 
 -- `help` with a command's name writes what the command takes
 abbrev pub HelpsEach : Around → Type 0
@@ -228,7 +242,7 @@ ScriptsEach among =
 -- another number than 1 to 64 is refused, and nothing is read or written
 abbrev pub RefusesWorkers : Around → Type 0
 RefusesWorkers among =
-    (program count : Text) → is_plain count ≡ true → workers_in (Some count) ≡ None → RunsFor among (command_line program (codes "script" ∷ (codes "--workers" ∷ (count ∷ [])))) (λ ran out out' err err'. (RefusesCount Workers ran err err' ⊎ RunsOut ran err err') × Keeps out out')
+    (program count : Text) → is_plain count ≡ true → workers_in (Some count) ≡ None → RunsFor among (command_line program (codes "script" ∷ (codes "--workers" ∷ (count ∷ [])))) (λ ran out out' err err'. (RefusesValue Workers ran err err' ⊎ RunsOut ran err err') × Keeps out out')
 
 -- `serve` with an address serves there, where memory does not run out before
 abbrev pub ServesEach : Around → Type 0
@@ -256,4 +270,4 @@ RunsAsTold among =
 -- but not for what is no number of steps
 abbrev pub RefusesSteps : Around → Type 0
 RefusesSteps among =
-    (program folder count : Text) → is_plain folder ≡ true → is_plain count ≡ true → steps_in (Some count) ≡ None → RunsFor among (command_line program (codes "run" ∷ (folder ∷ (codes "--steps" ∷ (count ∷ []))))) (λ ran out out' err err'. (RefusesCount Steps ran err err' ⊎ RunsOut ran err err') × Keeps out out')
+    (program folder count : Text) → is_plain folder ≡ true → is_plain count ≡ true → steps_in (Some count) ≡ None → RunsFor among (command_line program (codes "run" ∷ (folder ∷ (codes "--steps" ∷ (count ∷ []))))) (λ ran out out' err err'. (RefusesValue Steps ran err err' ⊎ RunsOut ran err err') × Keeps out out')

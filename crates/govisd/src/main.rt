@@ -13,6 +13,7 @@ use program::{Checks, run};
 use std::alloc::AllocError;
 use std::io;
 use std::process::ExitCode;
+use thiserror::Error;
 
 /// The folders of the system.
 #[derive(Drop)]
@@ -24,7 +25,7 @@ impl Checks for Folders<'_> {
     ghost use Rattle.std.specs.Prelude.{IfSome};
     ghost use Rattle.govisd_folders.specs.Checks.{IsAnswerOfCheck};
 
-    ghost Answers = { λ folders folder json path answer. IfSome answer (IsAnswerOfCheck folder json path) };
+    ghost Answers = { λ folders folder style path answer. IfSome answer (IsAnswerOfCheck folder style path) };
 
     fn check(&self, order: &Order<'_>) -> Result<CheckAnswer, AllocError> {
         check_folder(self.rt, order)
@@ -42,7 +43,24 @@ impl Launches for Folders<'_> {
     }
 }
 
-fn words_of(rt: &HostRuntime) -> io::Result<Vec<String>> {
+/// Why the program does not begin.
+#[derive(Debug, Drop, Error)]
+enum ProgramFault {
+    #[error("the command line cannot be read: {0}")]
+    Words(#[from] io::Error),
+    #[error("memory ran out")]
+    Memory(#[from(alloc)] AllocError),
+}
+
+// The exit status where the program does not begin.
+fn fault_status(fault: &ProgramFault) -> u8 {
+    match fault {
+        ProgramFault::Words(error) => unread_status(error.kind()),
+        ProgramFault::Memory(_) => unread_status(io::ErrorKind::OutOfMemory),
+    }
+}
+
+fn words_of(rt: &HostRuntime) -> Result<Vec<String>, ProgramFault> {
     let words = std::env::args(rt)?.collect(rt.alloc())?;
     Ok(words)
 }
@@ -50,10 +68,10 @@ fn words_of(rt: &HostRuntime) -> io::Result<Vec<String>> {
 fn main(rt: HostRuntime) -> ExitCode {
     let words = match words_of(&rt) {
         Ok(words) => words,
-        Err(error) => {
+        Err(fault) => {
             // Where this fails, there is nobody left to tell.
-            let _ = eprintln!(rt; "govisd: the command line cannot be read: {error}");
-            return ExitCode::from(unread_status(error.kind()));
+            let _ = eprintln!(rt; "govisd: {fault}");
+            return ExitCode::from(fault_status(&fault));
         }
     };
     let ended = run(

@@ -5,8 +5,8 @@ ghost use Rattle.std.specs.Result.{result_ok};
 ghost use Rattle.govisd_folders.specs.Checks.{IsAnswerOfCheck};
 ghost use Rattle.govisd_words.specs.Texts.{refused_text as text_of_refused};
 ghost use Rattle.govisd_words.specs.Asking.{is_script};
-ghost use Rattle.govisd.specs.Runs.{ChecksEach, ChecksEachAsJson, ChecksEachModule, ChecksFolder, Does, Explains, Helps, Refuses, RefusesCount, RefusesMade, Resolves, Runs, ShowsText, ShowsMade, ExplainsEach, HelpsAlone, HelpsByFlag, HelpsEach, ListsAll, RefusesNothing, RefusesNowhere, RefusesOtherCommands, RefusesOthers, RefusesSteps, RefusesWordBehind, RefusesWorkers, ResolvesAlone, RunsAsTold, RunsEach, ScriptsAlone, ScriptsEach, ServesAsTold, ServesEach, TellsVersion, around};
-ghost use Rattle.govisd.specs.Says.{RunsOut, SaysText, WritesAnswer};
+ghost use Rattle.govisd.specs.Runs.{ChecksEach, ChecksEachAsJson, ChecksEachModule, ChecksFolder, ChecksHere, Does, Explains, Helps, Refuses, RefusesValue, RefusesMade, Resolves, Runs, ShowsText, ShowsMade, ExplainsEach, ExplainsEachAsJson, HelpsAlone, HelpsByFlag, HelpsEach, ListsAll, ListsAllAsJson, RefusesNothing, RefusesNowhere, RefusesOtherCommands, RefusesOthers, RefusesSteps, RefusesWordBehind, RefusesWorkers, ResolvesAlone, RunsAsTold, RunsEach, ScriptsAlone, ScriptsEach, ServesAsTold, ServesEach, TellsVersion, around};
+ghost use Rattle.govisd.specs.Says.{RunsOut, SaysText, SaysUnwritten, WritesAnswer};
 
 use crate::daemons::{script, serve};
 use crate::launches::{Launches, launch};
@@ -16,11 +16,12 @@ use go_explain_core::{explained, listed, rule_named, unknown};
 use govisd_core::{ResolveEnd, run_resolve, write_report};
 use govisd_folders::{CheckAnswer, Order};
 use govisd_words::{
-    CountOption, Request, bad_count_text, command_help, end_status, end_text, program_help,
-    read_words, refusal_status, refused_text, unknown_command, version_text,
+    Request, ValueOption, bad_value_text, command_help, end_status, end_text, program_help,
+    read_words, refusal_status, refused_text, unknown_command, unwritten_text, version_text,
 };
 use std::alloc::{AllocError, Global};
 use std::convert::AsStr;
+use std::io;
 use std::io::{Read, Write};
 use std::net::{Net, TcpListener, TcpStream};
 use std::sync::Wait;
@@ -49,11 +50,12 @@ pub struct Ended<R: Drop, W: Drop> {
 
 /// What checks folders.
 pub trait Checks {
-    ghost use Rattle.std.specs.Prelude.{Bool, List, Option, ℕ};
+    ghost use Rattle.std.specs.Prelude.{List, Option, ℕ};
+    ghost use Rattle.go_folder_core.specs.declared.orders.Style.{Style as TheStyle};
     ghost use Rattle.govisd_folders.specs.declared.checking.CheckAnswer.{CheckAnswer as TheAnswer};
 
-    // what it may answer: by the folder, by whether JSON is asked for, and by the path of the module, if one is given; none for want of memory
-    ghost Answers: { Self → List ℕ → Bool → Option (List ℕ) → Option TheAnswer → Type 0 };
+    // what it may answer: by the folder, by how the faults are to be written, and by the path of the module, if one is given; none for want of memory
+    ghost Answers: { Self → List ℕ → TheStyle → Option (List ℕ) → Option TheAnswer → Type 0 };
 
     /// Checks the Go packages of a folder.
     ///
@@ -61,8 +63,8 @@ pub trait Checks {
     ///
     /// `AllocError` for want of memory.
     fn check(&self, order: &Order<'_>) -> Result<CheckAnswer, AllocError>
-        ensures answers { Answers self.now order.now.folder.now order.now.json (option_map (λ m. m.now) order.now.module_path) (result_ok result) }
-        ensures is { IfOk result (IsAnswerOfCheck order.now.folder.now order.now.json (option_map (λ m. m.now) order.now.module_path)) };
+        ensures answers { Answers self.now order.now.folder.now order.now.style (option_map (λ m. m.now) order.now.module_path) (result_ok result) }
+        ensures is { IfOk result (IsAnswerOfCheck order.now.folder.now order.now.style (option_map (λ m. m.now) order.now.module_path)) };
 }
 
 /// Writes what is to be said, and answers whether all of it was written.
@@ -89,18 +91,25 @@ fn resolve<R: Read, W: Write, E: Write>(
     }
 }
 
+// Says that what was asked for cannot be written; nothing where nobody reads it any more.
+fn say_unwritten<E: Write>(err: &mut E, kind: io::ErrorKind) -> Ran
+    ensures { SaysUnwritten result (E.contents err.old) (E.contents err.new) }
+{
+    let is_told = tell(err, unwritten_text(kind));
+    Ran { status: 1, is_told }
+}
+
 // Writes a text that was asked for, or says that it cannot be written.
 fn show<W: Write, E: Write>(out: &mut W, err: &mut E, text: &str) -> Ran
     ensures { ShowsText result text.now (W.contents out.old) (W.contents out.new) (E.contents err.old) (E.contents err.new) }
 {
-    if write_report(out, text.as_bytes()).is_ok() {
-        return Ran {
+    match write_report(out, text.as_bytes()) {
+        Ok(()) => Ran {
             status: 0,
             is_told: true,
-        };
+        },
+        Err(kind) => say_unwritten(err, kind),
     }
-    let is_told = tell(err, end_text(ResolveEnd::WriteFault));
-    Ran { status: 1, is_told }
 }
 
 /// Says that memory ran out.
@@ -134,19 +143,20 @@ fn refuse_name<E: Write>(err: &mut E, made: Result<String, AllocError>) -> Ran
     }
 }
 
-// Writes what a rule means, or the list of all.
+// Writes what a rule means, or the list of all, maybe as JSON.
 fn explain_rule<W: Write, E: Write>(
     alloc: Global,
     out: &mut W,
     err: &mut E,
     word: Option<&str>,
+    is_json: bool,
 ) -> Ran
-    ensures { Explains (option_map (λ w. w.now) word.entry) result (W.contents out.old) (W.contents out.new) (E.contents err.old) (E.contents err.new) }
+    ensures { Explains is_json (option_map (λ w. w.now) word.entry) result (W.contents out.old) (W.contents out.new) (E.contents err.old) (E.contents err.new) }
 {
     match word {
-        None => show_made(out, err, listed(alloc)),
+        None => show_made(out, err, listed(alloc, is_json)),
         Some(word) => match rule_named(word) {
-            Some(rule) => show_made(out, err, explained(alloc, rule)),
+            Some(rule) => show_made(out, err, explained(alloc, rule, is_json)),
             None => refuse_name(err, unknown(alloc, word)),
         },
     }
@@ -169,14 +179,15 @@ fn help<W: Write, E: Write>(alloc: Global, out: &mut W, err: &mut E, topic: Opti
 pub fn give<W: Write, E: Write>(out: &mut W, err: &mut E, answer: &CheckAnswer) -> Ran
     ensures { WritesAnswer answer.now result (W.contents out.old) (W.contents out.new) (E.contents err.old) (E.contents err.new) }
 {
-    if write_report(out, answer.text.as_bytes()).is_err() {
-        let is_told = tell(err, end_text(ResolveEnd::WriteFault));
-        return Ran { status: 1, is_told };
-    }
-    let is_told = tell(err, answer.said.as_str());
-    Ran {
-        status: answer.status,
-        is_told,
+    match write_report(out, answer.text.as_bytes()) {
+        Ok(()) => {
+            let is_told = tell(err, answer.said.as_str());
+            Ran {
+                status: answer.status,
+                is_told,
+            }
+        }
+        Err(kind) => say_unwritten(err, kind),
     }
 }
 
@@ -187,7 +198,7 @@ fn check<C: Checks, W: Write, E: Write>(
     err: &mut E,
     order: &Order<'_>,
 ) -> Ran
-    ensures { ChecksFolder (C.Answers checks.now) order.now.folder.now order.now.json (option_map (λ m. m.now) order.now.module_path) result (W.contents out.old) (W.contents out.new) (E.contents err.old) (E.contents err.new) }
+    ensures { ChecksFolder (C.Answers checks.now) order.now.folder.now order.now.style (option_map (λ m. m.now) order.now.module_path) result (W.contents out.old) (W.contents out.new) (E.contents err.old) (E.contents err.new) }
 {
     match checks.check(order) {
         Ok(answer) => give(out, err, &answer),
@@ -221,10 +232,10 @@ fn refuse<E: Write>(alloc: Global, err: &mut E, error: &Error) -> Ran
 }
 
 // Says that a number is none of those that are taken.
-fn refuse_count<E: Write>(err: &mut E, option: CountOption) -> Ran
-    ensures { RefusesCount option result (E.contents err.old) (E.contents err.new) }
+fn refuse_value<E: Write>(err: &mut E, option: ValueOption) -> Ran
+    ensures { RefusesValue option result (E.contents err.old) (E.contents err.new) }
 {
-    let is_told = tell(err, bad_count_text(option));
+    let is_told = tell(err, bad_value_text(option));
     Ran { status: 2, is_told }
 }
 
@@ -250,13 +261,13 @@ fn answer<
     match request {
         Request::Script(_) => unreachable!(),
         Request::Resolve => resolve(alloc, reader, out, err),
-        Request::Explain(word) => explain_rule(alloc, out, err, word),
+        Request::Explain(word, is_json) => explain_rule(alloc, out, err, word, is_json),
         Request::Check(order) => check(checks, out, err, &order),
         Request::Run(order) => launch(checks, out, err, &order),
         Request::Serve(daemon) => serve(rt, alloc, err, &daemon),
         Request::Help(topic) => help(alloc, out, err, topic),
         Request::Version => show(out, err, version_text()),
-        Request::BadCount(option) => refuse_count(err, option),
+        Request::BadValue(option) => refuse_value(err, option),
     }
 }
 
@@ -296,15 +307,18 @@ pub fn run<
     }
 }
 
-/// A law, with nothing to run: what a run of `explain` does for each rule, for a word that names none and without a word,
-/// one of `check` for each folder, also with the path of its module and as JSON, one of `help` for each command, for a word that names none and without
+/// A law, with nothing to run: what a run of `explain` does for each rule, for a word that names none and without a word, also as JSON,
+/// one of `check` alone and for each folder, also with the path of its module and as JSON, one of `help` for each command, for a word that names none and without
 /// a word, one of `resolve`, of `--help` and of `--version`, one of `script` alone and for each number of workers, one of `serve` for each address, also
 /// with numbers of workers and of connections, one of `run` for each folder, also with all that it takes, and that a line without a command is refused,
 /// as `resolve` with a word, `serve` without an address and `run` with a word for its number of steps are; whatever checks and runs folders.
 pub fn runs_answer_words<C: Checks + Launches>(_checks: &C)
     ensures each { ExplainsEach (around (C.Answers _checks.now) (C.Outcomes _checks.now)) }
+    ensures each_as_json { ExplainsEachAsJson (around (C.Answers _checks.now) (C.Outcomes _checks.now)) }
     ensures other { RefusesOthers (around (C.Answers _checks.now) (C.Outcomes _checks.now)) }
     ensures all { ListsAll (around (C.Answers _checks.now) (C.Outcomes _checks.now)) }
+    ensures all_as_json { ListsAllAsJson (around (C.Answers _checks.now) (C.Outcomes _checks.now)) }
+    ensures here { ChecksHere (around (C.Answers _checks.now) (C.Outcomes _checks.now)) }
     ensures folder { ChecksEach (around (C.Answers _checks.now) (C.Outcomes _checks.now)) }
     ensures of_module { ChecksEachModule (around (C.Answers _checks.now) (C.Outcomes _checks.now)) }
     ensures as_json { ChecksEachAsJson (around (C.Answers _checks.now) (C.Outcomes _checks.now)) }

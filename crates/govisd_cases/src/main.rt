@@ -9,7 +9,7 @@
 
 mod script;
 
-use govisd_folders::{Order, check_folder};
+use govisd_folders::{Color, Format, Order, Style, check_folder};
 use govisd_show::Lines;
 use std::alloc::{AllocError, Global};
 use std::process::ExitCode;
@@ -74,7 +74,12 @@ fn order_of<'a>(folder: &'a str, module_path: &'a str) -> Order<'a> {
     Order {
         folder,
         module_path: Some(module_path),
-        json: false,
+        style: Style {
+            format: Format::Text,
+            all: false,
+            color: Color::Never,
+            source: false,
+        },
     }
 }
 

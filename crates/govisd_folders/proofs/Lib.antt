@@ -1,6 +1,9 @@
 mod FindingLemmas
 mod FileNames
 mod FolderLemmas
+mod LineLemmas
 mod PuttingLemmas
 mod ReadingLemmas
+mod ReportLemmas
+mod SelectingLemmas
 mod TellingLemmas

@@ -1,17 +1,24 @@
 -- Faults that are written one behind another, each of the file in which it lies.
-use Rattle.std.proofs.Common.{◌≡◌, ◌∙◌, ℕ, ◌+◌, ◌-◌, ◌<◌, ◌≤◌, Bool, List, [], ◌∷◌, ◌++◌, length, drop, get_or, take, append_assoc, All, Option, Some, None, Result, Ok, Err, OnOk, refl, sym, ap, subst, arith}
-use Rattle.std.specs.Prelude.{option_and_then, option_map, slice_get}
+use Rattle.std.proofs.Common.{◌≡◌, ◌≢◌, ◌∙◌, ℕ, zero, suc, ◌+◌, ◌-◌, ◌<◌, ◌≤◌, ◌==◌, Bool, true, false, List, [], ◌∷◌, ◌++◌, length, drop, get_or, take, append_assoc, flat_map, All, Option, Some, None, Result, Ok, Err, OnOk, IfOk, refl, sym, ap, subst, arith}
+use Rattle.std.specs.Prelude.{option_and_then, option_map, slice_get, string_bytes}
+use Rattle.std.specs.List.{AllByRecursion}
 use Rattle.std.proofs.lemmas.List.{append-nil, length-drop, take_more, take_all}
+use Rattle.std.proofs.lemmas.List.Elements.{All-from_recursion, recursion_from_All}
+use Rattle.std.proofs.lemmas.Bool.{eqb-false, eqb-true}
 use Rattle.std.proofs.lemmas.Option.{none-some}
 use Rattle.std.proofs.Math.Seq.{take-add}
 use Rattle.go_text_core.specs.declared.rule.Rule.TheVariants.{L1}
-use Rattle.go_snap_core.specs.graph_core.Workspaces.{PackageModel}
-use Rattle.go_snap_core.specs.declared.fault.PlacedFault.{PlacedFault}
 use Rattle.go_folder_core.specs.Folders.{joined_path}
 use Rattle.go_folder_core.specs.Places.{IsPosition}
+use Rattle.go_snap_core.specs.graph_core.Workspaces.{PackageModel}
+use Rattle.go_snap_core.specs.declared.fault.PlacedFault.{PlacedFault}
 use Rattle.go_snap_core.specs.Faults.{LiesIn}
 use Rattle.go_snap_core.specs.graph_core.Sources.{SourceModel}
-use Rattle.govisd_folders.specs.Telling.{AddsFault, AddsLine, AddsLines, AreLines, IsFolderOf, IsLine, fault_text, source_at}
+use Rattle.govisd_folders.specs.Scopes.{ScopeModel, has_fault, is_shown, shown_in, source_at, told_by, told_if, told_in}
+use Rattle.govisd_folders.specs.Telling.{AddsFault, AddsLines, AddsOne, AreLines, IsFault, IsFolderOf, IsLine, LiesTold, file_text}
+use Rattle.go_cause_core.specs.declared.cause.Cause.{Cause}
+use Rattle.govisd_folders.specs.declared.looks.Look.{Look}
+use Rattle.govisd_folders.specs.declared.selecting.Told.{Told}
 
 -- what is made of an answer, by what the answer is
 
@@ -31,8 +38,8 @@ pub lies_somewhere : (ps : List PackageModel) (f : PlacedFault) → LiesIn ps f 
 lies_somewhere ps f h none = none-some _ (sym none ∙ source_there ps f h)
 
 -- a fault of a list, as code reads it
-abbrev pub fault_at : List PlacedFault → ℕ → PlacedFault
-fault_at faults i = get_or faults i (record { «package» = 0; file = 0; offset = 0; rule = L1 })
+abbrev pub told_at : List Told → ℕ → Told
+told_at faults i = get_or faults i (record { fault = record { «package» = 0; file = 0; offset = 0; rule = L1 }; root = None })
 
 -- faults of one file are found in the same
 pub source_beside : (ps : List PackageModel) (f g : PlacedFault) → f.«package» ≡ g.«package» → f.file ≡ g.file → source_at ps f ≡ source_at ps g
@@ -41,21 +48,67 @@ source_beside ps f g of_package of_file =
     ∙ ap (λ (n : ℕ). option_and_then (λ (p : PackageModel). option_map (λ s. (p.0, s)) (slice_get p.1 g.file)) (slice_get ps n)) of_package
 
 -- so many of the faults behind the first ones
-pub within_rest : (faults : List PlacedFault) (i n : ℕ) → n ≤ length (drop i faults) → i ≤ length faults → i + n ≤ length faults
+pub within_rest : (faults : List Told) (i n : ℕ) → n ≤ length (drop i faults) → i ≤ length faults → i + n ≤ length faults
 within_rest faults i n few within = close i n (length faults) (subst (λ k. n ≤ k) (length-drop i faults) few) within
   where
     close : (i n k : ℕ) → n ≤ k - i → i ≤ k → i + n ≤ k
     close i n k few within = omega arith
 
--- the faults of a snapshot, as they are read
-pub lie_in_these : (ps qs : List PackageModel) (faults these : List PlacedFault) → qs ≡ ps → these ≡ faults → All (LiesIn ps) faults → All (LiesIn qs) these
-lie_in_these ps qs faults these packages same h = subst (λ (fs : List PlacedFault). All (LiesIn qs) fs) (sym same) (subst (λ (rs : List PackageModel). All (LiesIn rs) faults) (sym packages) h)
+-- faults that lie in files do so where they are told of
+told_lie_in : (ps : List PackageModel) (every fs : List PlacedFault) (cs : List Cause) → AllByRecursion (LiesIn ps) fs → AllByRecursion (LiesTold ps) (told_by every fs cs)
+told_lie_in ps every [] cs h = tt
+told_lie_in ps every (f ∷ fs) [] h = tt
+told_lie_in ps every (f ∷ fs) (c ∷ cs) h = (h.0, told_lie_in ps every fs cs h.1)
 
--- the line of a fault
-module _ {X E : Type 0} (r : Result X E) (json : Bool) (own : List ℕ) (ps : List PackageModel) (f : PlacedFault) (path folder file text old new : List ℕ) (s : SourceModel) where
-  pub line_added : source_at ps f ≡ Some (path, s) → IsFolderOf own path folder → file ≡ joined_path folder s.name → text ≡ s.text → AddsFault json path file text f.offset f.rule old new → AddsLine json own ps f old new
-  line_added lies below named same h = (
-    fault_text json path file h.at f.offset f.rule,
+kept : (P : Told → Type 0) (q : Told → Bool) (ts : List Told) → AllByRecursion P ts → AllByRecursion P (flat_map (λ t. told_if (q t) t) ts)
+kept P q [] h = tt
+kept P q (t ∷ ts) h = by (q t) (kept P q ts h.1)
+  where
+    by : (b : Bool) → AllByRecursion P (flat_map (λ u. told_if (q u) u) ts) → AllByRecursion P (told_if b t ++ flat_map (λ u. told_if (q u) u) ts)
+    by true rest = (h.0, rest)
+    by false rest = rest
+
+pub told_lie : (ps : List PackageModel) (scope : ScopeModel) (faults : List PlacedFault) (cs : List Cause) → All (LiesIn ps) faults → All (LiesTold ps) (told_in scope ps (told_by faults faults cs))
+told_lie ps scope faults cs h =
+    All-from_recursion (LiesTold ps) _ (kept (LiesTold ps) (λ t. has_fault scope ps t.fault) _ (told_lie_in ps faults faults cs (recursion_from_All (LiesIn ps) faults h)))
+
+pub shown_lie : (ps : List PackageModel) (all : Bool) (scope : ScopeModel) (ts : List Told) → All (LiesTold ps) ts → All (LiesTold ps) (shown_in all scope ps ts)
+shown_lie ps all scope ts h = All-from_recursion (LiesTold ps) _ (kept (LiesTold ps) (is_shown all scope ps) ts (recursion_from_All (LiesTold ps) ts h))
+
+-- whether the next of some is the first
+abbrev pub next_first : Bool → List Told → Bool
+next_first is_first [] = is_first
+next_first is_first (t ∷ ts) = false
+
+never_first : (ts : List Told) → next_first false ts ≡ false
+never_first [] = refl
+never_first (t ∷ ts) = refl
+
+pub none_first : (is_first : Bool) (n : ℕ) (ts : List Told) → 1 ≤ n → n < length ts → false ≡ next_first is_first (take n ts)
+none_first is_first zero ts some lt = absurd (omega (arith, some))
+none_first is_first (suc n) [] some lt = absurd (omega (arith, lt))
+none_first is_first (suc n) (t ∷ ts) some lt = refl
+
+pub first_at : (n : ℕ) (ts : List Told) → n < length ts → (n == 0) ≡ next_first true (take n ts)
+first_at n ts lt = by (n == 0) refl
+  where
+    some : n ≢ 0 → 1 ≤ n
+    some h = at n h
+      where
+        at : (m : ℕ) → m ≢ 0 → 1 ≤ m
+        at zero h = absurd (h refl)
+        at (suc m) h = omega arith
+
+    by : (b : Bool) → (n == 0) ≡ b → (n == 0) ≡ next_first true (take n ts)
+    by true e = e ∙ sym (ap (λ m. next_first true (take m ts)) (eqb-true n 0 e))
+    by false e = e ∙ none_first true n ts (some (eqb-false n 0 e)) lt
+
+module _ (look : Look) (own given : List ℕ) (ps : List PackageModel) where
+  -- what is written of a fault
+  pub line_added : (is_first : Bool) (t : Told) (path folder file text old new : List ℕ) (s : SourceModel)
+      → source_at ps t.fault ≡ Some (path, s) → IsFolderOf own path folder → file ≡ file_text look.format given (joined_path folder s.name) → text ≡ s.text → AddsFault look path file text is_first t old new → AddsOne look own given ps is_first t old new
+  line_added is_first t path folder file text old new s lies below named same h = (
+    h.line,
     record {
       path = path;
       source = s;
@@ -64,52 +117,43 @@ module _ {X E : Type 0} (r : Result X E) (json : Bool) (own : List ℕ) (ps : Li
         folder = folder;
         below = below;
         at = h.at;
-        place = subst (λ t. IsPosition (take f.offset t) h.at) same h.place;
-        is = ap (λ t. fault_text json path t h.at f.offset f.rule) named;
+        place = subst (λ l. IsPosition (take t.fault.offset l) h.at) same h.place;
+        is = subst (λ f. IsFault look path f h.at is_first t h.line) named h.said;
       };
     },
     h.is,
   )
 
-  pub adds_placed : source_at ps f ≡ Some (path, s) → IsFolderOf own path folder → file ≡ joined_path folder s.name → text ≡ s.text → OnOk r (AddsFault json path file text f.offset f.rule old new) → OnOk r (AddsLine json own ps f old new)
-  adds_placed lies below named same h = by r h
-    where
-      by : (r : Result X E) → OnOk r (AddsFault json path file text f.offset f.rule old new) → OnOk r (AddsLine json own ps f old new)
-      by (Ok x) k = line_added lies below named same k
-      by (Err e) k = tt
-
-module _ (json : Bool) (own : List ℕ) (ps : List PackageModel) where
   -- one more line
-  lines_more : (fs : List PlacedFault) (f : PlacedFault) (text line : List ℕ) → AreLines json own ps fs text → IsLine json own ps f line → AreLines json own ps (fs ++ f ∷ []) (text ++ line)
-  lines_more [] f text line h is = (line, [], is, refl, ap (λ t. t ++ line) h ∙ sym (append-nil line))
-  lines_more (g ∷ fs) f text line h is =
-      (h.0, h.1 ++ line, h.2, lines_more fs f h.1 line h.3 is, ap (λ t. t ++ line) h.4 ∙ append_assoc h.0 h.1 line)
+  lines_more : (is_first : Bool) (ts : List Told) (t : Told) (text line : List ℕ) → AreLines look own given ps is_first ts text → IsLine look own given ps (next_first is_first ts) t line → AreLines look own given ps is_first (ts ++ t ∷ []) (text ++ line)
+  lines_more is_first [] t text line h is = (line, [], is, refl, ap (λ l. l ++ line) h ∙ sym (append-nil line))
+  lines_more is_first (u ∷ ts) t text line h is =
+      (h.0, h.1 ++ line, h.2, lines_more false ts t h.1 line h.3 (subst (λ b. IsLine look own given ps b t line) (sym (never_first ts)) is), ap (λ l. l ++ line) h.4 ∙ append_assoc h.0 h.1 line)
 
   -- none
-  pub adds_none : (start : List ℕ) → AddsLines json own ps [] start start
-  adds_none start = ([], refl, sym (append-nil start))
+  pub adds_none : (is_first : Bool) (start : List ℕ) → AddsLines look own given ps is_first [] start start
+  adds_none is_first start = ([], refl, sym (append-nil start))
 
   -- one more turn of a loop that writes faults
-  pub adds_more : (faults : List PlacedFault) (i : ℕ) (f : PlacedFault) (start mid new : List ℕ) → i < length faults → AddsLines json own ps (take i faults) start mid → AddsLine json own ps (get_or faults i f) mid new → AddsLines json own ps (take (i + 1) faults) start new
-  adds_more faults i f start mid new lt h k = (
+  pub adds_more : (is_first next : Bool) (ts : List Told) (i : ℕ) (t : Told) (start mid new : List ℕ) → i < length ts → next ≡ next_first is_first (take i ts) → AddsLines look own given ps is_first (take i ts) start mid → AddsOne look own given ps next (get_or ts i t) mid new → AddsLines look own given ps is_first (take (i + 1) ts) start new
+  adds_more is_first next ts i t start mid new lt same h k = (
     h.0 ++ k.0,
-    subst (λ l. AreLines json own ps l (h.0 ++ k.0)) (sym (take_more faults i f lt)) (lines_more (take i faults) (get_or faults i f) h.0 k.0 h.1 k.1),
-    k.2 ∙ ap (λ t. t ++ k.0) h.2 ∙ append_assoc start h.0 k.0,
+    subst (λ l. AreLines look own given ps is_first l (h.0 ++ k.0)) (sym (take_more ts i t lt))
+        (lines_more is_first (take i ts) (get_or ts i t) h.0 k.0 h.1 (subst (λ b. IsLine look own given ps b (get_or ts i t) k.0) same k.1)),
+    k.2 ∙ ap (λ l. l ++ k.0) h.2 ∙ append_assoc start h.0 k.0,
   )
 
-  -- the end of the loop
-  pub adds_all : (faults : List PlacedFault) (i : ℕ) (start new : List ℕ) → length faults ≤ i → AddsLines json own ps (take i faults) start new → AddsLines json own ps faults start new
-  adds_all faults i start new past h = subst (λ l. AddsLines json own ps l start new) (take_all i faults past) h
-
   -- the lines of some faults behind those of others
-  lines_joined : (fs gs : List PlacedFault) (text rest : List ℕ) → AreLines json own ps fs text → AreLines json own ps gs rest → AreLines json own ps (fs ++ gs) (text ++ rest)
-  lines_joined [] gs text rest h k = subst (λ t. AreLines json own ps gs (t ++ rest)) (sym h) k
-  lines_joined (f ∷ fs) gs text rest h k = (h.0, h.1 ++ rest, h.2, lines_joined fs gs h.1 rest h.3 k, ap (λ t. t ++ rest) h.4 ∙ append_assoc h.0 h.1 rest)
+  lines_joined : (is_first : Bool) (ts us : List Told) (text rest : List ℕ) → AreLines look own given ps is_first ts text → AreLines look own given ps (next_first is_first ts) us rest → AreLines look own given ps is_first (ts ++ us) (text ++ rest)
+  lines_joined is_first [] us text rest h k = subst (λ l. AreLines look own given ps is_first us (l ++ rest)) (sym h) k
+  lines_joined is_first (t ∷ ts) us text rest h k =
+      (h.0, h.1 ++ rest, h.2, lines_joined false ts us h.1 rest h.3 (subst (λ b. AreLines look own given ps b us rest) (sym (never_first ts)) k), ap (λ l. l ++ rest) h.4 ∙ append_assoc h.0 h.1 rest)
 
   -- the faults of one more file
-  pub adds_file : (faults : List PlacedFault) (i n : ℕ) (start mid new : List ℕ) → AddsLines json own ps (take i faults) start mid → AddsLines json own ps (take n (drop i faults)) mid new → AddsLines json own ps (take (i + n) faults) start new
-  adds_file faults i n start mid new h k = (
+  pub adds_file : (is_first next : Bool) (ts : List Told) (i n : ℕ) (start mid new : List ℕ) → next ≡ next_first is_first (take i ts) → AddsLines look own given ps is_first (take i ts) start mid → AddsLines look own given ps next (take n (drop i ts)) mid new → AddsLines look own given ps is_first (take (i + n) ts) start new
+  adds_file is_first next ts i n start mid new same h k = (
     h.0 ++ k.0,
-    subst (λ l. AreLines json own ps l (h.0 ++ k.0)) (sym (take-add i n faults)) (lines_joined (take i faults) (take n (drop i faults)) h.0 k.0 h.1 k.1),
-    k.2 ∙ ap (λ t. t ++ k.0) h.2 ∙ append_assoc start h.0 k.0,
+    subst (λ l. AreLines look own given ps is_first l (h.0 ++ k.0)) (sym (take-add i n ts))
+        (lines_joined is_first (take i ts) (take n (drop i ts)) h.0 k.0 h.1 (subst (λ b. AreLines look own given ps b (take n (drop i ts)) k.0) same k.1)),
+    k.2 ∙ ap (λ l. l ++ k.0) h.2 ∙ append_assoc start h.0 k.0,
   )

@@ -3,6 +3,7 @@ pub mod Finds
 pub mod Notes
 pub mod Puts
 pub mod Reads
+pub mod Scopes
 pub mod Telling
 pub mod emit_core
 pub mod part_core

@@ -31,13 +31,28 @@ abbrev pub IsTextRead : {Y : Type 0} → Result (String Y) Rule → Type 0
 IsTextRead (Ok text) = length (string_bytes text) ≤ 1048576
 IsTextRead (Err rule) = refuses_text rule ≡ true
 
--- a source file is kept by its name with a text, or one line names it and says why it is left out: its package has the most files already, its text is
+-- a source file that could not be read is kept by its name with a byte that no Go text has
+pub record KeepsUnread {Y Z : Type 0} (name : String Y) (files files' : List (String Y × String Z)) : Type 0 where
+  pub text : String Z
+  pub is : string_bytes text ≡ 0 ∷ []
+  pub kept : files' ≡ insert_entry string_cmp files name text
+
+-- and one line names it and says by which rule its text is refused, or why it cannot be read
+pub record RefusesFile {Y Z : Type 0} (rule : Rule) (own : List ℕ) (name : String Y) (files files' : List (String Y × String Z)) (left left' : List ℕ) : Type 0 where
+  pub kept : KeepsUnread name files files'
+  pub said : left' ≡ left ++ refusal_line own rule
+
+pub record MissesFile {Y Z : Type 0} (kind : ErrorKind) (own : List ℕ) (name : String Y) (files files' : List (String Y × String Z)) (left left' : List ℕ) : Type 0 where
+  pub kept : KeepsUnread name files files'
+  pub said : SaysUnread own kind left left'
+
+-- a source file is kept by its name with a text, or one line names it and says why it has none: its package has the most files already, its text is
 -- refused, or it cannot be read
 pub data TakesFile {Y Z : Type 0} (own : List ℕ) (name : String Y) (files files' : List (String Y × String Z)) (left left' : List ℕ) : Type 0 where
   IsOneTooMany : 256 ≤ length files → files' ≡ files → left' ≡ left ++ refusal_line own E4 → TakesFile own name files files' left left'
   IsKept : (text : String Z) → length (string_bytes text) ≤ 1048576 → length files < 256 → files' ≡ insert_entry string_cmp files name text → left' ≡ left → TakesFile own name files files' left left'
-  IsRefused : (rule : Rule) → refuses_text rule ≡ true → files' ≡ files → left' ≡ left ++ refusal_line own rule → TakesFile own name files files' left left'
-  IsUnread : (kind : ErrorKind) → files' ≡ files → SaysUnread own kind left left' → TakesFile own name files files' left left'
+  IsRefused : (rule : Rule) → refuses_text rule ≡ true → RefusesFile rule own name files files' left left' → TakesFile own name files files' left left'
+  IsUnread : (kind : ErrorKind) → MissesFile kind own name files files' left left' → TakesFile own name files files' left left'
 
 -- the folders with files, and what was counted, stay
 pub record Stays (old new : FoundFolders) : Type 0 where

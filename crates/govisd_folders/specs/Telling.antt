@@ -1,26 +1,53 @@
 -- How faults are written.
-use Rattle.std.specs.Prelude.{◌≡◌, ◌<◌, ◌==◌, ℕ, Bool, true, false, List, [], ◌∷◌, ◌++◌, length, take, Option, Some, codes, decimal, slice_get, option_and_then, option_map, if◌then◌else◌}
+use Rattle.std.specs.Prelude.{◌≡◌, ◌≢◌, ◌<◌, ◌-◌, ◌==◌, ℕ, Bool, true, false, nat_le, List, [], ◌∷◌, ◌++◌, get_or, length, take, Option, Some, codes, decimal, string_bytes, if◌then◌else◌}
 use Rattle.go_text_core.specs.Rules.{rule_number}
 use Rattle.go_text_core.specs.declared.rule.Rule.{Rule}
 use Rattle.go_explain_core.specs.Meanings.{rule_meaning}
 use Rattle.go_folder_core.specs.Folders.{joined_path}
 use Rattle.go_folder_core.specs.Places.{IsPosition}
+use Rattle.go_folder_core.specs.declared.orders.Format.{Format}
+use Rattle.go_folder_core.specs.declared.orders.Format.TheVariants as format
 use Rattle.go_folder_core.specs.declared.places.Position.{Position}
 use Rattle.go_snap_core.specs.graph_core.Sources.{SourceModel}
 use Rattle.go_snap_core.specs.graph_core.Workspaces.{PackageModel}
 use Rattle.go_snap_core.specs.declared.fault.PlacedFault.{PlacedFault}
+use Rattle.go_snap_core.specs.Faults.{LiesIn}
+use Rattle.go_cause_core.specs.Causes.{AreCauses}
+use Rattle.go_cause_core.specs.Names.{AreRepeated}
+use Rattle.govisd_folders.specs.Scopes.{ScopeModel, follows, joined_by, packages_in, shown_in, source_at, told_by, told_in}
+use Rattle.go_cause_core.specs.declared.cause.Cause.{Cause}
+use Rattle.govisd_folders.specs.declared.looks.Look.{Look}
+use Rattle.govisd_folders.specs.declared.selecting.Told.{Told}
+use Rattle.govisd_folders.specs.declared.telling.Report.{Report}
 
 -- a place of a file, as `cart/cart.go:7:9`
 abbrev pub position_text : List ℕ → Position → List ℕ
 position_text file at = file ++ codes ":" ++ decimal at.line ++ codes ":" ++ decimal at.column
 
--- a rule that is broken at a place: the place, the rule and what it means
-abbrev pub line_text : List ℕ → Position → Rule → List ℕ
-line_text file at rule = position_text file at ++ codes ": " ++ rule_number rule ++ codes " " ++ rule_meaning rule ++ codes "\n"
+-- what the line of a fault begins with: the place, and the number of the rule
+abbrev pub plain_front : List ℕ → Position → Rule → List ℕ
+plain_front file at rule = position_text file at ++ codes ": " ++ rule_number rule ++ codes " "
 
--- the same as a JSON object, with the package and the offset in bytes
-abbrev pub json_text : List ℕ → List ℕ → Position → ℕ → Rule → List ℕ
-json_text path file at offset rule =
+-- the same in colours of a terminal: the place is bold, and the number of the rule red
+abbrev pub bold_text : List ℕ
+bold_text = 27 ∷ codes "[1m"
+
+abbrev pub red_text : List ℕ
+red_text = 58 ∷ 27 ∷ 91 ∷ 48 ∷ 109 ∷ 32 ∷ 27 ∷ codes "[1;31m"
+
+abbrev pub plain_text : List ℕ
+plain_text = 27 ∷ codes "[0m "
+
+abbrev pub painted_front : List ℕ → Position → Rule → List ℕ
+painted_front file at rule = bold_text ++ position_text file at ++ red_text ++ rule_number rule ++ plain_text
+
+abbrev pub line_front : Bool → List ℕ → Position → Rule → List ℕ
+line_front true file at rule = painted_front file at rule
+line_front false file at rule = plain_front file at rule
+
+-- as a JSON object: the first members of it, which are the place, the rule and what it means, with the package and the offset in bytes
+abbrev pub json_front : List ℕ → List ℕ → Position → ℕ → Rule → List ℕ
+json_front path file at offset rule =
     codes "{\"column\":" ++ decimal at.column
     ++ codes ",\"file\":\"" ++ file
     ++ codes "\",\"line\":" ++ decimal at.line
@@ -28,69 +55,229 @@ json_text path file at offset rule =
     ++ codes "\",\"offset\":" ++ decimal offset
     ++ codes ",\"package\":\"" ++ path
     ++ codes "\",\"rule\":\"" ++ rule_number rule
-    ++ codes "\"}\n"
+    ++ codes "\""
 
--- in the form that is asked for
-abbrev pub fault_text : Bool → List ℕ → List ℕ → Position → ℕ → Rule → List ℕ
-fault_text true path file at offset rule = json_text path file at offset rule
-fault_text false path file at offset rule = line_text file at rule
+-- as a command of GitHub's workflows: what it begins with
+abbrev pub level_text : Bool → List ℕ
+level_text true = codes "::notice title="
+level_text false = codes "::error title="
 
--- a fault at an offset of a text is written behind what was there
-pub record AddsFault (json : Bool) (path file text : List ℕ) (offset : ℕ) (rule : Rule) (old new : List ℕ) : Type 0 where
+abbrev pub github_front : Bool → List ℕ → Position → Rule → List ℕ
+github_front follows file at rule =
+    level_text follows ++ rule_number rule ++ codes ",file=" ++ file ++ codes ",line=" ++ decimal at.line ++ codes ",col=" ++ decimal at.column
+
+-- as a result of SARIF: what it begins with
+abbrev pub result_text : Bool → List ℕ
+result_text true = codes "\",\"level\":\"note"
+result_text false = codes "\",\"level\":\"error"
+
+abbrev pub comma_text : Bool → List ℕ
+comma_text true = []
+comma_text false = codes ","
+
+abbrev pub sarif_front : Bool → Bool → List ℕ → Position → ℕ → Rule → List ℕ
+sarif_front is_first follows file at offset rule =
+    comma_text is_first
+    ++ codes "{\"ruleId\":\"" ++ rule_number rule
+    ++ result_text follows
+    ++ codes "\",\"locations\":[{\"physicalLocation\":{\"artifactLocation\":{\"uri\":\"" ++ file
+    ++ codes "\",\"uriBaseId\":\"%SRCROOT%\"},\"region\":{\"startLine\":" ++ decimal at.line
+    ++ codes ",\"byteOffset\":" ++ decimal offset
+
+-- no byte ends a line
+abbrev pub IsInLine : List ℕ → Type 0
+IsInLine words = (i : ℕ) → i < length words → get_or words i 0 ≢ 10
+
+-- words and the end of their line are written behind what was there
+pub record AddsWords (old new : List ℕ) : Type 0 where
+  pub words : List ℕ
+  pub one_line : IsInLine words
+  pub is : new ≡ old ++ (words ++ codes "\n")
+
+-- lines that begin with a blank
+pub data AreBelow : List ℕ → Type 0 where
+  IsNone : AreBelow []
+  HasMore : (words text : List ℕ) → IsInLine words → AreBelow text → AreBelow (text ++ (codes " " ++ (words ++ codes "\n")))
+
+abbrev pub AddsBelow : List ℕ → List ℕ → Type 0
+AddsBelow old new = (below : List ℕ) × AreBelow below × (new ≡ old ++ below)
+
+-- a line with a fault: what it begins with, and words
+pub record IsLineOf (front line : List ℕ) : Type 0 where
+  pub words : List ℕ
+  pub one_line : IsInLine words
+  pub is : line ≡ front ++ (words ++ codes "\n")
+
+-- the same with lines below it
+pub record IsTextOf (front text : List ℕ) : Type 0 where
+  pub line : List ℕ
+  pub first : IsLineOf front line
+  pub below : List ℕ
+  pub lines : AreBelow below
+  pub is : text ≡ line ++ below
+
+-- a fault in a form; of SARIF, whether it is the first
+abbrev pub IsForm : Format → Bool → Bool → Bool → List ℕ → List ℕ → Position → ℕ → Rule → List ℕ → Type 0
+IsForm format.Text color is_first follows path file at offset rule text = IsTextOf (line_front color file at rule) text
+IsForm format.Json color is_first follows path file at offset rule text = IsLineOf (json_front path file at offset rule) text
+IsForm format.Github color is_first follows path file at offset rule text = IsLineOf (github_front follows file at rule) text
+IsForm format.Sarif color is_first follows path file at offset rule text = IsLineOf (sarif_front is_first follows file at offset rule) text
+
+-- these are written behind what was there
+abbrev pub AddsLine : List ℕ → List ℕ → List ℕ → Type 0
+AddsLine front old new = (line : List ℕ) × IsLineOf front line × (new ≡ old ++ line)
+
+abbrev pub AddsText : List ℕ → List ℕ → List ℕ → Type 0
+AddsText front old new = (text : List ℕ) × IsTextOf front text × (new ≡ old ++ text)
+
+abbrev pub AddsForm : Format → Bool → Bool → Bool → List ℕ → List ℕ → Position → ℕ → Rule → List ℕ → List ℕ → Type 0
+AddsForm form color is_first follows path file at offset rule old new =
+    (text : List ℕ) × IsForm form color is_first follows path file at offset rule text × (new ≡ old ++ text)
+
+-- what is said at a place that has no fault: a line that begins with the place
+abbrev pub note_front : List ℕ → Position → List ℕ
+note_front file at = position_text file at ++ codes ": note: "
+
+pub record IsNote (line : List ℕ) : Type 0 where
+  pub file : List ℕ
   pub at : Position
-  pub place : IsPosition (take offset text) at
-  pub is : new ≡ old ++ fault_text json path file at offset rule
+  pub is : IsLineOf (note_front file at) line
 
--- the path of the folder of a package, from that of the module
+pub data AreNotes : List ℕ → Type 0 where
+  NoNote : AreNotes []
+  HasNote : (line text : List ℕ) → IsNote line → AreNotes text → AreNotes (text ++ line)
+
+pub record AddsNote (old new : List ℕ) : Type 0 where
+  pub file : List ℕ
+  pub at : Position
+  pub line : AddsLine (note_front file at) old new
+
+abbrev pub AddsNotes : List ℕ → List ℕ → Type 0
+AddsNotes old new = (notes : List ℕ) × AreNotes notes × (new ≡ old ++ notes)
+
+-- it is said in a text alone
+abbrev pub AreBeside : Format → List ℕ → Type 0
+AreBeside format.Text notes = AreNotes notes
+AreBeside format.Json notes = notes ≡ []
+AreBeside format.Github notes = notes ≡ []
+AreBeside format.Sarif notes = notes ≡ []
+
+abbrev pub AddsBeside : Format → List ℕ → List ℕ → Type 0
+AddsBeside format.Text old new = AddsNotes old new
+AddsBeside format.Json old new = new ≡ old
+AddsBeside format.Github old new = new ≡ old
+AddsBeside format.Sarif old new = new ≡ old
+
+-- a fault at its place in a text
+abbrev pub IsFault : Look → List ℕ → List ℕ → Position → Bool → Told → List ℕ → Type 0
+IsFault look path file at is_first t text = IsForm look.format look.color is_first (follows t) path file at t.fault.offset t.fault.rule text
+
+pub record AddsFault (look : Look) (path file text : List ℕ) (is_first : Bool) (t : Told) (old new : List ℕ) : Type 0 where
+  pub at : Position
+  pub place : IsPosition (take t.fault.offset text) at
+  pub line : List ℕ
+  pub said : IsFault look path file at is_first t line
+  pub is : new ≡ old ++ line
+
+-- the path of the folder of a package, from that of another
 abbrev pub IsFolderOf : List ℕ → List ℕ → List ℕ → Type 0
 IsFolderOf own path folder = (f : List ℕ) → 0 < length own → path ≡ joined_path own f → folder ≡ f
 
--- the path of the package and the file in which a fault lies, if there is such a file
-abbrev pub source_at : List PackageModel → PlacedFault → Option (List ℕ × SourceModel)
-source_at ps f = option_and_then (λ p. option_map (λ s. (p.0, s)) (slice_get p.1 f.file)) (slice_get ps f.«package»)
+-- the path of a file as it is written in a form: from the folder that is told of, or for other tools from where the program runs
+abbrev pub file_text : Format → List ℕ → List ℕ → List ℕ
+file_text format.Text given file = file
+file_text format.Json given file = file
+file_text format.Github given file = joined_path given file
+file_text format.Sarif given file = joined_path given file
 
--- what is written of a fault in a file of a package
-pub record IsTextOf (json : Bool) (own path : List ℕ) (s : SourceModel) (f : PlacedFault) (text : List ℕ) : Type 0 where
+-- a fault lies in a file of a package, and what is written of it
+pub record IsToldIn (look : Look) (own given path : List ℕ) (source : SourceModel) (is_first : Bool) (t : Told) (line : List ℕ) : Type 0 where
   pub folder : List ℕ
   pub below : IsFolderOf own path folder
   pub at : Position
-  pub place : IsPosition (take f.offset s.text) at
-  pub is : text ≡ fault_text json path (joined_path folder s.name) at f.offset f.rule
+  pub place : IsPosition (take t.fault.offset source.text) at
+  pub is : IsFault look path (file_text look.format given (joined_path folder source.name)) at is_first t line
 
--- what is written of a fault of a workspace, below a module: of the file in which it lies
-pub record IsLine (json : Bool) (own : List ℕ) (ps : List PackageModel) (f : PlacedFault) (line : List ℕ) : Type 0 where
+pub record IsLine (look : Look) (own given : List ℕ) (ps : List PackageModel) (is_first : Bool) (t : Told) (line : List ℕ) : Type 0 where
   pub path : List ℕ
   pub source : SourceModel
-  pub lies : source_at ps f ≡ Some (path, source)
-  pub text : IsTextOf json own path source f line
+  pub lies : source_at ps t.fault ≡ Some (path, source)
+  pub text : IsToldIn look own given path source is_first t line
 
--- of faults, one line for each, one behind another
-abbrev pub AreLines : Bool → List ℕ → List PackageModel → List PlacedFault → List ℕ → Type 0
-AreLines json own ps [] text = text ≡ []
-AreLines json own ps (f ∷ fs) text = (line rest : List ℕ) × IsLine json own ps f line × AreLines json own ps fs rest × (text ≡ line ++ rest)
+-- of faults, one behind another, where nothing or something stands in front of them
+abbrev pub AreLines : Look → List ℕ → List ℕ → List PackageModel → Bool → List Told → List ℕ → Type 0
+AreLines look own given ps is_first [] text = text ≡ []
+AreLines look own given ps is_first (t ∷ ts) text =
+    (line rest : List ℕ) × IsLine look own given ps is_first t line × AreLines look own given ps false ts rest × (text ≡ line ++ rest)
 
 -- they are written behind what was there
-abbrev pub AddsLine : Bool → List ℕ → List PackageModel → PlacedFault → List ℕ → List ℕ → Type 0
-AddsLine json own ps f old new = (line : List ℕ) × IsLine json own ps f line × (new ≡ old ++ line)
+abbrev pub AddsOne : Look → List ℕ → List ℕ → List PackageModel → Bool → Told → List ℕ → List ℕ → Type 0
+AddsOne look own given ps is_first t old new = (line : List ℕ) × IsLine look own given ps is_first t line × (new ≡ old ++ line)
 
-abbrev pub AddsLines : Bool → List ℕ → List PackageModel → List PlacedFault → List ℕ → List ℕ → Type 0
-AddsLines json own ps fs old new = (text : List ℕ) × AreLines json own ps fs text × (new ≡ old ++ text)
+abbrev pub AddsLines : Look → List ℕ → List ℕ → List PackageModel → Bool → List Told → List ℕ → List ℕ → Type 0
+AddsLines look own given ps is_first ts old new = (text : List ℕ) × AreLines look own given ps is_first ts text × (new ≡ old ++ text)
 
--- how many faults there are in how many packages
+-- a fault that is told of lies in a file of the workspace
+abbrev pub LiesTold : List PackageModel → Told → Type 0
+LiesTold ps t = LiesIn ps t.fault
+
+-- how many faults there are in how many packages, and how many of them are not shown
 abbrev pub faults_text : ℕ → List ℕ
 faults_text n = if n == 0 then codes "no faults" else (if n == 1 then codes "1 fault" else decimal n ++ codes " faults")
 
 abbrev pub packages_text : ℕ → List ℕ
 packages_text n = if n == 1 then codes "1 package" else decimal n ++ codes " packages"
 
-abbrev pub count_text : ℕ → ℕ → List ℕ
-count_text faults packages = faults_text faults ++ codes " in " ++ packages_text packages ++ codes "\n"
+abbrev pub several_text : ℕ → List ℕ
+several_text n = codes "; " ++ decimal n ++ codes " of them follow from these (--all shows them)"
 
--- what stands behind the faults
-abbrev pub ending_text : Bool → ℕ → ℕ → List ℕ
-ending_text true faults packages = []
-ending_text false faults packages = count_text faults packages
+abbrev pub hidden_text : ℕ → List ℕ
+hidden_text n = if n == 0 then [] else (if n == 1 then codes "; 1 of them follows from these (--all shows it)" else several_text n)
 
--- the faults of a workspace below a module, as they are written
-abbrev pub AreTold : Bool → List ℕ → List PackageModel → List PlacedFault → List ℕ → Type 0
-AreTold json own ps fs text = (lines : List ℕ) × AreLines json own ps fs lines × (text ≡ lines ++ ending_text json (length fs) (length ps))
+abbrev pub full_text : ℕ → List ℕ
+full_text shown = if nat_le shown 300 then [] else codes "The first 300 faults are told in full, of the others what their rules mean\n"
+
+abbrev pub count_text : ℕ → ℕ → ℕ → List ℕ
+count_text faults shown packages =
+    full_text shown ++ faults_text faults ++ codes " in " ++ packages_text packages ++ hidden_text (faults - shown) ++ codes "\n"
+
+-- what stands before the faults, and behind them
+abbrev pub head_text : Format → List ℕ
+head_text format.Sarif = codes "{\"$schema\":\"https://json.schemastore.org/sarif-2.1.0.json\",\"version\":\"2.1.0\",\"runs\":[{\"tool\":{\"driver\":{\"name\":\"govisd\",\"version\":\"0.1.0\"}},\"columnKind\":\"unicodeCodePoints\",\"results\":[\n"
+head_text _ = []
+
+abbrev pub ending_text : Format → ℕ → ℕ → ℕ → List ℕ
+ending_text format.Text faults shown packages = count_text faults shown packages
+ending_text format.Json faults shown packages = []
+ending_text format.Github faults shown packages = []
+ending_text format.Sarif faults shown packages = codes "]}]}\n"
+
+-- all faults are written: where that is asked for, and as JSON
+abbrev pub all_in : Format → Bool → Bool
+all_in format.Json all = true
+all_in _ all = all
+
+abbrev pub shows_all : Look → Bool
+shows_all look = all_in look.format look.all
+
+-- a report on so many faults, of which these are shown, and that lie in so many packages, is written behind what was there: each of those once, in order,
+-- what is said beside, and how many faults there are
+pub record AddsReport (look : Look) (own given : List ℕ) (ps : List PackageModel) (told : ℕ) (shown : List Told) (packages : ℕ) (old new : List ℕ) : Type 0 where
+  pub lines : List ℕ
+  pub are : AreLines look own given ps true shown lines
+  pub beside : List ℕ
+  pub notes : AreBeside look.format beside
+  pub is : new ≡ old ++ head_text look.format ++ lines ++ beside ++ ending_text look.format told (length shown) packages
+
+-- faults of a workspace that are told of: a report is written on those that are shown
+pub record IsReport (look : Look) (scope : ScopeModel) (given : List ℕ) (ps : List PackageModel) (told : List Told) (r : Report) : Type 0 where
+  pub text : AddsReport look scope.0 given ps (length told) (shown_in (shows_all look) scope ps told) (length (packages_in scope ps)) [] (string_bytes r.text)
+  pub faults : r.faults ≡ length told
+
+-- the faults of a workspace: those that lie in a scope are told of, by which follow from which, and by which are of one name that is not declared
+pub record AreTold (look : Look) (scope : ScopeModel) (given : List ℕ) (ps : List PackageModel) (faults : List PlacedFault) (r : Report) : Type 0 where
+  pub causes : List Cause
+  pub are : AreCauses faults causes
+  pub repeated : List (Option ℕ)
+  pub names : AreRepeated faults repeated
+  pub report : IsReport look scope given ps (told_in scope ps (told_by faults faults (joined_by causes repeated))) r

@@ -1,16 +1,18 @@
 //! From a folder to its faults.
-ghost use Rattle.std.specs.Prelude.{◌≡◌, ◌++◌, IfOk, option_map, string_bytes};
+ghost use Rattle.std.specs.Prelude.{◌≡◌, List, ℕ, IfOk, option_map, string_bytes};
 ghost use Rattle.go_snap_core.specs.Snapshots.{IsSnapshot};
-ghost use Rattle.govisd_folders.specs.Checks.{IsAnswerOfCheck, IsAnswerOn, WorkspaceIsChecked, status_of};
+ghost use Rattle.govisd_folders.specs.Checks.{IsAnswerOfCheck, IsAnswerOn, SnapshotIsTold, WorkspaceIsChecked, notes_status, status_of};
 ghost use Rattle.govisd_folders.specs.Finds.{read_shown};
 
-use crate::finding::{ReadFolder, read_folder};
+use crate::finding::{FoundPackages, ReadFolder, read_folder};
+use crate::looks::{Look, look_of};
 use crate::notes::push;
 use crate::progress::Progress;
-use crate::telling::told;
-use go_folder_core::Order;
+use crate::scopes::Scope;
+use crate::telling::{Page, Report, told};
+use go_folder_core::{Order, named_folder};
 use go_snap_core::graph_core::Workspace;
-use go_snap_core::{PlacedFault, Snapshot, compile, faults_lie_in_files};
+use go_snap_core::{Snapshot, compile};
 use std::alloc::{AllocError, Global};
 
 /// What came of the check of a folder, or of a run of its program.
@@ -24,34 +26,38 @@ pub struct CheckAnswer {
     pub said: String,
 }
 
-// The status of a check that found these faults, with notes on what was left out.
-fn check_status(faults: &[PlacedFault], notes: &str) -> u8
-    ensures { result ≡ status_of faults.now notes.now }
+// The status where there is no fault, with notes on what was left out.
+fn notes_status(notes: &str) -> u8
+    ensures { result ≡ notes_status notes.now }
 {
-    if !faults.is_empty() {
-        return 1;
+    if notes.is_empty() {
+        return 0;
     }
-    if !notes.is_empty() {
-        return 1;
+    1
+}
+
+// The status of a check that found so many faults, with notes on what was left out.
+fn check_status(faults: usize, notes: &str) -> u8
+    ensures { result ≡ status_of faults notes.now }
+{
+    if faults == 0 {
+        return notes_status(notes);
     }
-    0
+    1
 }
 
 // The answer on a snapshot.
 fn answer_from(
     alloc: Global,
-    json: bool,
-    module_path: &str,
+    page: &Page<'_>,
     snapshot: &Snapshot,
     notes: &str,
     passed: &str,
 ) -> Result<CheckAnswer, AllocError>
     requires { IsSnapshot snapshot.now.sources snapshot.now.parts snapshot.now.faults }
-    ensures { IfOk result (λ a. WorkspaceIsChecked json module_path.now snapshot.now.sources notes.now passed.now a) }
+    ensures { IfOk result (λ a. SnapshotIsTold page.now.look (page.now.scope.package.now, page.now.scope.file.now) page.now.given.now snapshot.now.sources snapshot.now.faults notes.now passed.now a) }
 {
-    faults_lie_in_files();
-    let faults = snapshot.faults();
-    let text = told(alloc, json, module_path, snapshot.sources(), faults)?;
+    let Report { text, faults } = told(alloc, page, snapshot)?;
     let mut said = String::from_str(alloc, notes)?;
     push(&mut said, passed)?;
     Ok(CheckAnswer {
@@ -64,21 +70,79 @@ fn answer_from(
 // Checks the packages of a workspace.
 fn check_workspace(
     alloc: Global,
-    json: bool,
-    module_path: &str,
+    page: &Page<'_>,
     workspace: &Workspace,
     notes: &str,
     passed: &str,
 ) -> Result<CheckAnswer, AllocError>
-    ensures { IfOk result (λ a. WorkspaceIsChecked json module_path.now workspace.now notes.now passed.now a) }
+    ensures { IfOk result (λ a. WorkspaceIsChecked page.now.look (page.now.scope.package.now, page.now.scope.file.now) page.now.given.now workspace.now notes.now passed.now a) }
 {
     let snapshot = compile(alloc, workspace)?;
-    answer_from(alloc, json, module_path, &snapshot, notes, passed)
+    answer_from(alloc, page, &snapshot, notes, passed)
+}
+
+// The folder that a word names, as it stands before the paths of its files: nothing for the one that the program runs in; of a file, its folder.
+fn given_folder<'a>(given: &'a str, file: &str) -> &'a str {
+    let given = given.strip_prefix("./").unwrap_or(given);
+    if file.is_empty() {
+        if given == "." {
+            return "";
+        }
+        return given.strip_suffix('/').unwrap_or(given);
+    }
+    match given.rsplit_once('/') {
+        Some((folder, _)) => folder,
+        None => "",
+    }
+}
+
+// Whether a byte may stand in the path of a file as it is, in each form.
+fn is_plain_byte(byte: u8) -> bool {
+    byte.is_ascii_alphanumeric() || byte == b'/' || byte == b'.' || byte == b'_' || byte == b'-'
+}
+
+// A path that may stand in each form as it is, or nothing in its place.
+fn plain_path(path: &str) -> &str {
+    if path.as_bytes().iter().all(|byte| is_plain_byte(*byte)) {
+        return path;
+    }
+    ""
+}
+
+// The answer on the packages of a folder.
+fn answer_of(
+    alloc: Global,
+    look: Look,
+    given: &str,
+    found: &FoundPackages,
+) -> Result<CheckAnswer, AllocError>
+    ensures { IfOk result (λ a. (given : List ℕ) × WorkspaceIsChecked look (string_bytes found.now.told, string_bytes found.now.file) given found.now.workspace (string_bytes found.now.notes) (string_bytes found.now.passed) a) }
+{
+    let page = Page {
+        look,
+        scope: Scope {
+            package: found.told.as_str(),
+            file: found.file.as_str(),
+        },
+        given: plain_path(given_folder(given, found.file.as_str())),
+    };
+    check_workspace(
+        alloc,
+        &page,
+        &found.workspace,
+        found.notes.as_str(),
+        found.passed.as_str(),
+    )
 }
 
 // The answer on what came of the reading of a folder.
-fn answer_on(alloc: Global, json: bool, read: ReadFolder) -> Result<CheckAnswer, AllocError>
-    ensures { IfOk result (λ a. IsAnswerOn json (read_shown read) a) }
+fn answer_on(
+    alloc: Global,
+    look: Look,
+    given: &str,
+    read: ReadFolder,
+) -> Result<CheckAnswer, AllocError>
+    ensures { IfOk result (λ a. IsAnswerOn look (read_shown read) a) }
 {
     match read {
         ReadFolder::Refused(said) => Ok(CheckAnswer {
@@ -86,14 +150,7 @@ fn answer_on(alloc: Global, json: bool, read: ReadFolder) -> Result<CheckAnswer,
             text: String::new(alloc),
             said,
         }),
-        ReadFolder::Found(found) => check_workspace(
-            alloc,
-            json,
-            found.module_path.as_str(),
-            &found.workspace,
-            found.notes.as_str(),
-            found.passed.as_str(),
-        ),
+        ReadFolder::Found(found) => answer_of(alloc, look, given, &found),
     }
 }
 
@@ -103,14 +160,16 @@ fn check_read(
     order: &Order<'_>,
     progress: &mut Progress<'_>,
 ) -> Result<CheckAnswer, AllocError>
-    ensures { IfOk result (IsAnswerOfCheck order.now.folder.now order.now.json (option_map (λ m. m.now) order.now.module_path)) }
+    ensures { IfOk result (IsAnswerOfCheck order.now.folder.now order.now.style (option_map (λ m. m.now) order.now.module_path)) }
 {
     let read = read_folder(rt, order.folder, order.module_path, progress)?;
-    answer_on(rt.alloc(), order.json, read)
+    let look = look_of(rt, order.style);
+    answer_on(rt.alloc(), look, named_folder(order.folder), read)
 }
 
 /// Checks the Go packages of a folder: each `.go` file in it that is a source file of a package by its name is read, each package is
-/// compiled among all others, and the answer tells every fault with its place. Nothing is written into the folder. Where standard error is a
+/// compiled among all others of its module, and the answer tells each fault that follows from no other with its place, or all of them. Nothing is
+/// written into the folder. Where standard error is a
 /// terminal, a line there says how far it is: from the moment a second has passed while files are read or parsed, and from the end of the reading
 /// where more than 4,000,000 bytes of source were read.
 ///
@@ -118,7 +177,7 @@ fn check_read(
 ///
 /// `AllocError` for want of memory.
 pub fn check_folder(rt: &HostRuntime, order: &Order<'_>) -> Result<CheckAnswer, AllocError>
-    ensures { IfOk result (IsAnswerOfCheck order.now.folder.now order.now.json (option_map (λ m. m.now) order.now.module_path)) }
+    ensures { IfOk result (IsAnswerOfCheck order.now.folder.now order.now.style (option_map (λ m. m.now) order.now.module_path)) }
 {
     let mut progress = Progress::begin(rt);
     let answer = check_read(rt, order, &mut progress);

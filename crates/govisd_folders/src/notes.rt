@@ -1,7 +1,8 @@
 //! What is said beside the answer: lines, each of which names what lies at a path.
-ghost use Rattle.std.specs.Prelude.{◌≡◌, ◌++◌, IfOk, OnOk, decimal, false, string_bytes};
+ghost use Rattle.std.specs.Prelude.{◌≡◌, ◌<◌, ◌/◌, ◌%◌, ◌++◌, IfOk, OnOk, codes, decimal, encode_utf8, false, flat_map, string_bytes};
 ghost use Rattle.std.specs.IoError.{error_kind};
-ghost use Rattle.govisd_folders.specs.Notes.{SaysUnread, counts_line, none_passed, note_line, passed_line, refusal_line, name_or_quotes, wants_memory};
+ghost use Rattle.std.specs.List.{list_any};
+ghost use Rattle.govisd_folders.specs.Notes.{SaysUnread, counts_line, hex_digit, is_control, name_byte, name_or_quotes, none_passed, note_line, passed_line, quoted_name, refusal_line, stands_plain, told_name, wants_memory};
 
 use go_explain_core::meaning;
 use go_text_core::Rule;
@@ -31,6 +32,105 @@ pub fn push_number(alloc: Global, text: &mut String, number: usize) -> Result<()
     push(text, digits.as_str())
 }
 
+// Whether a byte is one of a control character.
+fn is_control(byte: u8) -> bool
+    ensures { result ≡ is_control byte }
+{
+    byte < 32 || byte == 127
+}
+
+// Whether a name has a control character.
+fn has_control(name: &[u8]) -> bool
+    ensures { result ≡ list_any is_control name.now }
+{
+    name.iter().any(|byte| is_control(*byte))
+}
+
+// Whether a byte stands for itself in quotation marks.
+fn stands_plain(byte: u8) -> bool
+    ensures { result ≡ stands_plain byte }
+{
+    if byte < 32 {
+        return false;
+    }
+    if byte > 126 {
+        return false;
+    }
+    if byte == b'"' {
+        return false;
+    }
+    if byte == b'\\' {
+        return false;
+    }
+    true
+}
+
+// The hexadecimal digit of a number: `a` has the code 97.
+fn hex_digit(number: u8) -> char
+    requires { number < 16 }
+    ensures { result ≡ hex_digit number }
+{
+    if number < 10 {
+        return char::from(b'0' + number);
+    }
+    char::from(87 + number)
+}
+
+// Adds a character.
+fn push_char(text: &mut String, letter: char) -> Result<(), AllocError>
+    ensures { OnOk result (string_bytes text.new ≡ string_bytes text.old ++ encode_utf8 letter) }
+{
+    text.push(letter)
+}
+
+// Adds a byte by its hexadecimal digits.
+fn push_escaped(text: &mut String, byte: u8) -> Result<(), AllocError>
+    ensures { OnOk result (string_bytes text.new ≡ string_bytes text.old ++ (codes "\\x" ++ encode_utf8 (hex_digit (byte / 16)) ++ encode_utf8 (hex_digit (byte % 16)))) }
+{
+    push(text, "\\x")?;
+    push_char(text, hex_digit(byte / 16))?;
+    push_char(text, hex_digit(byte % 16))
+}
+
+// Adds a byte of a name in quotation marks.
+fn push_name_byte(text: &mut String, byte: u8) -> Result<(), AllocError>
+    ensures { OnOk result (string_bytes text.new ≡ string_bytes text.old ++ name_byte byte) }
+{
+    if stands_plain(byte) {
+        return push_char(text, char::from(byte));
+    }
+    push_escaped(text, byte)
+}
+
+// Adds the bytes of a name in quotation marks.
+fn push_name_bytes(text: &mut String, name: &[u8]) -> Result<(), AllocError>
+    ensures { OnOk result (string_bytes text.new ≡ string_bytes text.old ++ flat_map name_byte name.now) }
+{
+    for byte in name {
+        push_name_byte(text, *byte)?;
+    }
+    Ok(())
+}
+
+// Adds a name in quotation marks.
+fn push_quoted(text: &mut String, name: &[u8]) -> Result<(), AllocError>
+    ensures { OnOk result (string_bytes text.new ≡ string_bytes text.old ++ quoted_name name.now) }
+{
+    push(text, "\"")?;
+    push_name_bytes(text, name)?;
+    push(text, "\"")
+}
+
+// Adds a name: where it has a control character, in quotation marks.
+fn push_name(text: &mut String, name: &str) -> Result<(), AllocError>
+    ensures { OnOk result (string_bytes text.new ≡ string_bytes text.old ++ told_name name.now) }
+{
+    if has_control(name.as_bytes()) {
+        return push_quoted(text, name.as_bytes());
+    }
+    push(text, name)
+}
+
 /// Adds a line: what is wrong with what lies at a path.
 ///
 /// # Errors
@@ -40,7 +140,7 @@ pub fn note(notes: &mut String, path: &str, what: &str) -> Result<(), AllocError
     ensures { OnOk result (string_bytes notes.new ≡ string_bytes notes.old ++ note_line path.now what.now) }
 {
     push(notes, "govisd: ")?;
-    push(notes, path)?;
+    push_name(notes, path)?;
     push(notes, ": ")?;
     push(notes, what)?;
     push(notes, "\n")
@@ -107,7 +207,7 @@ pub fn note_rule(notes: &mut String, path: &str, rule: Rule) -> Result<(), Alloc
     ensures { OnOk result (string_bytes notes.new ≡ string_bytes notes.old ++ refusal_line path.now rule) }
 {
     push(notes, "govisd: ")?;
-    push(notes, path)?;
+    push_name(notes, path)?;
     push(notes, ": ")?;
     push(notes, rule.number())?;
     push(notes, " ")?;

@@ -1,7 +1,8 @@
 //! The source files below a folder.
 ghost use Rattle.std.specs.Prelude.{◌≡◌, ◌≤◌, OnOk, IfOk, length, string_bytes};
+ghost use Rattle.std.specs.IoError.{error_kind};
 ghost use Rattle.go_folder_core.specs.Names.{kind_of_file, passed_over};
-ghost use Rattle.govisd_folders.specs.Reads.{AddsEntry, AddsLooked, EntersFolder, IsTextRead, LinksFolder, PassesFile, PassesFolder, TakesFile, TakesOther, TakesSource, begins_with_dot, one_more};
+ghost use Rattle.govisd_folders.specs.Reads.{AddsEntry, AddsLooked, EntersFolder, IsTextRead, KeepsUnread, LinksFolder, MissesFile, PassesFile, PassesFolder, RefusesFile, TakesFile, TakesOther, TakesSource, begins_with_dot, one_more};
 
 use crate::notes::{is_memory, note, note_rule, note_unread};
 use crate::progress::Progress;
@@ -17,6 +18,9 @@ const MAX_DEPTH: usize = 16;
 
 /// The greatest number of bytes of a text.
 const MAX_BYTES: usize = 1_048_576;
+
+/// What stands for the text of a file that could not be read: no Go text has this byte.
+pub(crate) const STAND_IN: &str = "\u{0}";
 
 /// The source files of a folder: its path from the one that is checked, and the texts by their names.
 #[derive(Drop)]
@@ -49,11 +53,12 @@ enum EntryKind {
     Other,
 }
 
-/// The folder that is checked: the system that it is read by, and its path.
+/// The folder that is read: the system that it is read by, its path, and its name as it is said.
 #[derive(Clone, Copy)]
 struct CheckedFolder<'a> {
     rt: &'a HostRuntime,
     root: &'a str,
+    name: &'a str,
 }
 
 fn kind_of(metadata: &Metadata) -> EntryKind {
@@ -132,7 +137,7 @@ fn names_in(
 }
 
 /// The text of the file at a path, or the rule that refuses it.
-fn text_at(rt: &HostRuntime, path: &str) -> io::Result<Result<String, Rule>>
+pub(crate) fn text_at(rt: &HostRuntime, path: &str) -> io::Result<Result<String, Rule>>
     ensures { IfOk result IsTextRead }
 {
     let most = u64::try_from(MAX_BYTES).unwrap_or(u64::MAX);
@@ -149,7 +154,52 @@ fn text_at(rt: &HostRuntime, path: &str) -> io::Result<Result<String, Rule>>
     }
 }
 
-/// Adds the text of a source file, or says why it is left out.
+/// Keeps a source file whose text could not be read, with what stands for that.
+fn keep_unread(
+    alloc: Global,
+    files: &mut BTreeMap<String, String>,
+    name: String,
+) -> Result<(), AllocError>
+    ensures { OnOk result (KeepsUnread name files.old.entries files.new.entries) }
+{
+    let text = String::from_str(alloc, STAND_IN)?;
+    match files.insert(name, text) {
+        Ok(_) => Ok(()),
+        Err(_) => Err(AllocError),
+    }
+}
+
+/// Says which rule refuses the text of a source file.
+fn refuse_file(
+    alloc: Global,
+    files: &mut BTreeMap<String, String>,
+    left_out: &mut String,
+    name: String,
+    own: &str,
+    rule: Rule,
+) -> Result<(), AllocError>
+    ensures { OnOk result (RefusesFile rule own.now name files.old.entries files.new.entries (string_bytes left_out.old) (string_bytes left_out.new)) }
+{
+    note_rule(left_out, own, rule)?;
+    keep_unread(alloc, files, name)
+}
+
+/// Says why a source file cannot be read.
+fn miss_file(
+    alloc: Global,
+    files: &mut BTreeMap<String, String>,
+    left_out: &mut String,
+    name: String,
+    own: &str,
+    error: &io::Error,
+) -> Result<(), AllocError>
+    ensures { OnOk result (MissesFile (error_kind error.now) own.now name files.old.entries files.new.entries (string_bytes left_out.old) (string_bytes left_out.new)) }
+{
+    note_unread(alloc, left_out, own, error)?;
+    keep_unread(alloc, files, name)
+}
+
+/// Adds the text of a source file, or says why it has none. A file that could not be read stays in its package, which is not checked then.
 fn add_file(
     rt: &HostRuntime,
     files: &mut BTreeMap<String, String>,
@@ -172,8 +222,8 @@ fn add_file(
                 Err(_) => Err(AllocError),
             }
         }
-        Ok(Err(rule)) => note_rule(left_out, own, rule),
-        Err(error) => note_unread(rt.alloc(), left_out, own, &error),
+        Ok(Err(rule)) => refuse_file(rt.alloc(), files, left_out, name, own, rule),
+        Err(error) => miss_file(rt.alloc(), files, left_out, name, own, &error),
     }
 }
 
@@ -355,7 +405,7 @@ fn add_folder(
     let alloc = checked.rt.alloc();
     let path = below(alloc, checked.root, folder.as_str())?;
     let said = if folder.as_str().is_empty() {
-        "."
+        checked.name
     } else {
         folder.as_str()
     };
@@ -404,13 +454,14 @@ fn add_all(
     Ok(())
 }
 
-/// The source files of the folder at a path, and of all folders in it but those that are passed over.
+/// The source files of the folder at a path, which has a name as it is said, and of all folders in it but those that are passed over.
 ///
 /// # Errors
 ///
 /// `AllocError` for want of memory.
 pub fn found_below(
     rt: &HostRuntime,
+    name: &str,
     root: &str,
     progress: &mut Progress<'_>,
 ) -> Result<FoundFolders, AllocError> {
@@ -422,7 +473,7 @@ pub fn found_below(
         passed_folders: 0,
         bytes: 0,
     };
-    add_all(CheckedFolder { rt, root }, &mut found, progress)?;
+    add_all(CheckedFolder { rt, root, name }, &mut found, progress)?;
     progress.read_all(found.folders.len(), found.bytes);
     Ok(found)
 }

@@ -1,119 +1,270 @@
 //! How faults are written.
-ghost use Rattle.std.specs.Prelude.{◌≡◌, ◌++◌, ◌<◌, ◌≤◌, All, List, ℕ, IfOk, IsTrue, OnOk, length, option_map, string_bytes, take};
+ghost use Rattle.std.specs.Prelude.{◌≡◌, ◌++◌, ◌-◌, ◌<◌, ◌≤◌, [], All, IfOk, IsTrue, OnOk, length, option_map, string_bytes, take, true};
 ghost use Rattle.go_folder_core.specs.Folders.{joined_path};
 ghost use Rattle.go_snap_core.specs.Faults.{LiesIn};
-ghost use Rattle.govisd_folders.specs.Telling.{AddsFault, AddsLines, AreTold, count_text, faults_text, json_text, line_text, packages_text, position_text, source_at};
+ghost use Rattle.go_snap_core.specs.Snapshots.{IsSnapshot};
+ghost use Rattle.govisd_folders.specs.Scopes.{packages_in, shown_in, source_at, told_by, told_in};
+ghost use Rattle.govisd_folders.specs.Telling.{AddsFault, AddsLines, AddsReport, AreTold, IsReport, LiesTold, count_text, ending_text, faults_text, file_text, full_text, head_text, hidden_text, packages_text, several_text, shows_all};
 
+use crate::lines::{push_beside, push_form};
+use crate::looks::Look;
 use crate::notes::{push, push_number};
-use go_explain_core::meaning;
-use go_folder_core::{LineCounter, Position, below};
-use go_snap_core::PlacedFault;
-use go_snap_core::graph_core::{SourceFile, Workspace};
+use crate::reading::STAND_IN;
+use crate::scopes::{Scope, packages_in, source_of};
+use crate::selecting::{Told, follows, joined_by, shown_in, told_by, told_in};
+use crate::spots::{Spot, folder_of, push_fault_place, push_fault_spot};
+use crate::unused::{Beside, unused_in};
+use crate::words::{Words, words_of};
+use go_cause_core::{Cause, causes, repeated_names};
+use go_folder_core::{Format, LineCounter, Position, below};
+use go_message_core::{LineKind, Message, MessageLine, message_below};
+use go_snap_core::graph_core::SourceFile;
+use go_snap_core::{PlacedFault, Snapshot, faults_lie_in_files};
 use go_text_core::Rule;
 use std::alloc::{AllocError, Global};
 
-// The path of a package's folder from that of the module, where the package lies below the module.
-fn folder_of<'a>(module_path: &str, package: &'a str) -> &'a str
-    ensures { (folder : List ℕ) → 0 < length module_path.now → «package».now ≡ joined_path module_path.now folder → result.now ≡ folder }
-{
-    match package.strip_prefix(module_path) {
-        Some(behind) => match behind.strip_prefix('/') {
-            Some(folder) => folder,
-            None => "",
-        },
-        None => "",
+/// Of how many faults the message is told; of others, what the rule means.
+const IN_FULL: usize = 300;
+
+/// How many bytes may be gone through for the messages of a file: each goes through the whole file.
+const MESSAGE_BYTES: usize = 20_000_000;
+
+/// Of how many faults the line of the source is shown.
+const WITH_SOURCE: usize = 50;
+
+/// At how many other places of a name that is not declared it is said that it stands there, too.
+const OTHER_PLACES: usize = 3;
+
+/// What faults are written of, and how.
+#[derive(Clone, Copy)]
+pub struct Page<'a> {
+    /// How.
+    pub look: Look,
+    /// The part of the module that is told of.
+    pub scope: Scope<'a>,
+    /// The path of the folder as it was given, for tools that read paths from where the program runs; or nothing.
+    pub given: &'a str,
+}
+
+// Adds a line to a message.
+fn add_note(message: &mut Message, text: String) -> Result<(), AllocError> {
+    message.lines.push(MessageLine {
+        kind: LineKind::Note,
+        text,
+        fits: false,
+    })?;
+    Ok(())
+}
+
+// That a fault follows from another.
+fn note_root(
+    alloc: Global,
+    page: &Page<'_>,
+    snapshot: &Snapshot,
+    message: &mut Message,
+    root: PlacedFault,
+) -> Result<(), AllocError> {
+    let mut text = String::from_str(alloc, "follows from ")?;
+    push_fault_place(alloc, &mut text, &page.scope, snapshot.sources(), root)?;
+    add_note(message, text)
+}
+
+// Whether a fault is of the name that another one is of, at another place.
+fn is_of_name(told: Told, first: PlacedFault) -> bool {
+    if follows(told) {
+        return false;
+    }
+    match told.root {
+        Some(root) => {
+            root.package == first.package && root.file == first.file && root.offset == first.offset
+        }
+        None => false,
     }
 }
 
-// Adds a place, as `a.go:7:9`.
-fn push_place(alloc: Global, out: &mut String, file: &str, at: Position) -> Result<(), AllocError>
-    ensures { OnOk result (string_bytes out.new ≡ string_bytes out.old ++ position_text file.now at) }
-{
-    push(out, file)?;
-    push(out, ":")?;
-    push_number(alloc, out, at.line)?;
-    push(out, ":")?;
-    push_number(alloc, out, at.column)
+// How many places are left out of a list.
+fn push_left(alloc: Global, text: &mut String, left: usize) -> Result<(), AllocError> {
+    if left == 0 {
+        return Ok(());
+    }
+    push(text, " and ")?;
+    push_number(alloc, text, left)?;
+    push(
+        text,
+        if left == 1 {
+            " other place"
+        } else {
+            " other places"
+        },
+    )
 }
 
-// Adds the line of a fault.
-fn push_line(
+// At which other places a name stands that is told of once, if there are any.
+fn other_places(
     alloc: Global,
-    out: &mut String,
-    file: &str,
-    at: Position,
-    rule: Rule,
-) -> Result<(), AllocError>
-    ensures { OnOk result (string_bytes out.new ≡ string_bytes out.old ++ line_text file.now at rule) }
-{
-    push_place(alloc, out, file, at)?;
-    push(out, ": ")?;
-    push(out, rule.number())?;
-    push(out, " ")?;
-    push(out, meaning(rule))?;
-    push(out, "\n")
+    page: &Page<'_>,
+    snapshot: &Snapshot,
+    every: &[Told],
+    first: PlacedFault,
+) -> Result<Option<String>, AllocError> {
+    let mut text = String::from_str(alloc, "also at")?;
+    let mut places: usize = 0;
+    let mut left: usize = 0;
+    for other in every {
+        if is_of_name(*other, first) {
+            if places < OTHER_PLACES {
+                push(&mut text, if places == 0 { " " } else { ", " })?;
+                push_fault_spot(
+                    alloc,
+                    &mut text,
+                    &page.scope,
+                    snapshot.sources(),
+                    other.fault,
+                )?;
+                places = places.saturating_add(1);
+            } else {
+                left = left.saturating_add(1);
+            }
+        }
+    }
+    if places == 0 {
+        return Ok(None);
+    }
+    push_left(alloc, &mut text, left)?;
+    Ok(Some(text))
 }
 
-// Adds the JSON object of a fault.
-fn push_json(
+// Adds what a fault follows from, or at which other places its name stands.
+fn note_others(
     alloc: Global,
-    out: &mut String,
-    package: &str,
-    file: &str,
-    at: Position,
-    offset: usize,
-    rule: Rule,
-) -> Result<(), AllocError>
-    ensures { OnOk result (string_bytes out.new ≡ string_bytes out.old ++ json_text «package».now file.now at offset rule) }
-{
-    push(out, "{\"column\":")?;
-    push_number(alloc, out, at.column)?;
-    push(out, ",\"file\":\"")?;
-    push(out, file)?;
-    push(out, "\",\"line\":")?;
-    push_number(alloc, out, at.line)?;
-    push(out, ",\"meaning\":\"")?;
-    push(out, meaning(rule))?;
-    push(out, "\",\"offset\":")?;
-    push_number(alloc, out, offset)?;
-    push(out, ",\"package\":\"")?;
-    push(out, package)?;
-    push(out, "\",\"rule\":\"")?;
-    push(out, rule.number())?;
-    push(out, "\"}\n")
+    page: &Page<'_>,
+    snapshot: &Snapshot,
+    every: &[Told],
+    told: Told,
+    message: &mut Message,
+) -> Result<(), AllocError> {
+    if let Some(root) = told.root {
+        if follows(told) {
+            return note_root(alloc, page, snapshot, message, root);
+        }
+    }
+    if told.fault.rule == Rule::N1 && !page.look.all {
+        if let Some(text) = other_places(alloc, page, snapshot, every, told.fault)? {
+            return add_note(message, text);
+        }
+    }
+    Ok(())
 }
 
-// Adds a fault in a file, in one of the two forms. The lines of the file are counted on from the last place that was asked for.
+// What is said of a file that could not be read.
+fn of_unread(alloc: Global) -> Result<Message, AllocError> {
+    Ok(Message {
+        headline: String::from_str(
+            alloc,
+            "this file could not be read: standard error says why",
+        )?,
+        lines: Vec::new(alloc),
+    })
+}
+
+// The message of a fault, which says what the fault follows from; as JSON a member says so.
+fn message_of(
+    alloc: Global,
+    page: &Page<'_>,
+    snapshot: &Snapshot,
+    every: &[Told],
+    text: &str,
+    told: Told,
+) -> Result<Message, AllocError> {
+    let module = page.scope.package;
+    let mut message = if text == STAND_IN && told.fault.rule == Rule::L1 {
+        of_unread(alloc)?
+    } else {
+        message_below(alloc, snapshot, module, &told.fault)?
+    };
+    if page.look.format != Format::Json {
+        note_others(alloc, page, snapshot, every, told, &mut message)?;
+    }
+    Ok(message)
+}
+
+// Whether the message of the fault of a number is told, where so many bytes are in its file.
+fn is_in_full(number: usize, bytes: usize) -> bool {
+    number < IN_FULL && number.saturating_mul(bytes) < MESSAGE_BYTES
+}
+
+// What is said of the fault of a number behind its place and its rule: of the first ones what their messages say.
+fn words_at(
+    alloc: Global,
+    page: &Page<'_>,
+    snapshot: &Snapshot,
+    every: &[Told],
+    text: &str,
+    at: Position,
+    told: Told,
+    number: usize,
+) -> Result<Words, AllocError> {
+    let is_read = text != STAND_IN;
+    let spot = Spot {
+        text: if is_read { text } else { "" },
+        at,
+        offset: told.fault.offset,
+        rule: told.fault.rule,
+    };
+    let look = Look {
+        source: page.look.source && is_read && number < WITH_SOURCE,
+        ..page.look
+    };
+    let scope = &page.scope;
+    let workspace = snapshot.sources();
+    if is_in_full(number, text.len()) {
+        let message = message_of(alloc, page, snapshot, every, text, told)?;
+        return words_of(alloc, look, scope, workspace, &spot, told, Some(&message));
+    }
+    words_of(alloc, look, scope, workspace, &spot, told, None)
+}
+
+// Adds the fault of a number, behind others or as the first. The lines of its file are counted on from the last place that was asked for.
 fn push_fault(
     alloc: Global,
     out: &mut String,
-    json: bool,
+    page: &Page<'_>,
+    snapshot: &Snapshot,
+    every: &[Told],
     package: &str,
     file: &str,
+    text: &str,
     lines: &mut LineCounter<'_>,
-    fault: PlacedFault,
+    told: Told,
+    number: usize,
+    is_first: bool,
 ) -> Result<(), AllocError>
-    ensures added { OnOk result (AddsFault json «package».now file.now lines.old fault.offset fault.rule (string_bytes out.old) (string_bytes out.new)) }
+    ensures added { OnOk result (AddsFault page.now.look «package».now file.now lines.old is_first told (string_bytes out.old) (string_bytes out.new)) }
     ensures text { lines.new ≡ lines.old }
 {
-    let at = lines.position_of(fault.offset);
-    if json {
-        return push_json(alloc, out, package, file, at, fault.offset, fault.rule);
-    }
-    push_line(alloc, out, file, at, fault.rule)
+    let at = lines.position_of(told.fault.offset);
+    let words = words_at(alloc, page, snapshot, every, text, at, told, number)?;
+    push_form(
+        alloc,
+        out,
+        page.look.format,
+        page.look.color,
+        is_first,
+        follows(told),
+        package,
+        file,
+        at,
+        told.fault.offset,
+        told.fault.rule,
+        &words,
+    )
 }
 
-// The path of the package and the file in which a fault lies, if there is such a file.
-fn source_of<'a>(workspace: &'a Workspace, fault: PlacedFault) -> Option<(&'a str, &'a SourceFile)>
-    ensures { option_map (λ s. (s.0.now, s.1.now)) result ≡ source_at workspace.now fault }
+// The path of the package and the file in which a fault lies, if there is such a file in a snapshot.
+fn source_in(snapshot: &Snapshot, fault: PlacedFault) -> Option<(&str, &SourceFile)>
+    ensures { option_map (λ s. (s.0.now, s.1.now)) result ≡ source_at snapshot.now.sources fault }
 {
-    match workspace.packages().get(fault.package) {
-        Some(package) => match package.files().get(fault.file) {
-            Some(file) => Some((package.path().as_str(), file)),
-            None => None,
-        },
-        None => None,
-    }
+    source_of(snapshot.sources(), fault)
 }
 
 // Whether two faults lie in the same file.
@@ -123,56 +274,112 @@ fn is_beside(one: PlacedFault, other: PlacedFault) -> bool
     one.package == other.package && one.file == other.file
 }
 
-// Adds the first of these faults and those that follow it in the same file, whose lines are counted once. Answers how many they are.
+// The path of a file as it is written in a form: from the folder, or for other tools from where the program runs.
+fn file_text(alloc: Global, format: Format, given: &str, file: &str) -> Result<String, AllocError>
+    ensures { IfOk result (λ path. string_bytes path ≡ file_text format given.now file.now) }
+{
+    match format {
+        Format::Text => String::from_str(alloc, file),
+        Format::Json => String::from_str(alloc, file),
+        Format::Github => below(alloc, given, file),
+        Format::Sarif => below(alloc, given, file),
+    }
+}
+
+// Adds the first of these faults and those that follow it in the same file, whose lines are counted once. Answers how many they are. So many faults
+// stand before them.
 fn push_file(
     alloc: Global,
     out: &mut String,
-    json: bool,
-    module_path: &str,
-    workspace: &Workspace,
-    faults: &[PlacedFault],
+    page: &Page<'_>,
+    snapshot: &Snapshot,
+    every: &[Told],
+    faults: &[Told],
+    before: usize,
+    is_first: bool,
 ) -> Result<usize, AllocError>
     requires some { 0 < length faults.now }
-    requires inside { All (LiesIn workspace.now) faults.now }
+    requires inside { All (LiesTold snapshot.now.sources) faults.now }
     ensures some { IfOk result (λ count. 0 < count) }
     ensures within { IfOk result (λ count. count ≤ length faults.now) }
-    ensures added { IfOk result (λ count. AddsLines json module_path.now workspace.now (take count faults.now) (string_bytes out.old) (string_bytes out.new)) }
+    ensures added { IfOk result (λ count. AddsLines page.now.look page.now.scope.package.now page.now.given.now snapshot.now.sources is_first (take count faults.now) (string_bytes out.old) (string_bytes out.new)) }
 {
     let first = faults[0];
-    let Some((path, source)) = source_of(workspace, first) else {
+    let Some((path, source)) = source_in(snapshot, first.fault) else {
         unreachable!()
     };
-    let file = below(alloc, folder_of(module_path, path), source.name())?;
-    let mut lines = LineCounter::new(source.text());
-    push_fault(alloc, out, json, path, file.as_str(), &mut lines, first)?;
+    let behind = below(alloc, folder_of(page.scope.package, path), source.name())?;
+    let file = file_text(alloc, page.look.format, page.given, behind.as_str())?;
+    let text = source.text();
+    let mut lines = LineCounter::new(text);
+    push_fault(
+        alloc,
+        out,
+        page,
+        snapshot,
+        every,
+        path,
+        file.as_str(),
+        text,
+        &mut lines,
+        first,
+        before,
+        is_first,
+    )?;
     for place in 1..faults.len() {
-        let fault = faults[place];
-        if !is_beside(fault, first) {
+        let told = faults[place];
+        if !is_beside(told.fault, first.fault) {
             return Ok(place);
         }
-        push_fault(alloc, out, json, path, file.as_str(), &mut lines, fault)?;
+        push_fault(
+            alloc,
+            out,
+            page,
+            snapshot,
+            every,
+            path,
+            file.as_str(),
+            text,
+            &mut lines,
+            told,
+            before.saturating_add(place),
+            false,
+        )?;
     }
     Ok(faults.len())
 }
 
-// Adds the faults of a workspace.
+// Adds faults.
 fn push_all(
     alloc: Global,
     out: &mut String,
-    json: bool,
-    module_path: &str,
-    workspace: &Workspace,
-    faults: &[PlacedFault],
+    page: &Page<'_>,
+    snapshot: &Snapshot,
+    every: &[Told],
+    faults: &[Told],
 ) -> Result<(), AllocError>
-    requires { All (LiesIn workspace.now) faults.now }
-    ensures { OnOk result (AddsLines json module_path.now workspace.now faults.now (string_bytes out.old) (string_bytes out.new)) }
+    requires { All (LiesTold snapshot.now.sources) faults.now }
+    ensures { OnOk result (AddsLines page.now.look page.now.scope.package.now page.now.given.now snapshot.now.sources true faults.now (string_bytes out.old) (string_bytes out.new)) }
 {
     let mut told = 0;
     'turns: while told < faults.len() {
         let (_, rest) = faults.split_at(told);
-        told += push_file(alloc, out, json, module_path, workspace, rest)?;
+        told += push_file(alloc, out, page, snapshot, every, rest, told, told == 0)?;
     }
     Ok(())
+}
+
+// Adds what stands before the faults.
+fn push_head(out: &mut String, format: Format) -> Result<(), AllocError>
+    ensures { OnOk result (string_bytes out.new ≡ string_bytes out.old ++ head_text format) }
+{
+    match format {
+        Format::Sarif => push(
+            out,
+            "{\"$schema\":\"https://json.schemastore.org/sarif-2.1.0.json\",\"version\":\"2.1.0\",\"runs\":[{\"tool\":{\"driver\":{\"name\":\"govisd\",\"version\":\"0.1.0\"}},\"columnKind\":\"unicodeCodePoints\",\"results\":[\n",
+        ),
+        _ => push(out, ""),
+    }
 }
 
 // Adds how many faults there are.
@@ -200,41 +407,242 @@ fn push_packages(alloc: Global, out: &mut String, packages: usize) -> Result<(),
     push(out, " packages")
 }
 
-// Adds the line that says how many faults there are in how many packages.
+// Adds how many faults are not shown, where there are several.
+fn push_several(alloc: Global, out: &mut String, hidden: usize) -> Result<(), AllocError>
+    ensures { OnOk result (string_bytes out.new ≡ string_bytes out.old ++ several_text hidden) }
+{
+    push(out, "; ")?;
+    push_number(alloc, out, hidden)?;
+    push(out, " of them follow from these (--all shows them)")
+}
+
+// Adds how many faults are not shown, where there are any.
+fn push_hidden(alloc: Global, out: &mut String, hidden: usize) -> Result<(), AllocError>
+    ensures { OnOk result (string_bytes out.new ≡ string_bytes out.old ++ hidden_text hidden) }
+{
+    if hidden == 0 {
+        return push(out, "");
+    }
+    if hidden == 1 {
+        return push(out, "; 1 of them follows from these (--all shows it)");
+    }
+    push_several(alloc, out, hidden)
+}
+
+// Adds that only the first faults are told in full, where there are more.
+fn push_full(out: &mut String, shown: usize) -> Result<(), AllocError>
+    ensures { OnOk result (string_bytes out.new ≡ string_bytes out.old ++ full_text shown) }
+{
+    if shown <= IN_FULL {
+        return push(out, "");
+    }
+    push(
+        out,
+        "The first 300 faults are told in full, of the others what their rules mean\n",
+    )
+}
+
+// How many of some faults are not shown.
+fn hidden_of(faults: usize, shown: usize) -> usize
+    ensures { result ≡ faults - shown }
+{
+    faults.saturating_sub(shown)
+}
+
+// Adds the lines behind the faults: how many there are in how many packages, and how many of them are not shown.
 fn push_count(
     alloc: Global,
     out: &mut String,
     faults: usize,
+    shown: usize,
     packages: usize,
 ) -> Result<(), AllocError>
-    ensures { OnOk result (string_bytes out.new ≡ string_bytes out.old ++ count_text faults packages) }
+    ensures { OnOk result (string_bytes out.new ≡ string_bytes out.old ++ count_text faults shown packages) }
 {
+    push_full(out, shown)?;
     push_faults(alloc, out, faults)?;
     push(out, " in ")?;
     push_packages(alloc, out, packages)?;
+    push_hidden(alloc, out, hidden_of(faults, shown))?;
     push(out, "\n")
 }
 
-/// The faults of the packages below a module, as they are written: one line for each, and behind the lines how many there are.
-/// As JSON each is one object in a line, and nothing stands behind.
+// Adds what stands behind the faults.
+fn push_end(
+    alloc: Global,
+    out: &mut String,
+    format: Format,
+    faults: usize,
+    shown: usize,
+    packages: usize,
+) -> Result<(), AllocError>
+    ensures { OnOk result (string_bytes out.new ≡ string_bytes out.old ++ ending_text format faults shown packages) }
+{
+    match format {
+        Format::Text => push_count(alloc, out, faults, shown, packages),
+        Format::Json => push(out, ""),
+        Format::Github => push(out, ""),
+        Format::Sarif => push(out, "]}]}\n"),
+    }
+}
+
+// Whether all faults are written: where that is asked for, and as JSON.
+fn shows_all(look: Look) -> bool
+    ensures { result ≡ shows_all look }
+{
+    match look.format {
+        Format::Json => true,
+        _ => look.all,
+    }
+}
+
+/// What is written of the faults of a snapshot that are told of, and how many they are.
+#[derive(Drop)]
+pub struct Report {
+    /// What is written.
+    pub text: String,
+    /// How many faults are told of, whether they are written or not.
+    pub faults: usize,
+}
+
+// Adds a report on some faults, of which these are shown, and that lie in so many packages.
+fn push_report(
+    alloc: Global,
+    out: &mut String,
+    page: &Page<'_>,
+    snapshot: &Snapshot,
+    every: &[Told],
+    faults: usize,
+    shown: &[Told],
+    notes: &[Beside],
+    packages: usize,
+) -> Result<(), AllocError>
+    requires { All (LiesTold snapshot.now.sources) shown.now }
+    ensures { OnOk result (AddsReport page.now.look page.now.scope.package.now page.now.given.now snapshot.now.sources faults shown.now packages (string_bytes out.old) (string_bytes out.new)) }
+{
+    let count = shown.len();
+    push_head(out, page.look.format)?;
+    push_all(alloc, out, page, snapshot, every, shown)?;
+    push_beside(alloc, out, page.look.format, notes)?;
+    push_end(alloc, out, page.look.format, faults, count, packages)
+}
+
+// How many packages are told of.
+fn package_count(alloc: Global, page: &Page<'_>, snapshot: &Snapshot) -> Result<usize, AllocError>
+    ensures { IfOk result (λ n. n ≡ length (packages_in (page.now.scope.package.now, page.now.scope.file.now) snapshot.now.sources)) }
+{
+    let paths = packages_in(alloc, &page.scope, snapshot.sources().packages())?;
+    Ok(paths.len())
+}
+
+// What is said beside the faults, where a person reads it.
+fn notes_of(
+    alloc: Global,
+    page: &Page<'_>,
+    snapshot: &Snapshot,
+) -> Result<Vec<Beside>, AllocError> {
+    match page.look.format {
+        Format::Text => unused_in(alloc, &page.scope, snapshot),
+        _ => Ok(Vec::new(alloc)),
+    }
+}
+
+// What is written of some faults.
+fn report_text(
+    alloc: Global,
+    page: &Page<'_>,
+    snapshot: &Snapshot,
+    every: &[Told],
+    faults: usize,
+    shown: &[Told],
+    packages: usize,
+) -> Result<String, AllocError>
+    requires { All (LiesTold snapshot.now.sources) shown.now }
+    ensures { IfOk result (λ text. AddsReport page.now.look page.now.scope.package.now page.now.given.now snapshot.now.sources faults shown.now packages [] (string_bytes text)) }
+{
+    let notes = notes_of(alloc, page, snapshot)?;
+    let mut text = String::new(alloc);
+    push_report(
+        alloc,
+        &mut text,
+        page,
+        snapshot,
+        every,
+        faults,
+        shown,
+        notes.as_slice(),
+        packages,
+    )?;
+    Ok(text)
+}
+
+// Those of some faults that are shown.
+fn shown_of(
+    alloc: Global,
+    page: &Page<'_>,
+    snapshot: &Snapshot,
+    faults: &[Told],
+) -> Result<Vec<Told>, AllocError>
+    ensures { IfOk result (λ shown. shown.items ≡ shown_in (shows_all page.now.look) (page.now.scope.package.now, page.now.scope.file.now) snapshot.now.sources faults.now) }
+{
+    let is_all = shows_all(page.look);
+    shown_in(alloc, is_all, &page.scope, snapshot.sources(), faults)
+}
+
+// A report on some faults.
+fn report_on(
+    alloc: Global,
+    page: &Page<'_>,
+    snapshot: &Snapshot,
+    faults: &[Told],
+) -> Result<Report, AllocError>
+    requires { All (LiesTold snapshot.now.sources) faults.now }
+    ensures { IfOk result (IsReport page.now.look (page.now.scope.package.now, page.now.scope.file.now) page.now.given.now snapshot.now.sources faults.now) }
+{
+    let count = faults.len();
+    let packages = package_count(alloc, page, snapshot)?;
+    let shown = shown_of(alloc, page, snapshot, faults)?;
+    let text = report_text(
+        alloc,
+        page,
+        snapshot,
+        faults,
+        count,
+        shown.as_slice(),
+        packages,
+    )?;
+    Ok(Report {
+        text,
+        faults: count,
+    })
+}
+
+// The faults of a snapshot that are told of, by where its faults stand among the causes.
+fn faults_of(
+    alloc: Global,
+    page: &Page<'_>,
+    snapshot: &Snapshot,
+    causes: &[Cause],
+) -> Result<Vec<Told>, AllocError>
+    ensures { IfOk result (λ told. told.items ≡ told_in (page.now.scope.package.now, page.now.scope.file.now) snapshot.now.sources (told_by snapshot.now.faults snapshot.now.faults causes.now)) }
+{
+    let all = told_by(alloc, snapshot.faults(), causes)?;
+    told_in(alloc, &page.scope, snapshot.sources(), all.as_slice())
+}
+
+/// The faults of a snapshot that are told of, as they are written.
 ///
 /// # Errors
 ///
 /// `AllocError` for want of memory.
-pub fn told(
-    alloc: Global,
-    json: bool,
-    module_path: &str,
-    workspace: &Workspace,
-    faults: &[PlacedFault],
-) -> Result<String, AllocError>
-    requires { All (LiesIn workspace.now) faults.now }
-    ensures { IfOk result (λ text. AreTold json module_path.now workspace.now faults.now (string_bytes text)) }
+pub fn told(alloc: Global, page: &Page<'_>, snapshot: &Snapshot) -> Result<Report, AllocError>
+    requires { IsSnapshot snapshot.now.sources snapshot.now.parts snapshot.now.faults }
+    ensures { IfOk result (AreTold page.now.look (page.now.scope.package.now, page.now.scope.file.now) page.now.given.now snapshot.now.sources snapshot.now.faults) }
 {
-    let mut out = String::new(alloc);
-    push_all(alloc, &mut out, json, module_path, workspace, faults)?;
-    if !json {
-        push_count(alloc, &mut out, faults.len(), workspace.packages().len())?;
-    }
-    Ok(out)
+    faults_lie_in_files();
+    let causes = causes(alloc, snapshot)?;
+    let repeated = repeated_names(alloc, snapshot)?;
+    let joined = joined_by(alloc, causes.as_slice(), repeated.as_slice())?;
+    let faults = faults_of(alloc, page, snapshot, joined.as_slice())?;
+    report_on(alloc, page, snapshot, faults.as_slice())
 }

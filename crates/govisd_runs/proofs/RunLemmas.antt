@@ -1,5 +1,5 @@
 -- What follows of what a call answers.
-use Rattle.std.proofs.Common.{◌≡◌, ◌≤◌, ◌<◌, ◌+◌, ◌∙◌, ap, append_assoc, arith, drop, get_or, length, map, ℕ, Bool, true, false, List, [], ◌∷◌, ◌++◌, Option, Result, Ok, Err, inl, inr, ◌⊎◌, All, sym, subst}
+use Rattle.std.proofs.Common.{◌≡◌, ◌≤◌, ◌<◌, ◌+◌, ◌∙◌, ap, append_assoc, arith, drop, get_or, length, map, ℕ, Bool, true, false, List, [], ◌∷◌, ◌++◌, Option, Result, Ok, Err, inl, inr, ◌⊎◌, sym, subst}
 use Rattle.std.specs.Prelude.{IfOk, codes}
 use Rattle.std.specs.List.{flat_map}
 use Rattle.std.proofs.lemmas.List.{drop_more}
@@ -10,7 +10,6 @@ use Rattle.go_site_core.specs.graph_core.Workspaces.{PackageModel}
 use Rattle.go_link_core.specs.Linked.{HasNoMain, HasNoneOutside, IsBeyond, IsCut, ProgramOf}
 use Rattle.go_run_core.specs.Laws.{AnswersAreOne}
 use Rattle.go_run_core.specs.Runs.{GetsStuck}
-use Rattle.govisd_folders.specs.snap_core.Faults.{LiesIn}
 use Rattle.govisd_folders.specs.snap_core.declared.fault.PlacedFault.{PlacedFault}
 use Rattle.govisd_folders.specs.emit_core.Emitted.{objects_of}
 use Rattle.govisd_folders.specs.part_core.Parts.{PartModel}
@@ -19,6 +18,7 @@ use Rattle.govisd_folders.specs.snap_core.Snapshots.{IsSnapshot, SnapshotModel}
 use Rattle.govisd_folders.specs.declared.checking.CheckAnswer.{CheckAnswer}
 use Rattle.govisd_folders.specs.Finds.{ReadModel, IsReadOf}
 use Rattle.govisd_folders.specs.Notes.{name_or_quotes, note_line}
+use Rattle.govisd_folders.specs.Scopes.{ScopeModel}
 use Rattle.govisd_runs.specs.Choices.{main_line, several_text}
 use Rattle.govisd_runs.specs.Outcomes.{NothingRan}
 use Rattle.govisd_runs.specs.Answers.{AnswersSnapshot, IsAnswerOfRun, IsRunOn, TellsFaults, WorkspaceIsRun, is_clean}
@@ -56,28 +56,29 @@ stuck_of p steps rule (inr (inl h)) is = let e = h.0 in absurd (cc)
 stuck_of p steps rule (inr (inr (inl h))) is = let e = h.0 in absurd (cc)
 stuck_of p steps rule (inr (inr (inr h))) is = h.1
 
-module _ {E : Type 0} (r : Result CheckAnswer E) (folder : List ℕ) (main : Option (List ℕ)) (steps : ℕ) where
+module _ {E : Type 0} (r : Result CheckAnswer E) (folder : List ℕ) (scope : ScopeModel) (main : Option (List ℕ)) (steps : ℕ) where
   -- the answer on a clean snapshot
   pub clean_run : (b : Bool) (own : List ℕ) (qs ps : List PackageModel) (os : Objects) (parts : List (Option PartModel)) (faults : List PlacedFault) (notes passed : List ℕ)
-      → b ≡ true → qs ≡ ps → os ≡ objects_of (somes parts) → IfOk r (AnswersMain folder qs os passed main steps) → IfOk r (AnswersSnapshot b folder main steps own ps parts faults notes passed)
+      → b ≡ true → qs ≡ ps → os ≡ objects_of (somes parts) → IfOk r (AnswersMain folder scope qs os passed main steps) → IfOk r (AnswersSnapshot b folder scope main steps own ps parts faults notes passed)
   clean_run b own qs ps os parts faults notes passed clean same objects h =
-      subst (λ (c : Bool). IfOk r (AnswersSnapshot c folder main steps own ps parts faults notes passed)) (sym clean)
-      (subst (λ (l : Objects). IfOk r (AnswersMain folder ps l passed main steps)) objects (subst (λ (l : List PackageModel). IfOk r (AnswersMain folder l os passed main steps)) same h))
+      subst (λ (c : Bool). IfOk r (AnswersSnapshot c folder scope main steps own ps parts faults notes passed)) (sym clean)
+      (subst (λ (l : Objects). IfOk r (AnswersMain folder scope ps l passed main steps)) objects (subst (λ (l : List PackageModel). IfOk r (AnswersMain folder scope l os passed main steps)) same h))
 
   -- the answer on one that is not
   pub faults_told : (b : Bool) (own : List ℕ) (ps : List PackageModel) (parts : List (Option PartModel)) (faults : List PlacedFault) (notes passed : List ℕ)
-      → b ≡ false → IfOk r (TellsFaults own ps faults notes passed) → IfOk r (AnswersSnapshot b folder main steps own ps parts faults notes passed)
-  faults_told b own ps parts faults notes passed clean h = subst (λ (c : Bool). IfOk r (AnswersSnapshot c folder main steps own ps parts faults notes passed)) (sym clean) h
+      → b ≡ false → IfOk r (TellsFaults own ps faults notes passed) → IfOk r (AnswersSnapshot b folder scope main steps own ps parts faults notes passed)
+  faults_told b own ps parts faults notes passed clean h = subst (λ (c : Bool). IfOk r (AnswersSnapshot c folder scope main steps own ps parts faults notes passed)) (sym clean) h
 
   -- the answer on a workspace, from that on its snapshot
   pub of_snapshot : (own : List ℕ) (s : SnapshotModel) (ps : List PackageModel) (notes passed : List ℕ) → s.sources ≡ ps → IsSnapshot ps s.parts s.faults
-      → IfOk r (AnswersSnapshot (is_clean s.faults notes) folder main steps own s.sources s.parts s.faults notes passed) → IfOk r (WorkspaceIsRun folder main steps own ps notes passed)
-  of_snapshot own s ps notes passed same snapshot h = by r (subst (λ (l : List PackageModel). IfOk r (AnswersSnapshot (is_clean s.faults notes) folder main steps own l s.parts s.faults notes passed)) same h)
+      → IfOk r (AnswersSnapshot (is_clean s.faults notes) folder scope main steps own s.sources s.parts s.faults notes passed) → IfOk r (WorkspaceIsRun folder scope main steps own ps notes passed)
+  of_snapshot own s ps notes passed same snapshot h = by r (subst (λ (l : List PackageModel). IfOk r (AnswersSnapshot (is_clean s.faults notes) folder scope main steps own l s.parts s.faults notes passed)) same h)
     where
-      by : (r : Result CheckAnswer E) → IfOk r (AnswersSnapshot (is_clean s.faults notes) folder main steps own ps s.parts s.faults notes passed) → IfOk r (WorkspaceIsRun folder main steps own ps notes passed)
+      by : (r : Result CheckAnswer E) → IfOk r (AnswersSnapshot (is_clean s.faults notes) folder scope main steps own ps s.parts s.faults notes passed) → IfOk r (WorkspaceIsRun folder scope main steps own ps notes passed)
       by (Ok a) k = record { parts = s.parts; faults = s.faults; snapshot = snapshot; answer = k }
       by (Err e) k = tt
 
+module _ {E : Type 0} (r : Result CheckAnswer E) (folder : List ℕ) (main : Option (List ℕ)) (steps : ℕ) where
   -- the answer on a folder, from that on what came of its reading
   pub of_read : (given : Option (List ℕ)) (came : ReadModel) → IsReadOf folder given came → IfOk r (IsRunOn folder main steps came) → IfOk r (IsAnswerOfRun folder given main steps)
   of_read given came read h = by r h
@@ -90,10 +91,6 @@ module _ {E : Type 0} (r : Result CheckAnswer E) (folder : List ℕ) (main : Opt
 pub path_named : {E : Type 0} (r : Result CheckAnswer E) (ps : List PackageModel) (os : Objects) (before text path : List ℕ) (steps : ℕ) → (path ≡ text) × IsPath text → IfOk r (AnswersPackage ps os before path steps) → IfOk r (AnswersNamed ps os before text steps)
 path_named (Ok a) ps os before text path steps is h = inr (is.1, subst (λ (m : List ℕ). AnswersPackage ps os before m steps a) is.0 h)
 path_named (Err e) ps os before text path steps is h = tt
-
--- the faults of a snapshot, as they are read
-pub lie_in_these : (ps qs : List PackageModel) (faults these : List PlacedFault) → qs ≡ ps → these ≡ faults → All (LiesIn ps) faults → All (LiesIn qs) these
-lie_in_these ps qs faults these packages same h = subst (λ (fs : List PlacedFault). All (LiesIn qs) fs) (sym same) (subst (λ (rs : List PackageModel). All (LiesIn rs) faults) (sym packages) h)
 
 -- a line for one more package
 pub mains_more : {X : Type 0} (f : X → List ℕ) (all old new : List ℕ) (xs : List X) (i : ℕ) (x : X) → i < length xs → x ≡ get_or xs i x → new ≡ old ++ main_line (f x)

@@ -1,22 +1,26 @@
 -- Which packages can be run, where none is named.
-use Rattle.std.specs.Prelude.{ℕ, Bool, true, false, List, [], ◌∷◌, ◌++◌, codes}
+use Rattle.std.specs.Prelude.{◌&&◌, ℕ, Bool, true, false, List, [], ◌∷◌, ◌++◌, codes}
 use Rattle.std.specs.List.{flat_map}
 use Rattle.std.specs.Str.{bytes_eq}
 use Rattle.go_object_core.specs.Objects.{ObjectOf}
 use Rattle.govisd_folders.specs.Finds.{refused_line}
 use Rattle.govisd_folders.specs.Notes.{note_line}
+use Rattle.govisd_folders.specs.Scopes.{ScopeModel, is_inside}
 
 abbrev pub path_if : Bool → List ℕ → List (List ℕ)
 path_if true path = path ∷ []
 path_if false path = []
 
--- the path of a package that is called `main`
-abbrev pub main_path : {D : Type 0} → ObjectOf D → List (List ℕ)
-main_path o = path_if (bytes_eq o.name (codes "main")) o.path
+-- a package in a scope is called `main`
+abbrev pub is_main : {D : Type 0} → ScopeModel → ObjectOf D → Bool
+is_main scope o = bytes_eq o.name (codes "main") && is_inside scope o.path
+
+abbrev pub main_path : {D : Type 0} → ScopeModel → ObjectOf D → List (List ℕ)
+main_path scope o = path_if (is_main scope o) o.path
 
 -- the paths of those that are, in order
-abbrev pub main_paths : {D : Type 0} → List (ObjectOf D) → List (List ℕ)
-main_paths os = flat_map main_path os
+abbrev pub main_paths : {D : Type 0} → ScopeModel → List (ObjectOf D) → List (List ℕ)
+main_paths scope os = flat_map (main_path scope) os
 
 -- what is said of each of several
 abbrev pub main_line : List ℕ → List ℕ

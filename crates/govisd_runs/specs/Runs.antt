@@ -13,6 +13,7 @@ use Rattle.go_site_core.specs.Sites.{site_text}
 use Rattle.govisd_folders.specs.declared.checking.CheckAnswer.{CheckAnswer}
 use Rattle.govisd_folders.specs.Finds.{refused_line}
 use Rattle.govisd_folders.specs.Notes.{name_or_quotes, refusal_line}
+use Rattle.govisd_folders.specs.Scopes.{ScopeModel}
 use Rattle.govisd_runs.specs.Outcomes.{NothingRan, TellsRun}
 use Rattle.govisd_runs.specs.Choices.{main_paths, several_text}
 
@@ -59,7 +60,7 @@ AnswersMains folder ps os before [] steps a = NothingRan (before ++ refused_line
 AnswersMains folder ps os before (m ∷ []) steps a = AnswersPackage ps os before m steps a
 AnswersMains folder ps os before (m ∷ (n ∷ ms)) steps a = NothingRan (before ++ several_text folder (m ∷ (n ∷ ms))) a
 
--- the answer on the package that is named, or else on the one that is called `main`
-abbrev pub AnswersMain : List ℕ → List PackageModel → Objects → List ℕ → Option (List ℕ) → ℕ → CheckAnswer → Type 0
-AnswersMain folder ps os before None steps a = AnswersMains folder ps os before (main_paths os) steps a
-AnswersMain folder ps os before (Some text) steps a = AnswersNamed ps os before text steps a
+-- the answer on the package that is named, or else on the one in the scope that is called `main`
+abbrev pub AnswersMain : List ℕ → ScopeModel → List PackageModel → Objects → List ℕ → Option (List ℕ) → ℕ → CheckAnswer → Type 0
+AnswersMain folder scope ps os before None steps a = AnswersMains folder ps os before (main_paths scope os) steps a
+AnswersMain folder scope ps os before (Some text) steps a = AnswersNamed ps os before text steps a

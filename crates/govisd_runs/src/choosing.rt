@@ -1,24 +1,23 @@
 //! Which package is run, where none is named.
 ghost use Rattle.std.specs.Prelude.{◌≡◌, ◌++◌, IfOk, OnOk, codes, map, string_bytes};
 ghost use Rattle.std.specs.List.{flat_map};
-ghost use Rattle.std.specs.Str.{bytes_eq};
 ghost use Rattle.go_object_core.specs.Objects.{object_shown};
 ghost use Rattle.govisd_folders.specs.Finds.{refused_line};
 ghost use Rattle.govisd_runs.specs.Outcomes.{NothingRan};
-ghost use Rattle.govisd_runs.specs.Choices.{main_line, main_paths, path_if, several_text};
+ghost use Rattle.govisd_runs.specs.Choices.{is_main, main_line, main_paths, path_if, several_text};
 
 use crate::answers::nothing_ran;
 use go_object_core::Object;
 use go_path_core::ImportPath;
 use go_site_core::answer_core::Site;
-use govisd_folders::{CheckAnswer, name_or_quotes, note};
+use govisd_folders::{CheckAnswer, Scope, is_inside, name_or_quotes, note};
 use std::alloc::{AllocError, Global};
 
-// Whether a package is called `main`.
-fn is_main(object: &Object<Site>) -> bool
-    ensures { result ≡ bytes_eq (object_shown object.now).name (codes "main") }
+// Whether a package is called `main` and lies in a scope.
+fn is_main(scope: &Scope<'_>, object: &Object<Site>) -> bool
+    ensures { result ≡ is_main (scope.now.package.now, scope.now.file.now) (object_shown object.now) }
 {
-    object.name.as_str() == "main"
+    object.name.as_str() == "main" && is_inside(scope, object.path.as_str())
 }
 
 // Adds a path, if it is one of those that are looked for.
@@ -35,20 +34,21 @@ fn add_if<'a>(
     Ok(())
 }
 
-/// The paths of the packages that are called `main`, in order.
+/// The paths of the packages in a scope that are called `main`, in order.
 ///
 /// # Errors
 ///
 /// `AllocError` for want of memory.
 pub(crate) fn mains_in<'a>(
     alloc: Global,
+    scope: &Scope<'_>,
     objects: &'a [Object<Site>],
 ) -> Result<Vec<&'a ImportPath>, AllocError>
-    ensures { IfOk result (λ mains. map (λ m. m.now) mains.items ≡ main_paths (map object_shown objects.now)) }
+    ensures { IfOk result (λ mains. map (λ m. m.now) mains.items ≡ main_paths (scope.now.package.now, scope.now.file.now) (map object_shown objects.now)) }
 {
     let mut mains = Vec::new(alloc);
     for object in objects {
-        add_if(&mut mains, is_main(object), &object.path)?;
+        add_if(&mut mains, is_main(scope, object), &object.path)?;
     }
     Ok(mains)
 }

@@ -6,13 +6,13 @@ ghost use Rattle.govisd_runs.specs.Runs.{AnswersMain, AnswersMains, AnswersNamed
 use crate::answers::{answer_of, refuse, refuse_for};
 use crate::blame::refuse_beyond;
 use crate::choosing::{mains_in, refuse_several};
-use go_launch_core::run;
+use go_launch_core::run_printing;
 use go_object_core::Object;
 use go_path_core::ImportPath;
 use go_site_core::answer_core::Site;
 use go_site_core::graph_core::Workspace;
 use go_text_core::Rule;
-use govisd_folders::{CheckAnswer, name_or_quotes, path_of};
+use govisd_folders::{CheckAnswer, Scope, name_or_quotes, path_of};
 use std::alloc::{AllocError, Global};
 
 // Runs the package of a path in at most so many steps.
@@ -26,7 +26,7 @@ fn run_package(
 ) -> Result<CheckAnswer, AllocError>
     ensures { IfOk result (AnswersPackage workspace.now (map object_shown objects.now) before.now main.now steps) }
 {
-    match run(alloc, objects, main, steps) {
+    match run_printing(alloc, objects, main, steps, usize::MAX) {
         Ok(run) => answer_of(alloc, run),
         Err(rule) => match rule {
             Rule::J1 => refuse(alloc, before, main.as_str(), Rule::J1),
@@ -86,15 +86,16 @@ pub(crate) fn run_main(
     objects: &[Object<Site>],
     before: &str,
     folder: &str,
+    scope: &Scope<'_>,
     main_path: Option<&str>,
     steps: u64,
 ) -> Result<CheckAnswer, AllocError>
-    ensures { IfOk result (AnswersMain folder.now workspace.now (map object_shown objects.now) before.now (option_map (λ m. m.now) main_path.entry) steps) }
+    ensures { IfOk result (AnswersMain folder.now (scope.now.package.now, scope.now.file.now) workspace.now (map object_shown objects.now) before.now (option_map (λ m. m.now) main_path.entry) steps) }
 {
     match main_path {
         Some(text) => run_named(alloc, workspace, objects, before, text, steps),
         None => {
-            let mains = mains_in(alloc, objects)?;
+            let mains = mains_in(alloc, scope, objects)?;
             run_one(alloc, workspace, objects, before, folder, &mains, steps)
         }
     }

@@ -8,8 +8,10 @@ use crate::answers::nothing_ran;
 use crate::packages::run_main;
 use go_folder_core::RunOrder;
 use go_site_core::graph_core::Workspace;
-use govisd_folders::snap_core::{PlacedFault, Snapshot, compile, faults_lie_in_files};
-use govisd_folders::{CheckAnswer, Progress, ReadFolder, push, read_folder, told};
+use govisd_folders::snap_core::{PlacedFault, Snapshot, compile};
+use govisd_folders::{
+    CheckAnswer, FoundPackages, PLAIN, Page, Progress, ReadFolder, Scope, push, read_folder, told,
+};
 use std::alloc::{AllocError, Global};
 
 // Whether there is no fault, and nothing was left out.
@@ -36,17 +38,18 @@ fn tell_faults(
     requires { IsSnapshot snapshot.now.sources snapshot.now.parts snapshot.now.faults }
     ensures { IfOk result (TellsFaults module_path.now snapshot.now.sources snapshot.now.faults notes.now passed.now) }
 {
-    faults_lie_in_files();
-    let text = told(
-        alloc,
-        false,
-        module_path,
-        snapshot.sources(),
-        snapshot.faults(),
-    )?;
+    let page = Page {
+        look: PLAIN,
+        scope: Scope {
+            package: module_path,
+            file: "",
+        },
+        given: "",
+    };
+    let report = told(alloc, &page, snapshot)?;
     let mut said = String::from_str(alloc, notes)?;
     push(&mut said, passed)?;
-    push(&mut said, text.as_str())?;
+    push(&mut said, report.text.as_str())?;
     Ok(nothing_ran(alloc, said))
 }
 
@@ -55,12 +58,13 @@ fn run_snapshot(
     alloc: Global,
     order: &RunOrder<'_>,
     module_path: &str,
+    scope: &Scope<'_>,
     snapshot: &Snapshot,
     notes: &str,
     passed: &str,
 ) -> Result<CheckAnswer, AllocError>
     requires { IsSnapshot snapshot.now.sources snapshot.now.parts snapshot.now.faults }
-    ensures { IfOk result (AnswersSnapshot (is_clean snapshot.now.faults notes.now) order.now.folder.now (option_map (λ m. m.now) order.now.main_path) order.now.steps module_path.now snapshot.now.sources snapshot.now.parts snapshot.now.faults notes.now passed.now) }
+    ensures { IfOk result (AnswersSnapshot (is_clean snapshot.now.faults notes.now) order.now.folder.now (scope.now.package.now, scope.now.file.now) (option_map (λ m. m.now) order.now.main_path) order.now.steps module_path.now snapshot.now.sources snapshot.now.parts snapshot.now.faults notes.now passed.now) }
 {
     let clean = is_clean(snapshot.faults(), notes);
     if clean {
@@ -71,6 +75,7 @@ fn run_snapshot(
             &objects,
             passed,
             order.folder,
+            scope,
             order.main_path,
             order.steps,
         );
@@ -83,14 +88,38 @@ fn run_workspace(
     alloc: Global,
     order: &RunOrder<'_>,
     module_path: &str,
+    scope: &Scope<'_>,
     workspace: &Workspace,
     notes: &str,
     passed: &str,
 ) -> Result<CheckAnswer, AllocError>
-    ensures { IfOk result (WorkspaceIsRun order.now.folder.now (option_map (λ m. m.now) order.now.main_path) order.now.steps module_path.now workspace.now notes.now passed.now) }
+    ensures { IfOk result (WorkspaceIsRun order.now.folder.now (scope.now.package.now, scope.now.file.now) (option_map (λ m. m.now) order.now.main_path) order.now.steps module_path.now workspace.now notes.now passed.now) }
 {
     let snapshot = compile(alloc, workspace)?;
-    run_snapshot(alloc, order, module_path, &snapshot, notes, passed)
+    run_snapshot(alloc, order, module_path, scope, &snapshot, notes, passed)
+}
+
+// Runs the program of the packages of a folder, unless something is amiss.
+fn run_found(
+    alloc: Global,
+    order: &RunOrder<'_>,
+    found: &FoundPackages,
+) -> Result<CheckAnswer, AllocError>
+    ensures { IfOk result (WorkspaceIsRun order.now.folder.now (string_bytes found.now.told, string_bytes found.now.file) (option_map (λ m. m.now) order.now.main_path) order.now.steps (string_bytes found.now.module_path) found.now.workspace (string_bytes found.now.notes) (string_bytes found.now.passed)) }
+{
+    let scope = Scope {
+        package: found.told.as_str(),
+        file: found.file.as_str(),
+    };
+    run_workspace(
+        alloc,
+        order,
+        found.module_path.as_str(),
+        &scope,
+        &found.workspace,
+        found.notes.as_str(),
+        found.passed.as_str(),
+    )
 }
 
 // The answer on what came of the reading of a folder.
@@ -103,14 +132,7 @@ fn answer_on(
 {
     match read {
         ReadFolder::Refused(said) => Ok(nothing_ran(alloc, said)),
-        ReadFolder::Found(found) => run_workspace(
-            alloc,
-            order,
-            found.module_path.as_str(),
-            &found.workspace,
-            found.notes.as_str(),
-            found.passed.as_str(),
-        ),
+        ReadFolder::Found(found) => run_found(alloc, order, &found),
     }
 }
 

@@ -10,8 +10,9 @@ use Rattle.clap.specs.Kinds.{Kinds, or_else}
 use Rattle.clap.specs.Faults.{bundle_fault, check_fault, defaults_fault, flag_word_fault, level_fault, other_fault, settle_fault, step_fault, turn_fault, walk_fault, word_fault}
 use Rattle.clap.specs.declared.error.kind.ErrorKind.TheVariants as kind
 use Rattle.clap.proofs.OnLiterals.{clap_on_literals}
-use Rattle.govisd_words.specs.Asking.{ToCheck, ToExplain, ToHelp, ToRun, ToServe, explain_app, govisd_app, is_plain, command_line, asked_by_subcommand, order_in, refusals, run_in, run_with, script_in, script_with, serve_in, serve_with}
+use Rattle.govisd_words.specs.Asking.{ToCheck, ToExplain, ToHelp, ToRun, ToServe, explain_app, govisd_app, is_plain, command_line, asked_by_subcommand, check_in, explain_in, refusals, run_in, run_with, script_in, script_with, serve_in, serve_with}
 use Rattle.govisd_words.specs.Counts.{connections_in, steps_in, workers_in}
+use Rattle.govisd_words.specs.Styles.{json_style, plain_style}
 
 not_true : (t : Bool) → not t ≡ true → t ≡ false
 not_true true h = absurd (cc)
@@ -138,28 +139,37 @@ pub explain_word : (program word : Text) → is_plain word ≡ true → refusals
 unfolding clap_on_literals
 explain_word program word plain = ap (λ k. or_else k []) (one_word (sub 1) word plain)
 
-pub explain_word_named : (program word : Text) → is_plain word ≡ true → asked_by_subcommand (command_line program (codes "explain" ∷ (word ∷ []))) ≡ ToExplain (Some word)
+pub explain_word_named : (program word : Text) → is_plain word ≡ true → asked_by_subcommand (command_line program (codes "explain" ∷ (word ∷ []))) ≡ ToExplain (Some word) false
 unfolding clap_on_literals
 explain_word_named program word plain =
-    ap (λ (w : Walk). ToExplain (first_of (codes "rule") (finished (sub 1).rules w.held))) (passed (sub 1).rules [] 1 word nothing_held refl plain)
+    ap (λ (w : Walk). explain_in (finished (sub 1).rules w.held)) (passed (sub 1).rules [] 1 word nothing_held refl plain)
+
+pub explain_word_json : (program word : Text) → is_plain word ≡ true → refusals (command_line program (codes "explain" ∷ (word ∷ (codes "--json" ∷ [])))) ≡ []
+unfolding clap_on_literals
+explain_word_json program word plain = ap (λ k. or_else k []) (word_then (sub 1) word (codes "--json" ∷ []) plain)
+
+pub explain_word_json_named : (program word : Text) → is_plain word ≡ true → asked_by_subcommand (command_line program (codes "explain" ∷ (word ∷ (codes "--json" ∷ [])))) ≡ ToExplain (Some word) true
+unfolding clap_on_literals
+explain_word_json_named program word plain =
+    ap (λ (w : Walk). explain_in (finished (sub 1).rules (walked (sub 1).rules [] w (codes "--json")).held)) (passed (sub 1).rules [] 1 word nothing_held refl plain)
 
 pub check_folder : (program folder : Text) → is_plain folder ≡ true → refusals (command_line program (codes "check" ∷ (folder ∷ []))) ≡ []
 unfolding clap_on_literals
 check_folder program folder plain = ap (λ k. or_else k []) (one_word (sub 2) folder plain)
 
-pub check_folder_named : (program folder : Text) → is_plain folder ≡ true → asked_by_subcommand (command_line program (codes "check" ∷ (folder ∷ []))) ≡ ToCheck folder None false
+pub check_folder_named : (program folder : Text) → is_plain folder ≡ true → asked_by_subcommand (command_line program (codes "check" ∷ (folder ∷ []))) ≡ ToCheck folder None plain_style
 unfolding clap_on_literals
 check_folder_named program folder plain =
-    ap (λ (w : Walk). order_in (finished (sub 2).rules w.held)) (passed (sub 2).rules [] 1 folder nothing_held refl plain)
+    ap (λ (w : Walk). check_in (finished (sub 2).rules w.held)) (passed (sub 2).rules [] 1 folder nothing_held refl plain)
 
 pub check_json : (program folder : Text) → is_plain folder ≡ true → refusals (command_line program (codes "check" ∷ (folder ∷ (codes "--json" ∷ [])))) ≡ []
 unfolding clap_on_literals
 check_json program folder plain = ap (λ k. or_else k []) (word_then (sub 2) folder (codes "--json" ∷ []) plain)
 
-pub check_json_named : (program folder : Text) → is_plain folder ≡ true → asked_by_subcommand (command_line program (codes "check" ∷ (folder ∷ (codes "--json" ∷ [])))) ≡ ToCheck folder None true
+pub check_json_named : (program folder : Text) → is_plain folder ≡ true → asked_by_subcommand (command_line program (codes "check" ∷ (folder ∷ (codes "--json" ∷ [])))) ≡ ToCheck folder None json_style
 unfolding clap_on_literals
 check_json_named program folder plain =
-    ap (λ (w : Walk). order_in (finished (sub 2).rules (walked (sub 2).rules [] w (codes "--json")).held)) (passed (sub 2).rules [] 1 folder nothing_held refl plain)
+    ap (λ (w : Walk). check_in (finished (sub 2).rules (walked (sub 2).rules [] w (codes "--json")).held)) (passed (sub 2).rules [] 1 folder nothing_held refl plain)
 
 -- what is held where the path of a module is waited for
 abbrev held_behind : Text → Held
@@ -170,22 +180,22 @@ unfolding clap_on_literals
 check_module program folder path plain plain' =
     ap (λ k. or_else k []) (word_then (sub 2) folder (codes "--module" ∷ (path ∷ [])) plain ∙ value_last (sub 2) (codes "module") 2 (held_behind folder) path plain')
 
-pub check_module_named : (program folder path : Text) → is_plain folder ≡ true → is_plain path ≡ true → asked_by_subcommand (command_line program (codes "check" ∷ (folder ∷ (codes "--module" ∷ (path ∷ []))))) ≡ ToCheck folder (Some path) false
+pub check_module_named : (program folder path : Text) → is_plain folder ≡ true → is_plain path ≡ true → asked_by_subcommand (command_line program (codes "check" ∷ (folder ∷ (codes "--module" ∷ (path ∷ []))))) ≡ ToCheck folder (Some path) plain_style
 unfolding clap_on_literals
 check_module_named program folder path plain plain' =
-    ap (λ (w : Walk). order_in (finished (sub 2).rules (walked (sub 2).rules [] (walked (sub 2).rules [] w (codes "--module")) path).held)) (passed (sub 2).rules [] 1 folder nothing_held refl plain)
-    ∙ ap (λ (w : Walk). order_in (finished (sub 2).rules w.held)) (value_passed (sub 2) [] (codes "module") 2 (held_behind folder) path plain')
+    ap (λ (w : Walk). check_in (finished (sub 2).rules (walked (sub 2).rules [] (walked (sub 2).rules [] w (codes "--module")) path).held)) (passed (sub 2).rules [] 1 folder nothing_held refl plain)
+    ∙ ap (λ (w : Walk). check_in (finished (sub 2).rules w.held)) (value_passed (sub 2) [] (codes "module") 2 (held_behind folder) path plain')
 
 pub check_module_json : (program folder path : Text) → is_plain folder ≡ true → is_plain path ≡ true → refusals (command_line program (codes "check" ∷ (folder ∷ (codes "--module" ∷ (path ∷ (codes "--json" ∷ [])))))) ≡ []
 unfolding clap_on_literals
 check_module_json program folder path plain plain' =
     ap (λ k. or_else k []) (word_then (sub 2) folder (codes "--module" ∷ (path ∷ (codes "--json" ∷ []))) plain ∙ value_then (sub 2) (codes "module") 2 (held_behind folder) path (codes "--json" ∷ []) plain')
 
-pub check_module_json_named : (program folder path : Text) → is_plain folder ≡ true → is_plain path ≡ true → asked_by_subcommand (command_line program (codes "check" ∷ (folder ∷ (codes "--module" ∷ (path ∷ (codes "--json" ∷ [])))))) ≡ ToCheck folder (Some path) true
+pub check_module_json_named : (program folder path : Text) → is_plain folder ≡ true → is_plain path ≡ true → asked_by_subcommand (command_line program (codes "check" ∷ (folder ∷ (codes "--module" ∷ (path ∷ (codes "--json" ∷ [])))))) ≡ ToCheck folder (Some path) json_style
 unfolding clap_on_literals
 check_module_json_named program folder path plain plain' =
-    ap (λ (w : Walk). order_in (finished (sub 2).rules (walked (sub 2).rules [] (walked (sub 2).rules [] (walked (sub 2).rules [] w (codes "--module")) path) (codes "--json")).held)) (passed (sub 2).rules [] 1 folder nothing_held refl plain)
-    ∙ ap (λ (w : Walk). order_in (finished (sub 2).rules (walked (sub 2).rules [] w (codes "--json")).held)) (value_passed (sub 2) [] (codes "module") 2 (held_behind folder) path plain')
+    ap (λ (w : Walk). check_in (finished (sub 2).rules (walked (sub 2).rules [] (walked (sub 2).rules [] (walked (sub 2).rules [] w (codes "--module")) path) (codes "--json")).held)) (passed (sub 2).rules [] 1 folder nothing_held refl plain)
+    ∙ ap (λ (w : Walk). check_in (finished (sub 2).rules (walked (sub 2).rules [] w (codes "--json")).held)) (value_passed (sub 2) [] (codes "module") 2 (held_behind folder) path plain')
 
 -- what is held behind a flag that stands first, and where the path of a module is waited for
 abbrev held_json : Held
@@ -201,20 +211,20 @@ pub json_check : (program folder : Text) → is_plain folder ≡ true → refusa
 unfolding clap_on_literals
 json_check program folder plain = ap (λ k. or_else k []) (word_last (sub 2) held_json folder plain)
 
-pub json_check_named : (program folder : Text) → is_plain folder ≡ true → asked_by_subcommand (command_line program (codes "check" ∷ (codes "--json" ∷ (folder ∷ [])))) ≡ ToCheck folder None true
+pub json_check_named : (program folder : Text) → is_plain folder ≡ true → asked_by_subcommand (command_line program (codes "check" ∷ (codes "--json" ∷ (folder ∷ [])))) ≡ ToCheck folder None json_style
 unfolding clap_on_literals
-json_check_named program folder plain = ap (λ (w : Walk). order_in (finished (sub 2).rules w.held)) (passed (sub 2).rules [] 1 folder held_json refl plain)
+json_check_named program folder plain = ap (λ (w : Walk). check_in (finished (sub 2).rules w.held)) (passed (sub 2).rules [] 1 folder held_json refl plain)
 
 pub module_check : (program folder path : Text) → is_plain folder ≡ true → is_plain path ≡ true → refusals (command_line program (codes "check" ∷ (codes "--module" ∷ (path ∷ (folder ∷ []))))) ≡ []
 unfolding clap_on_literals
 module_check program folder path plain plain' =
     ap (λ k. or_else k []) (value_then (sub 2) (codes "module") 1 held_module path (folder ∷ []) plain' ∙ word_last (sub 2) (held_path path) folder plain)
 
-pub module_check_named : (program folder path : Text) → is_plain folder ≡ true → is_plain path ≡ true → asked_by_subcommand (command_line program (codes "check" ∷ (codes "--module" ∷ (path ∷ (folder ∷ []))))) ≡ ToCheck folder (Some path) false
+pub module_check_named : (program folder path : Text) → is_plain folder ≡ true → is_plain path ≡ true → asked_by_subcommand (command_line program (codes "check" ∷ (codes "--module" ∷ (path ∷ (folder ∷ []))))) ≡ ToCheck folder (Some path) plain_style
 unfolding clap_on_literals
 module_check_named program folder path plain plain' =
-    ap (λ (w : Walk). order_in (finished (sub 2).rules (walked (sub 2).rules [] w folder).held)) (value_passed (sub 2) [] (codes "module") 1 held_module path plain')
-    ∙ ap (λ (w : Walk). order_in (finished (sub 2).rules w.held)) (passed (sub 2).rules [] 1 folder (held_path path) refl plain)
+    ap (λ (w : Walk). check_in (finished (sub 2).rules (walked (sub 2).rules [] w folder).held)) (value_passed (sub 2) [] (codes "module") 1 held_module path plain')
+    ∙ ap (λ (w : Walk). check_in (finished (sub 2).rules w.held)) (passed (sub 2).rules [] 1 folder (held_path path) refl plain)
 
 pub help_word : (program word : Text) → is_plain word ≡ true → refusals (command_line program (codes "help" ∷ (word ∷ []))) ≡ []
 unfolding clap_on_literals

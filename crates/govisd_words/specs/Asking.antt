@@ -11,30 +11,36 @@ use Rattle.clap.specs.Values.{kind_of}
 use Rattle.clap.specs.declared.builder.action.ArgAction.TheVariants.{Count}
 use Rattle.clap.specs.declared.error.Error.{Error}
 use Rattle.clap.specs.declared.error.kind.ErrorKind.TheVariants as kind
+use Rattle.go_folder_core.specs.declared.orders.Color.{Color}
+use Rattle.go_folder_core.specs.declared.orders.Color.TheVariants as color
+use Rattle.go_folder_core.specs.declared.orders.Format.{Format}
+use Rattle.go_folder_core.specs.declared.orders.Format.TheVariants as format
 use Rattle.go_folder_core.specs.declared.orders.Order.{Order}
+use Rattle.go_folder_core.specs.declared.orders.Style.{Style}
 use Rattle.govisd_words.specs.declared.words.Request.{Request}
 use Rattle.go_folder_core.specs.declared.orders.RunOrder.{RunOrder}
-use Rattle.govisd_words.specs.declared.words.CountOption.{CountOption}
-use Rattle.govisd_words.specs.declared.words.CountOption.TheVariants.{Workers, Connections, Steps}
+use Rattle.govisd_words.specs.declared.words.ValueOption.{ValueOption}
+use Rattle.govisd_words.specs.declared.words.ValueOption.TheVariants.{Workers, Connections, Steps, Form, Colors}
 use Rattle.govisd_words.specs.declared.words.Daemon.{Daemon}
-use Rattle.govisd_words.specs.declared.words.Request.TheVariants.{Resolve, Explain, Check, Run, Script, Serve, Help, Version, BadCount}
+use Rattle.govisd_words.specs.declared.words.Request.TheVariants.{Resolve, Explain, Check, Run, Script, Serve, Help, Version, BadValue}
 use Rattle.govisd_words.specs.Counts.{connections_in, steps_in, workers_in}
+use Rattle.govisd_words.specs.Styles.{color_in, format_in, json_style, plain_style, style_of}
 
 -- what is asked for
 pub data Asked : Type 0 where
   ToResolve : Asked
-  ToExplain : (rule : Option Text) → Asked
-  ToCheck : (folder : Text) (path : Option Text) (json : Bool) → Asked
+  ToExplain : (rule : Option Text) (json : Bool) → Asked
+  ToCheck : (folder : Text) (path : Option Text) (style : Style) → Asked
   ToRun : (folder : Text) (path main : Option Text) (steps : ℕ) → Asked
   ToScript : (workers : ℕ) → Asked
   ToServe : (address : Text) (workers : ℕ) (connections : Option ℕ) → Asked
   ToHelp : (topic : Option Text) → Asked
   ToTellVersion : Asked
-  ToRefuse : (option : CountOption) → Asked
+  ToRefuse : (option : ValueOption) → Asked
 
 -- the check that an order is of
 abbrev pub said_order : Order → Asked
-said_order order = ToCheck order.folder.now (option_map (λ word. word.now) order.module_path) order.json
+said_order order = ToCheck order.folder.now (option_map (λ word. word.now) order.module_path) order.style
 
 -- the run that an order is of
 abbrev pub said_run : RunOrder → Asked
@@ -47,38 +53,56 @@ said_daemon daemon = ToServe daemon.address.now daemon.workers daemon.connection
 -- what a request asks for
 abbrev pub said : Request → Asked
 said Resolve = ToResolve
-said (Explain rule) = ToExplain (option_map (λ word. word.now) rule)
+said (Explain rule json) = ToExplain (option_map (λ word. word.now) rule) json
 said (Check order) = said_order order
 said (Run order) = said_run order
 said (Script workers) = ToScript workers
 said (Serve daemon) = said_daemon daemon
 said (Help topic) = ToHelp (option_map (λ word. word.now) topic)
 said Version = ToTellVersion
-said (BadCount option) = ToRefuse option
+said (BadValue option) = ToRefuse option
 
 -- whether a script is asked for
 abbrev pub is_script : Request → Bool
 is_script (Script workers) = true
 is_script _ = false
 
--- `explain`, and behind it maybe a rule
-abbrev pub explain_app : App
-explain_app = with_rule (new_app (codes "explain")) (new_rule (codes "rule"))
+-- `explain`, and behind it maybe a rule, and whether it is told as JSON
+abbrev pub json_rule : Rule
+json_rule = record (new_rule (codes "json")) { long = Some (codes "json"); action = Some Count }
 
--- `check`, behind it a folder, and among these maybe the path of its module, and whether JSON is wanted
+abbrev pub explain_app : App
+explain_app = with_rule (with_rule (new_app (codes "explain")) (new_rule (codes "rule"))) json_rule
+
+-- `check`, behind it maybe a folder, the path of its module, and how the faults are written
 abbrev pub folder_rule : Rule
-folder_rule = record (new_rule (codes "folder")) { required = true }
+folder_rule = new_rule (codes "folder")
 
 abbrev pub module_rule : Rule
 module_rule = record (new_rule (codes "module")) { long = Some (codes "module") }
 
-abbrev pub json_rule : Rule
-json_rule = record (new_rule (codes "json")) { long = Some (codes "json"); action = Some Count }
+abbrev pub json_app : App
+json_app = with_rule (with_rule (with_rule (new_app (codes "check")) folder_rule) module_rule) json_rule
+
+abbrev pub all_rule : Rule
+all_rule = record (new_rule (codes "all")) { long = Some (codes "all"); action = Some Count }
+
+abbrev pub source_rule : Rule
+source_rule = record (new_rule (codes "source")) { long = Some (codes "source"); action = Some Count }
+
+abbrev pub shown_app : App
+shown_app = with_rule (with_rule json_app all_rule) source_rule
+
+abbrev pub format_rule : Rule
+format_rule = record (new_rule (codes "format")) { long = Some (codes "format") }
+
+abbrev pub color_rule : Rule
+color_rule = record (new_rule (codes "color")) { long = Some (codes "color") }
 
 abbrev pub check_app : App
-check_app = with_rule (with_rule (with_rule (new_app (codes "check")) folder_rule) module_rule) json_rule
+check_app = with_rule (with_rule shown_app format_rule) color_rule
 
--- `run`, behind it a folder, and among these maybe the path of its module, that of a package, and a number of steps
+-- `run`, behind it maybe a folder, the path of its module, that of a package, and a number of steps
 abbrev pub main_rule : Rule
 main_rule = record (new_rule (codes "main")) { long = Some (codes "main") }
 
@@ -128,9 +152,26 @@ govisd_app = with_subcommand (with_subcommand (with_subcommand (with_subcommand 
 abbrev pub refusals : List Text → Kinds
 refusals words = fault_of govisd_app words
 
+-- how the faults are written, by what stands behind the command
+abbrev pub style_in : Format → Color → List Row → Style
+style_in form when rows = style_of (nat_lt 0 (count_of (codes "json") rows)) (nat_lt 0 (count_of (codes "all") rows)) (nat_lt 0 (count_of (codes "source") rows)) form when
+
+-- what is to be explained, by what stands behind the command
+abbrev pub explain_in : List Row → Asked
+explain_in rows = ToExplain (first_of (codes "rule") rows) (nat_lt 0 (count_of (codes "json") rows))
+
 -- the check that stands behind the command
-abbrev pub order_in : List Row → Asked
-order_in rows = ToCheck (unwrap_or (first_of (codes "folder") rows) (codes ".")) (first_of (codes "module") rows) (nat_lt 0 (count_of (codes "json") rows))
+abbrev pub order_in : Style → List Row → Asked
+order_in style rows = ToCheck (unwrap_or (first_of (codes "folder") rows) (codes ".")) (first_of (codes "module") rows) style
+
+-- if the words behind its options are such that they take
+abbrev pub check_with : List Row → Option Format → Option Color → Asked
+check_with rows (Some form) (Some when) = order_in (style_in form when rows) rows
+check_with rows (Some form) None = ToRefuse Colors
+check_with rows None when = ToRefuse Form
+
+abbrev pub check_in : List Row → Asked
+check_in rows = check_with rows (format_in (first_of (codes "format") rows)) (color_in (first_of (codes "color") rows))
 
 -- a run of so many steps, if their number is one that is taken
 abbrev pub run_with : Text → Option Text → Option Text → Option ℕ → Asked
@@ -165,8 +206,8 @@ serve_in rows =
 -- what a subcommand asks for, by its name and what stands behind it
 abbrev pub asked_in : Text × List Row → Asked
 asked_in (name, rows) =
-    if bytes_eq name (codes "explain") then ToExplain (first_of (codes "rule") rows)
-    else (if bytes_eq name (codes "check") then order_in rows
+    if bytes_eq name (codes "explain") then explain_in rows
+    else (if bytes_eq name (codes "check") then check_in rows
     else (if bytes_eq name (codes "help") then ToHelp (first_of (codes "command") rows)
     else (if bytes_eq name (codes "script") then script_in rows
     else (if bytes_eq name (codes "serve") then serve_in rows
@@ -213,26 +254,38 @@ pub record AskAs (program : Text) : Type 0 where
   pub resolve : refusals (command_line program (codes "resolve" ∷ [])) ≡ []
   pub resolve_named : asked_by_subcommand (command_line program (codes "resolve" ∷ [])) ≡ ToResolve
   pub explain : refusals (command_line program (codes "explain" ∷ [])) ≡ []
-  pub explain_named : asked_by_subcommand (command_line program (codes "explain" ∷ [])) ≡ ToExplain None
+  pub explain_named : asked_by_subcommand (command_line program (codes "explain" ∷ [])) ≡ ToExplain None false
+  pub explain_json : refusals (command_line program (codes "explain" ∷ (codes "--json" ∷ []))) ≡ []
+  pub explain_json_named : asked_by_subcommand (command_line program (codes "explain" ∷ (codes "--json" ∷ []))) ≡ ToExplain None true
+  pub explain_word_json : (word : Text) → is_plain word ≡ true → refusals (command_line program (codes "explain" ∷ (word ∷ (codes "--json" ∷ [])))) ≡ []
+  pub explain_word_json_named : (word : Text) → is_plain word ≡ true → asked_by_subcommand (command_line program (codes "explain" ∷ (word ∷ (codes "--json" ∷ [])))) ≡ ToExplain (Some word) true
   pub explain_word : (word : Text) → is_plain word ≡ true → refusals (command_line program (codes "explain" ∷ (word ∷ []))) ≡ []
-  pub explain_word_named : (word : Text) → is_plain word ≡ true → asked_by_subcommand (command_line program (codes "explain" ∷ (word ∷ []))) ≡ ToExplain (Some word)
+  pub explain_word_named : (word : Text) → is_plain word ≡ true → asked_by_subcommand (command_line program (codes "explain" ∷ (word ∷ []))) ≡ ToExplain (Some word) false
   pub help : refusals (command_line program (codes "help" ∷ [])) ≡ []
   pub help_named : asked_by_subcommand (command_line program (codes "help" ∷ [])) ≡ ToHelp None
   pub help_word : (word : Text) → is_plain word ≡ true → refusals (command_line program (codes "help" ∷ (word ∷ []))) ≡ []
   pub help_word_named : (word : Text) → is_plain word ≡ true → asked_by_subcommand (command_line program (codes "help" ∷ (word ∷ []))) ≡ ToHelp (Some word)
-  pub check : refusals (command_line program (codes "check" ∷ [])) ≡ kind.MissingRequiredArgument ∷ []
+  pub check : refusals (command_line program (codes "check" ∷ [])) ≡ []
+  pub check_named : asked_by_subcommand (command_line program (codes "check" ∷ [])) ≡ ToCheck (codes ".") None plain_style
+  pub check_all : refusals (command_line program (codes "check" ∷ (codes "--all" ∷ []))) ≡ []
+  pub check_all_named : asked_by_subcommand (command_line program (codes "check" ∷ (codes "--all" ∷ []))) ≡ ToCheck (codes ".") None (style_of false true false format.Text color.Auto)
+  pub check_source_named : asked_by_subcommand (command_line program (codes "check" ∷ (codes "--source" ∷ []))) ≡ ToCheck (codes ".") None (style_of false false true format.Text color.Auto)
+  pub check_github_named : asked_by_subcommand (command_line program (codes "check" ∷ (codes "--format" ∷ (codes "github" ∷ [])))) ≡ ToCheck (codes ".") None (style_of false false false format.Github color.Auto)
+  pub check_never_named : asked_by_subcommand (command_line program (codes "check" ∷ (codes "--color" ∷ (codes "never" ∷ [])))) ≡ ToCheck (codes ".") None (style_of false false false format.Text color.Never)
+  pub check_xml_named : asked_by_subcommand (command_line program (codes "check" ∷ (codes "--format" ∷ (codes "xml" ∷ [])))) ≡ ToRefuse Form
+  pub check_red_named : asked_by_subcommand (command_line program (codes "check" ∷ (codes "--color" ∷ (codes "red" ∷ [])))) ≡ ToRefuse Colors
   pub check_folder : (folder : Text) → is_plain folder ≡ true → refusals (command_line program (codes "check" ∷ (folder ∷ []))) ≡ []
-  pub check_folder_named : (folder : Text) → is_plain folder ≡ true → asked_by_subcommand (command_line program (codes "check" ∷ (folder ∷ []))) ≡ ToCheck folder None false
+  pub check_folder_named : (folder : Text) → is_plain folder ≡ true → asked_by_subcommand (command_line program (codes "check" ∷ (folder ∷ []))) ≡ ToCheck folder None plain_style
   pub check_json : (folder : Text) → is_plain folder ≡ true → refusals (command_line program (codes "check" ∷ (folder ∷ (codes "--json" ∷ [])))) ≡ []
-  pub check_json_named : (folder : Text) → is_plain folder ≡ true → asked_by_subcommand (command_line program (codes "check" ∷ (folder ∷ (codes "--json" ∷ [])))) ≡ ToCheck folder None true
+  pub check_json_named : (folder : Text) → is_plain folder ≡ true → asked_by_subcommand (command_line program (codes "check" ∷ (folder ∷ (codes "--json" ∷ [])))) ≡ ToCheck folder None json_style
   pub check_module : (folder path : Text) → is_plain folder ≡ true → is_plain path ≡ true → refusals (command_line program (codes "check" ∷ (folder ∷ (codes "--module" ∷ (path ∷ []))))) ≡ []
-  pub check_module_named : (folder path : Text) → is_plain folder ≡ true → is_plain path ≡ true → asked_by_subcommand (command_line program (codes "check" ∷ (folder ∷ (codes "--module" ∷ (path ∷ []))))) ≡ ToCheck folder (Some path) false
+  pub check_module_named : (folder path : Text) → is_plain folder ≡ true → is_plain path ≡ true → asked_by_subcommand (command_line program (codes "check" ∷ (folder ∷ (codes "--module" ∷ (path ∷ []))))) ≡ ToCheck folder (Some path) plain_style
   pub check_module_json : (folder path : Text) → is_plain folder ≡ true → is_plain path ≡ true → refusals (command_line program (codes "check" ∷ (folder ∷ (codes "--module" ∷ (path ∷ (codes "--json" ∷ [])))))) ≡ []
-  pub check_module_json_named : (folder path : Text) → is_plain folder ≡ true → is_plain path ≡ true → asked_by_subcommand (command_line program (codes "check" ∷ (folder ∷ (codes "--module" ∷ (path ∷ (codes "--json" ∷ [])))))) ≡ ToCheck folder (Some path) true
+  pub check_module_json_named : (folder path : Text) → is_plain folder ≡ true → is_plain path ≡ true → asked_by_subcommand (command_line program (codes "check" ∷ (folder ∷ (codes "--module" ∷ (path ∷ (codes "--json" ∷ [])))))) ≡ ToCheck folder (Some path) json_style
   pub json_check : (folder : Text) → is_plain folder ≡ true → refusals (command_line program (codes "check" ∷ (codes "--json" ∷ (folder ∷ [])))) ≡ []
-  pub json_check_named : (folder : Text) → is_plain folder ≡ true → asked_by_subcommand (command_line program (codes "check" ∷ (codes "--json" ∷ (folder ∷ [])))) ≡ ToCheck folder None true
+  pub json_check_named : (folder : Text) → is_plain folder ≡ true → asked_by_subcommand (command_line program (codes "check" ∷ (codes "--json" ∷ (folder ∷ [])))) ≡ ToCheck folder None json_style
   pub module_check : (folder path : Text) → is_plain folder ≡ true → is_plain path ≡ true → refusals (command_line program (codes "check" ∷ (codes "--module" ∷ (path ∷ (folder ∷ []))))) ≡ []
-  pub module_check_named : (folder path : Text) → is_plain folder ≡ true → is_plain path ≡ true → asked_by_subcommand (command_line program (codes "check" ∷ (codes "--module" ∷ (path ∷ (folder ∷ []))))) ≡ ToCheck folder (Some path) false
+  pub module_check_named : (folder path : Text) → is_plain folder ≡ true → is_plain path ≡ true → asked_by_subcommand (command_line program (codes "check" ∷ (codes "--module" ∷ (path ∷ (folder ∷ []))))) ≡ ToCheck folder (Some path) plain_style
   pub script : refusals (command_line program (codes "script" ∷ [])) ≡ []
   pub script_named : asked_by_subcommand (command_line program (codes "script" ∷ [])) ≡ ToScript 1
   pub script_workers : (count : Text) → is_plain count ≡ true → refusals (command_line program (codes "script" ∷ (codes "--workers" ∷ (count ∷ [])))) ≡ []
@@ -248,7 +301,8 @@ pub record AskAs (program : Text) : Type 0 where
   pub serve_told : (address count most : Text) → is_plain address ≡ true → is_plain count ≡ true → is_plain most ≡ true → refusals (command_line program (codes "serve" ∷ (codes "--listen" ∷ (address ∷ (codes "--workers" ∷ (count ∷ (codes "--connections" ∷ (most ∷ [])))))))) ≡ []
   pub serve_told_named : (address count most : Text) → is_plain address ≡ true → is_plain count ≡ true → is_plain most ≡ true → asked_by_subcommand (command_line program (codes "serve" ∷ (codes "--listen" ∷ (address ∷ (codes "--workers" ∷ (count ∷ (codes "--connections" ∷ (most ∷ [])))))))) ≡ serve_with address (workers_in (Some count)) (connections_in (Some most))
   pub one_connection : asked_by_subcommand (command_line program (codes "serve" ∷ (codes "--listen" ∷ (codes "127.0.0.1:0" ∷ (codes "--connections" ∷ (codes "1" ∷ [])))))) ≡ ToServe (codes "127.0.0.1:0") 1 (Some 1)
-  pub run : refusals (command_line program (codes "run" ∷ [])) ≡ kind.MissingRequiredArgument ∷ []
+  pub run : refusals (command_line program (codes "run" ∷ [])) ≡ []
+  pub run_named : asked_by_subcommand (command_line program (codes "run" ∷ [])) ≡ ToRun (codes ".") None None 1000000000
   pub run_folder : (folder : Text) → is_plain folder ≡ true → refusals (command_line program (codes "run" ∷ (folder ∷ []))) ≡ []
   pub run_folder_named : (folder : Text) → is_plain folder ≡ true → asked_by_subcommand (command_line program (codes "run" ∷ (folder ∷ []))) ≡ ToRun folder None None 1000000000
   pub run_steps : (folder count : Text) → is_plain folder ≡ true → is_plain count ≡ true → refusals (command_line program (codes "run" ∷ (folder ∷ (codes "--steps" ∷ (count ∷ []))))) ≡ []

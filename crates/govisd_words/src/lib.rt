@@ -7,7 +7,7 @@ mod words;
 
 pub use status::{end_status, refusal_status, serve_status, unread_status};
 pub use texts::{
-    bad_count_text, command_help, end_text, listening_text, program_help, refused_text,
-    script_end_text, serve_end_text, unbound_text, unknown_command, version_text,
+    bad_value_text, command_help, end_text, listening_text, program_help, refused_text,
+    script_end_text, serve_end_text, unbound_text, unknown_command, unwritten_text, version_text,
 };
-pub use words::{CountOption, Daemon, Request, forms, read_words};
+pub use words::{Daemon, Request, ValueOption, forms, read_words};

@@ -1,55 +1,56 @@
 //! What the program writes of itself.
 ghost use Rattle.std.specs.Prelude.{◌≡◌, ◌↔◌, IfOk, IsTrue, option_map, string_bytes};
 ghost use Rattle.govisd_words.specs.Listening.{IsListeningText, IsLoopback};
-ghost use Rattle.govisd_words.specs.Texts.{check_help_text, explain_help_text, help_of, program_help_text, run_help_text, script_help_text, serve_help_text, bad_count_text as text_of_bad_count, listening_line as line_of_listening, script_end_text as text_of_script_end, serve_end_text as text_of_serve_end, unbound_front as front_of_unbound, unbound_text as text_of_unbound, unknown_command_text, resolve_help_text, version_text as text_of_version, refused_text as text_of_refused, end_text as text_of_end};
+ghost use Rattle.govisd_words.specs.Texts.{check_help_text, explain_help_text, help_of, program_help_text, run_help_text, script_help_text, serve_help_text, bad_value_text as text_of_bad_value, listening_line as line_of_listening, script_end_text as text_of_script_end, serve_end_text as text_of_serve_end, unbound_front as front_of_unbound, unbound_text as text_of_unbound, unknown_command_text, unwritten_text as text_of_unwritten, resolve_help_text, version_text as text_of_version, refused_text as text_of_refused, end_text as text_of_end};
 
-use crate::words::CountOption;
+use crate::words::ValueOption;
 use go_wire_core::ServeEnd;
 use govisd_core::ResolveEnd;
 use std::alloc::{AllocError, Global};
+use std::io::ErrorKind;
 use std::net::SocketAddr;
 
 /// What the program takes, and its exit statuses.
 pub fn program_help() -> &'static str
     ensures { result.now ≡ program_help_text }
 {
-    "Answers questions on Go sources\n\nUsage: govisd <COMMAND>\n\nCommands:\n  resolve  Reads a Go file from standard input, and writes what each identifier in it denotes\n  check    Checks the Go packages of a folder, and tells each fault with its place\n  explain  Says what a rule means, with an example that breaks it\n  run      Compiles the Go packages of a folder, and runs one\n  script   Serves Go sessions by lines of JSON on standard input and output\n  serve    Serves Go sessions by lines of JSON over TCP\n  help     Writes this text, or that of a command: govisd help explain\n\nOptions:\n  -h, --help     Writes this text\n  -V, --version  Writes the version\n\nExamples:\n  govisd resolve < a.go\n  govisd check . --module example.com/mine\n  govisd explain N1\n  govisd serve --listen 127.0.0.1:7000\n\nExit status: 0 where the source has no fault or a service came to its end, 1 where it has one or the run failed, 2 where the command line, the folder or a name is refused.\nThose of run: govisd help run\n"
+    "Answers questions on Go sources\n\nUsage: govisd <COMMAND>\n\nCommands:\n  check    Checks the Go packages of a folder, and tells what is wrong and where\n  run      Compiles the Go packages of a folder, and runs one\n  explain  Says what a rule means, with an example that breaks it\n  resolve  Says what each name in a Go file on standard input denotes\n  script   Serves Go sessions by lines of JSON on standard input and output\n  serve    Serves Go sessions by lines of JSON over TCP\n  help     Writes this text, or that of a command: govisd help check\n\nOptions:\n  -h, --help     Writes this text\n  -V, --version  Writes the version\n\nExamples:\n  govisd check\n  govisd explain N1\n  govisd run primes\n  govisd resolve < a.go\n\nExit status: 0 where the source has no fault or a service came to its end,\n1 where it has one or the run failed, 2 where the command line, the folder or a\nname is refused. Those of run: govisd help run\n"
 }
 
 fn resolve_help() -> &'static str
     ensures { result.now ≡ resolve_help_text }
 {
-    "Reads a Go file from standard input, and writes what each identifier in it denotes\n\nUsage: govisd resolve\n\nOptions:\n  -h, --help  Writes this text\n\nThe file is taken as the one file of a package that stands alone, so each import in it is refused. It may have 1,048,576 bytes of UTF-8.\nWritten is a line for each identifier that is used, in order of place: its offset in bytes from 0, its role, the identifier,\nand the declaration that it denotes or the rule that it breaks. Behind these stand the other faults, as fault OFFSET RULE.\n\nExample:\n  govisd resolve < a.go\n\nExit status: 0 where the source has no fault, 1 where it has one or the run failed, 2 where the command line is refused\n"
+    "Reads a Go file from standard input, and writes what each name in it denotes\n\nUsage: govisd resolve\n\nOptions:\n  -h, --help  Writes this text\n\nThe file is taken as the one file of a package that stands alone, so each import\nin it is refused. It may have 1,048,576 bytes of UTF-8.\nWritten is a line for each identifier that is used, in order of place: its\noffset in bytes from 0, its role, the identifier, and the declaration that it\ndenotes or the rule that it breaks. After these stand the other faults, as\nfault OFFSET RULE.\n\nExample:\n  govisd resolve < a.go\n\nExit status: 0 where the source has no fault, 1 where it has one or the run\nfailed, 2 where the command line is refused\n"
 }
 
 fn check_help() -> &'static str
     ensures { result.now ≡ check_help_text }
 {
-    "Checks the Go packages of a folder, and tells each fault with its place. Nothing is written into the folder\n\nUsage: govisd check [OPTIONS] <FOLDER>\n\nArguments:\n  <FOLDER>  The folder of a module. The .go files of each folder in it are a package, but for tests (_test.go), for names that begin\n            with . or _, and for the folders testdata and vendor\n\nOptions:\n  --module <PATH>  The import path of the module, as in its go.mod. Without it, the name of the folder\n  --json           One JSON object a line for each fault, and nothing else on standard output\n  -h, --help       Writes this text\n\nEach line is FILE:LINE:COLUMN: RULE and what the rule means: govisd explain RULE says more. Lines and bytes are counted from 1.\nWhat cannot be read is named on standard error, and all else is checked. Only packages of the folder are known: an import of the\nstandard library or of another module is I2. Neither go.mod nor build constraints are read.\n\nExamples:\n  govisd check .\n  govisd check shop --module example.com/shop\n  govisd check shop --json\n\nExit status: 0 where there is no fault, 1 where there is one or something was left out, 2 where nothing was checked\n"
+    "Checks the Go packages of a folder, and tells what is wrong and where\n\nUsage: govisd check [OPTIONS] [FOLDER]\n\nArguments:\n  [FOLDER]  The folder, with all folders in it. Without it, the one that govisd\n            runs in. FOLDER/... is the same. It may be a Go file: then only the\n            faults of this file are told\n\nOptions:\n  --module <PATH>  The import path of the module. Without it, the one that the\n                   first go.mod in the folder or above it names; where there is\n                   no go.mod, the name of the folder\n  --all            Tells also the faults that follow from others\n  --format <FORM>  text, json, github or sarif. Without it, text\n  --json           The same as --format json\n  --source         Shows the lines of the source, as on a terminal\n  --color <WHEN>   auto, always or never. Without it, auto\n  -h, --help       Writes this text\n\nEach fault is told as FILE:LINE:COLUMN: RULE and what is wrong. Lines and bytes\nare counted from 1. govisd explain RULE says more of a rule. A fault that\nfollows from another one is counted, and told with --all. A variable that\nnothing uses is noted, and not counted.\nWith --format json each fault is an object in a line, those that follow too.\nThe .go files of a folder are a package, but for tests (_test.go) and names that\nbegin with . or _; so named folders, testdata and vendor are passed over. Where\na go.mod lies above the folder, all packages of its module are read, and those\nin the folder are told. A file that cannot be read is named on standard error,\nand its package is not checked (K4). Nothing is written into the folder.\nOnly packages of the module are known: an import of the standard library or of\nanother module is I2. Build constraints are not read.\n\nExamples:\n  govisd check\n  govisd check ./cart\n  govisd check cart/cart.go\n  govisd check shop --module example.com/shop --json\n\nExit status: 0 where there is no fault, 1 where there is one or something was\nleft out, 2 where nothing was checked\n"
 }
 
 fn explain_help() -> &'static str
     ensures { result.now ≡ explain_help_text }
 {
-    "Says what a rule means, with an example that breaks it and how to mend it\n\nUsage: govisd explain [RULE]\n\nArguments:\n  [RULE]  The name of a rule, as N1. Without it all rules are listed, one a line\n\nOptions:\n  -h, --help  Writes this text\n\nExamples:\n  govisd explain N1\n  govisd explain\n\nExit status: 0, or 2 where no rule has this name\n"
+    "Says what a rule means, with an example that breaks it and how to mend it\n\nUsage: govisd explain [OPTIONS] [RULE]\n\nArguments:\n  [RULE]  The name of a rule, as N1 or n1. Without it all rules are listed, one\n          a line\n\nOptions:\n  --json      Tells each rule as a JSON object in a line, with the members\n              example, meaning, mending and rule\n  -h, --help  Writes this text\n\nExamples:\n  govisd explain N1\n  govisd explain\n  govisd explain --json\n\nExit status: 0, or 2 where no rule has this name\n"
 }
 
 fn run_help() -> &'static str
     ensures { result.now ≡ run_help_text }
 {
-    "Compiles the Go packages of a folder, and runs one\n\nUsage: govisd run [OPTIONS] <FOLDER>\n\nArguments:\n  <FOLDER>  The folder of a module, as govisd check takes it\n\nOptions:\n  --module <PATH>  The import path of the module, as in its go.mod. Without it, the name of the folder\n  --main <PATH>    The import path of the package that is run. Without it, the one that is named main\n  --steps <N>      Stops after so many steps, one for each instruction. Without it, after 1,000,000,000\n  -h, --help       Writes this text\n\nWhat the program prints goes to standard output, and what it panics with to standard error, as panic: 5. Where it is not run, standard error says\nwhy: faults are told as govisd check tells them.\n\nExamples:\n  govisd run primes\n  govisd run shop --module example.com/shop --main example.com/shop/cmd\n\nExit status: 0 where the program ended, 1 where it was not run, 2 where it panicked or the command line is refused, 3 where its steps\nwere spent\n"
+    "Compiles the Go packages of a folder, and runs one\n\nUsage: govisd run [OPTIONS] [FOLDER]\n\nArguments:\n  [FOLDER]  The folder, as govisd check takes it. Without it, the one that\n            govisd runs in\n\nOptions:\n  --module <PATH>  The import path of the module, as for govisd check\n  --main <PATH>    The import path of the package that is run. Without it, the\n                   one in the folder that is named main\n  --steps <N>      Stops after so many steps, one for each instruction. Without\n                   it, after 1,000,000,000\n  -h, --help       Writes this text\n\nWhat the program prints goes to standard output, and what it panics with to\nstandard error, as panic: 5. Where it is not run, standard error says why:\nfaults are told as govisd check tells them.\n\nExamples:\n  govisd run primes\n  govisd run shop --main example.com/shop/cmd\n\nExit status: 0 where the program ended, 1 where it was not run, 2 where it\npanicked or the command line is refused, 3 where its steps were spent\n"
 }
 
 fn script_help() -> &'static str
     ensures { result.now ≡ script_help_text }
 {
-    "Serves Go sessions by lines of JSON on standard input and output\n\nUsage: govisd script [OPTIONS]\n\nOptions:\n  --workers <N>  How many packages are compiled at once, 1 to 64. Without it, 1\n  -h, --help     Writes this text\n\nEach line is one request of a session, whose number, 1 to 32, is its member \"s\". Each is answered by one line, in order.\n\nExample:\n  printf '{\"cmd\":\"open\",\"module\":\"example.com/a\",\"s\":1}\\n' | govisd script\n\nExit status: 0 where the input ended, 1 where a line was too long, reading or writing failed, or memory or threads ran out, 2 where the command\nline is refused\n"
+    "Serves Go sessions by lines of JSON on standard input and output\n\nUsage: govisd script [OPTIONS]\n\nOptions:\n  --workers <N>  How many packages are compiled at once, 1 to 64. Without it, 1\n  -h, --help     Writes this text\n\nEach line is one request of a session, whose number, 1 to 32, is its member \"s\".\nEach is answered by one line, in order.\n\nExample:\n  printf '{\"cmd\":\"open\",\"module\":\"example.com/a\",\"s\":1}\\n' | govisd script\n\nExit status: 0 where the input ended, 1 where a line was too long, reading or\nwriting failed, or memory or threads ran out, 2 where the command line is\nrefused\n"
 }
 
 fn serve_help() -> &'static str
     ensures { result.now ≡ serve_help_text }
 {
-    "Serves Go sessions by lines of JSON over TCP\n\nUsage: govisd serve [OPTIONS] --listen <ADDRESS>\n\nOptions:\n  --listen <ADDRESS>  An address and a port, as 127.0.0.1:7000. With port 0 the system chooses one\n  --workers <N>       How many packages are compiled at once, 1 to 64. Without it, 1\n  --connections <K>   Ends once so many connections came and have ended. Without it, there is no end\n  -h, --help          Writes this text\n\nOnce it listens, it says so on standard error, with the address and the port: govisd: listening on 127.0.0.1:7000. Each line of a\nconnection is one request, answered by one line, in order. A connection has one session at a time, which ends with it. At most 32 connections\nare served at once: another is told {\"err\":\"O4\"} and closed. Whoever reaches the address may open sessions: nobody is asked for a name.\n\nExample:\n  govisd serve --listen 127.0.0.1:7000 --workers 4\n\nExit status: 0 after the last connection, 1 where the address cannot be listened on, a connection cannot be accepted, or memory or threads\nran out, 2 where the command line is refused\n"
+    "Serves Go sessions by lines of JSON over TCP\n\nUsage: govisd serve [OPTIONS] --listen <ADDRESS>\n\nOptions:\n  --listen <ADDRESS>  An address and a port, as 127.0.0.1:7000. With port 0 the\n                      system chooses one\n  --workers <N>       How many packages are compiled at once, 1 to 64. Without\n                      it, 1\n  --connections <K>   Ends once so many connections came and have ended. Without\n                      it, there is no end\n  -h, --help          Writes this text\n\nOnce it listens, it says so on standard error, with the address and the port:\ngovisd: listening on 127.0.0.1:7000. Each line of a connection is one request,\nanswered by one line, in order. A connection has one session at a time, which\nends with it. At most 32 connections are served at once: another is told\n{\"err\":\"O4\"} and closed. Whoever reaches the address may open sessions: nobody\nis asked for a name.\n\nExample:\n  govisd serve --listen 127.0.0.1:7000 --workers 4\n\nExit status: 0 after the last connection, 1 where the address cannot be listened\non, a connection cannot be accepted, or memory or threads ran out, 2 where the\ncommand line is refused\n"
 }
 
 /// What a command takes, if there is one of this name.
@@ -121,19 +122,35 @@ pub fn end_text(end: ResolveEnd) -> &'static str
     }
 }
 
-/// What is wrong with a number, and that the command line is refused.
-pub fn bad_count_text(option: CountOption) -> &'static str
-    ensures { result.now ≡ text_of_bad_count option }
+/// Why what was asked for could not be written, or nothing where nobody reads it any more.
+pub fn unwritten_text(kind: ErrorKind) -> &'static str
+    ensures { result.now ≡ text_of_unwritten kind }
+{
+    match kind {
+        ErrorKind::BrokenPipe => "",
+        _ => "govisd: standard output cannot be written\n",
+    }
+}
+
+/// What is wrong with the word behind an option, and that the command line is refused.
+pub fn bad_value_text(option: ValueOption) -> &'static str
+    ensures { result.now ≡ text_of_bad_value option }
 {
     match option {
-        CountOption::Workers => {
+        ValueOption::Workers => {
             "govisd: --workers takes a number from 1 to 64\ngovisd: the command line is refused\n"
         }
-        CountOption::Connections => {
+        ValueOption::Connections => {
             "govisd: --connections takes a number from 0 to 18446744073709551615\ngovisd: the command line is refused\n"
         }
-        CountOption::Steps => {
+        ValueOption::Steps => {
             "govisd: --steps takes a number from 0 to 18446744073709551615\ngovisd: the command line is refused\n"
+        }
+        ValueOption::Form => {
+            "govisd: --format takes text, json, github or sarif\ngovisd: the command line is refused\n"
+        }
+        ValueOption::Colors => {
+            "govisd: --color takes auto, always or never\ngovisd: the command line is refused\n"
         }
     }
 }

@@ -4,11 +4,13 @@ ghost use Rattle.clap.specs.Walk.{first_of};
 ghost use Rattle.govisd_words.specs.Counts.{connections_in, in_workers, number_of, steps_in, workers_in};
 ghost use Rattle.clap.specs.Words.{app_of, found_of, rows_of};
 ghost use Rattle.clap.specs.declared.builder.command.Command.TheViews.{out-Command as fields_of};
-ghost use Rattle.govisd_words.specs.Asking.{Asks, Forms, asked_in, check_app, command_behind, explain_app, govisd_app, source_app, help_app, if_command, main_app, names_checker, names_command, order_in, said, said_daemon, said_order, said_run, run_app, run_in, run_of_steps, script_app, script_in, serve_app, serve_in};
+ghost use Rattle.go_folder_core.specs.declared.orders.Format.TheVariants as format;
+ghost use Rattle.govisd_words.specs.Styles.{color_in, color_named, format_in, format_named, style_of};
+ghost use Rattle.govisd_words.specs.Asking.{Asks, Forms, asked_in, check_app, check_in, command_behind, explain_app, explain_in, govisd_app, source_app, help_app, if_command, json_app, main_app, names_checker, names_command, order_in, said, said_daemon, said_order, said_run, run_app, run_in, run_of_steps, script_app, script_in, serve_app, serve_in, shown_app, style_in};
 
 use clap::error::ErrorKind;
 use clap::{Arg, ArgAction, ArgMatches, Command, Error};
-use go_folder_core::{Order, RunOrder};
+use go_folder_core::{Color, Format, Order, RunOrder, Style};
 use std::alloc::{AllocError, Global};
 use std::convert::AsStr;
 
@@ -23,15 +25,19 @@ pub struct Daemon<'a> {
     pub connections: Option<u64>,
 }
 
-/// An option with a number behind it.
+/// An option with a value behind it that not every word is.
 #[derive(Clone, Copy, Debug, PartialEq, Eq)]
-pub enum CountOption {
+pub enum ValueOption {
     /// `--workers`, which takes 1 to 64.
     Workers,
     /// `--connections`, which takes any number below 2^64.
     Connections,
     /// `--steps`, which takes any number below 2^64.
     Steps,
+    /// `--format`, which takes the name of a form.
+    Form,
+    /// `--color`, which takes `auto`, `always` or `never`.
+    Colors,
 }
 
 /// What a command line asks for.
@@ -39,8 +45,8 @@ pub enum CountOption {
 pub enum Request<'a> {
     /// A run of `resolve`.
     Resolve,
-    /// What a rule means, by its name, or all rules.
-    Explain(Option<&'a str>),
+    /// What a rule means, by its name, or all rules; and whether as JSON.
+    Explain(Option<&'a str>, bool),
     /// The check of a folder.
     Check(Order<'a>),
     /// The run of a folder.
@@ -53,25 +59,28 @@ pub enum Request<'a> {
     Help(Option<&'a str>),
     /// The program's version.
     Version,
-    /// Nothing, since the number behind an option is none that it takes.
-    BadCount(CountOption),
+    /// Nothing, since the word behind an option is none that it takes.
+    BadValue(ValueOption),
 }
 
-// The command `explain`, with the name of a rule.
+// The command `explain`, with the name of a rule, and whether it is told as JSON.
 fn explain_command<'a>(alloc: Global) -> Result<Command<'a>, AllocError>
     ensures shape { IfOk result (λ c. app_of c ≡ explain_app) }
     ensures local { IfOk result (λ c. (fields_of c).has_globals ≡ false) }
 {
     let rule = Arg::new(alloc, "rule");
-    Command::new(alloc, "explain").arg(rule)
+    let json = Arg::new(alloc, "json")
+        .long("json")
+        .action(ArgAction::Count);
+    Command::new(alloc, "explain").arg(rule)?.arg(json)
 }
 
-// The command `check`, with a folder, the path of its module, and how the faults are written.
-fn check_command<'a>(alloc: Global) -> Result<Command<'a>, AllocError>
-    ensures shape { IfOk result (λ c. app_of c ≡ check_app) }
+// The command `check`, with a folder, the path of its module, and whether the faults are written as JSON.
+fn json_command<'a>(alloc: Global) -> Result<Command<'a>, AllocError>
+    ensures shape { IfOk result (λ c. app_of c ≡ json_app) }
     ensures local { IfOk result (λ c. (fields_of c).has_globals ≡ false) }
 {
-    let folder = Arg::new(alloc, "folder").required(true);
+    let folder = Arg::new(alloc, "folder");
     let path = Arg::new(alloc, "module").long("module");
     let json = Arg::new(alloc, "json")
         .long("json")
@@ -80,6 +89,28 @@ fn check_command<'a>(alloc: Global) -> Result<Command<'a>, AllocError>
         .arg(folder)?
         .arg(path)?
         .arg(json)
+}
+
+// The same with whether all faults are written, and the lines of the source.
+fn source_command<'a>(alloc: Global) -> Result<Command<'a>, AllocError>
+    ensures shape { IfOk result (λ c. app_of c ≡ shown_app) }
+    ensures local { IfOk result (λ c. (fields_of c).has_globals ≡ false) }
+{
+    let all = Arg::new(alloc, "all").long("all").action(ArgAction::Count);
+    let source = Arg::new(alloc, "source")
+        .long("source")
+        .action(ArgAction::Count);
+    json_command(alloc)?.arg(all)?.arg(source)
+}
+
+// The same with the form in which the faults are written, and when that has colours.
+fn check_command<'a>(alloc: Global) -> Result<Command<'a>, AllocError>
+    ensures shape { IfOk result (λ c. app_of c ≡ check_app) }
+    ensures local { IfOk result (λ c. (fields_of c).has_globals ≡ false) }
+{
+    let form = Arg::new(alloc, "format").long("format");
+    let color = Arg::new(alloc, "color").long("color");
+    source_command(alloc)?.arg(form)?.arg(color)
 }
 
 // The command `help`, with the name of a command.
@@ -96,7 +127,7 @@ fn main_command<'a>(alloc: Global) -> Result<Command<'a>, AllocError>
     ensures shape { IfOk result (λ c. app_of c ≡ main_app) }
     ensures local { IfOk result (λ c. (fields_of c).has_globals ≡ false) }
 {
-    let root = Arg::new(alloc, "folder").required(true);
+    let root = Arg::new(alloc, "folder");
     let path = Arg::new(alloc, "module").long("module");
     let main = Arg::new(alloc, "main").long("main");
     Command::new(alloc, "run").arg(root)?.arg(path)?.arg(main)
@@ -263,7 +294,7 @@ fn run_of<'a>(found: &ArgMatches<'a>) -> Request<'a>
 {
     match steps_told(found) {
         Some(steps) => Request::Run(run_for(found, steps)),
-        None => Request::BadCount(CountOption::Steps),
+        None => Request::BadValue(ValueOption::Steps),
     }
 }
 
@@ -273,7 +304,7 @@ fn script_of<'a>(found: &ArgMatches<'a>) -> Request<'a>
 {
     match workers_told(found) {
         Some(workers) => Request::Script(workers),
-        None => Request::BadCount(CountOption::Workers),
+        None => Request::BadValue(ValueOption::Workers),
     }
 }
 
@@ -297,22 +328,135 @@ fn serve_of<'a>(found: &ArgMatches<'a>) -> Request<'a>
                 workers,
                 connections,
             }),
-            None => Request::BadCount(CountOption::Connections),
+            None => Request::BadValue(ValueOption::Connections),
         },
-        None => Request::BadCount(CountOption::Workers),
+        None => Request::BadValue(ValueOption::Workers),
     }
+}
+
+// The form that a word names.
+fn format_named(word: &str) -> Option<Format>
+    ensures { result ≡ format_named word.now }
+{
+    if word == "text" {
+        return Some(Format::Text);
+    }
+    if word == "json" {
+        return Some(Format::Json);
+    }
+    if word == "github" {
+        return Some(Format::Github);
+    }
+    if word == "sarif" {
+        return Some(Format::Sarif);
+    }
+    None
+}
+
+// The form that is told: text where none is, and nothing where what is told names none.
+fn format_of(word: Option<&str>) -> Option<Format>
+    ensures { result ≡ format_in (option_map (λ w. w.now) word.entry) }
+{
+    match word {
+        None => Some(Format::Text),
+        Some(word) => format_named(word),
+    }
+}
+
+// The form that is told behind a command.
+fn format_told(found: &ArgMatches<'_>) -> Option<Format>
+    ensures { result ≡ format_in (first_of (codes "format") (rows_of (found_of found.now))) }
+{
+    format_of(found.get_str("format"))
+}
+
+// When there are colours, by a word.
+fn color_named(word: &str) -> Option<Color>
+    ensures { result ≡ color_named word.now }
+{
+    if word == "auto" {
+        return Some(Color::Auto);
+    }
+    if word == "always" {
+        return Some(Color::Always);
+    }
+    if word == "never" {
+        return Some(Color::Never);
+    }
+    None
+}
+
+// When there are colours: where a terminal reads them, where nothing is told, and nothing where what is told is no such word.
+fn color_of(word: Option<&str>) -> Option<Color>
+    ensures { result ≡ color_in (option_map (λ w. w.now) word.entry) }
+{
+    match word {
+        None => Some(Color::Auto),
+        Some(word) => color_named(word),
+    }
+}
+
+// When there are colours, as it is told behind a command.
+fn color_told(found: &ArgMatches<'_>) -> Option<Color>
+    ensures { result ≡ color_in (first_of (codes "color") (rows_of (found_of found.now))) }
+{
+    color_of(found.get_str("color"))
+}
+
+// How the faults are written: as JSON where that is asked for, and else in a form.
+fn style_of(is_json: bool, all: bool, source: bool, format: Format, color: Color) -> Style
+    ensures { result ≡ style_of is_json all source format color }
+{
+    Style {
+        format: if is_json { Format::Json } else { format },
+        all,
+        color,
+        source,
+    }
+}
+
+// How the faults are written, by what stands behind the command.
+fn style_told(found: &ArgMatches<'_>, format: Format, color: Color) -> Style
+    ensures { result ≡ style_in format color (rows_of (found_of found.now)) }
+{
+    let is_json = found.get_count("json") > 0;
+    let all = found.get_count("all") > 0;
+    let source = found.get_count("source") > 0;
+    style_of(is_json, all, source, format, color)
 }
 
 // The check that is asked for, by what stands behind the command.
 #[tactic(auto, using(crate::proofs::WordLemmas::value_in_rows))]
-fn order_of<'a>(found: &ArgMatches<'a>) -> Order<'a>
-    ensures { said_order result ≡ order_in (rows_of (found_of found.now)) }
+fn order_of<'a>(found: &ArgMatches<'a>, style: Style) -> Order<'a>
+    ensures { said_order result ≡ order_in style (rows_of (found_of found.now)) }
 {
     Order {
         folder: found.get_str("folder").unwrap_or("."),
         module_path: found.get_str("module"),
-        json: found.get_count("json") > 0,
+        style,
     }
+}
+
+// The check that is asked for, where the words behind its options are such that they take.
+fn check_of<'a>(found: &ArgMatches<'a>) -> Request<'a>
+    ensures { said result ≡ check_in (rows_of (found_of found.now)) }
+{
+    match format_told(found) {
+        Some(format) => match color_told(found) {
+            Some(color) => Request::Check(order_of(found, style_told(found, format, color))),
+            None => Request::BadValue(ValueOption::Colors),
+        },
+        None => Request::BadValue(ValueOption::Form),
+    }
+}
+
+// What is to be explained, by what stands behind the command.
+#[tactic(auto, using(crate::proofs::WordLemmas::value_in_rows))]
+fn explain_of<'a>(found: &ArgMatches<'a>) -> Request<'a>
+    ensures { said result ≡ explain_in (rows_of (found_of found.now)) }
+{
+    let as_json = found.get_count("json") > 0;
+    Request::Explain(found.get_str("rule"), as_json)
 }
 
 // What a command asks for, by its name and what stands behind it.
@@ -321,10 +465,10 @@ fn request_of<'a>(name: &str, found: &ArgMatches<'a>) -> Request<'a>
     ensures { said result ≡ asked_in (name.now, rows_of (found_of found.now)) }
 {
     if name == "explain" {
-        return Request::Explain(found.get_str("rule"));
+        return explain_of(found);
     }
     if name == "check" {
-        return Request::Check(order_of(found));
+        return check_of(found);
     }
     if name == "help" {
         return Request::Help(found.get_str("command"));

@@ -7,5 +7,5 @@ abbrev pub invariant-loop-place : goal.invariant-loop-place
 invariant-loop-place l = record {
   begun : 1 ≤ l.place;
   lines : l.lines ≡ l.initial.lines;
-  added : AddsLines l.json l.module_path l.workspace (take l.place l.faults) (string_bytes l.fn.out) (string_bytes l.out);
+  added : AddsLines l.page.look l.page.scope.package.now l.page.given.now l.snapshot.sources l.is_first (take l.place l.faults) (string_bytes l.fn.out) (string_bytes l.out);
 }

@@ -1,6 +1,6 @@
 use Rattle.std.proofs.Common.{refl}
 use Rattle.clap.proofs.OnLiterals.{clap_on_literals}
-use Rattle.govisd_words.proofs.PlainWords.{check_folder, check_folder_named, check_json, check_json_named, check_module, check_module_json, check_module_json_named, check_module_named, explain_word, explain_word_named, help_word, help_word_named, json_check, json_check_named, module_check, module_check_named, resolve_word, run_folder, run_folder_named, run_steps, run_steps_named, run_told, run_told_named, script_workers, script_workers_named, serve_at, serve_at_named, serve_told, serve_told_named}
+use Rattle.govisd_words.proofs.PlainWords.{check_folder, check_folder_named, check_json, check_json_named, check_module, check_module_json, check_module_json_named, check_module_named, explain_word, explain_word_json, explain_word_json_named, explain_word_named, help_word, help_word_named, json_check, json_check_named, module_check, module_check_named, resolve_word, run_folder, run_folder_named, run_steps, run_steps_named, run_told, run_told_named, script_workers, script_workers_named, serve_at, serve_at_named, serve_told, serve_told_named}
 use Rattle.govisd_words.proofs.words.forms.Goals as goal
 
 pub returns : goal.returns
@@ -10,6 +10,10 @@ returns c = λ program. record {
   resolve_named = refl;
   explain = refl;
   explain_named = refl;
+  explain_json = refl;
+  explain_json_named = refl;
+  explain_word_json = explain_word_json program;
+  explain_word_json_named = explain_word_json_named program;
   explain_word = explain_word program;
   explain_word_named = explain_word_named program;
   help = refl;
@@ -17,6 +21,14 @@ returns c = λ program. record {
   help_word = help_word program;
   help_word_named = help_word_named program;
   check = refl;
+  check_named = refl;
+  check_all = refl;
+  check_all_named = refl;
+  check_source_named = refl;
+  check_github_named = refl;
+  check_never_named = refl;
+  check_xml_named = refl;
+  check_red_named = refl;
   check_folder = check_folder program;
   check_folder_named = check_folder_named program;
   check_json = check_json program;
@@ -45,6 +57,7 @@ returns c = λ program. record {
   serve_told_named = serve_told_named program;
   one_connection = refl;
   run = refl;
+  run_named = refl;
   run_folder = run_folder program;
   run_folder_named = run_folder_named program;
   run_steps = run_steps program;

@@ -1,0 +1,522 @@
+//! What is said of imports.
+
+use crate::here::Here;
+use crate::local::{is_declared, locals_of};
+use crate::messages::{Message, Words};
+use crate::packages::package_at;
+use crate::place::{place_here, place_text};
+use crate::quoting::shown;
+use crate::suggesting::fitting_import;
+use go_snap_core::graph_core::{PackageSource, SourceFile};
+use go_text_core::{Rule, add};
+use go_token_core::{TokenKind, plain_value};
+use go_tree_nodes::{ImportSpec, ImportSpecs};
+use std::alloc::{AllocError, Global};
+
+/// What is said of an import that breaks one of the rules I1 to I7.
+///
+/// # Errors
+///
+/// `AllocError` where memory is wanting.
+pub(crate) fn of_import(alloc: Global, here: &Here<'_>, rule: Rule) -> Result<Message, AllocError> {
+    let written = shown(alloc, here.word())?;
+    let path = import_path(here);
+    match rule {
+        Rule::I1 => no_path(alloc, here, written.as_str(), path),
+        Rule::I2 => no_package(alloc, here, written.as_str(), path),
+        Rule::I3 => internal(alloc, written.as_str(), path),
+        Rule::I4 => circle(alloc, here, path),
+        Rule::I5 => Message::of(
+            Words::new(alloc)
+                .and(written.as_str())
+                .and(" is a program (package main): it cannot be imported"),
+        ),
+        Rule::I6 => Message::of(
+            Words::new(alloc)
+                .and(written.as_str())
+                .and(" is not checked, since its files make no package"),
+        ),
+        _ => unused(alloc, here, written.as_str(), path),
+    }
+}
+
+// The path that the import at a place writes; nothing where it is written with escapes.
+fn import_path<'s>(here: &Here<'s>) -> &'s str {
+    match plain_value(here.word()) {
+        Some(path) => path,
+        None => "",
+    }
+}
+
+// Why a text is no import path.
+fn why_no_path(path: &str) -> &'static str {
+    if path.is_empty() {
+        return "it is empty";
+    }
+    if path.starts_with('.') {
+        return "an import path does not begin with a dot";
+    }
+    if path.starts_with('/') {
+        return "an import path does not begin with /";
+    }
+    if path.ends_with('/') {
+        return "an import path does not end with /";
+    }
+    if path.contains("//") {
+        return "an element is empty";
+    }
+    if path.contains(' ') {
+        return "a blank stands in it";
+    }
+    if path.contains('\\') {
+        return "a backslash stands in it: write /";
+    }
+    "its elements, at most 16, have letters, digits and - . _ ~ alone, and no dot at their ends"
+}
+
+// An import of what is no path.
+fn no_path(
+    alloc: Global,
+    here: &Here<'_>,
+    written: &str,
+    path: &str,
+) -> Result<Message, AllocError> {
+    let mut message = Message::of(
+        Words::new(alloc)
+            .and(written)
+            .and(" is no import path: ")
+            .and(why_no_path(path)),
+    )?;
+    if let Some(below) = path.strip_prefix("./") {
+        add_full_path(alloc, here, below, &mut message)?;
+    }
+    Ok(message)
+}
+
+// Adds the path of the package that lies so below that of a place, where there is one.
+fn add_full_path(
+    alloc: Global,
+    here: &Here<'_>,
+    below: &str,
+    message: &mut Message,
+) -> Result<(), AllocError> {
+    let full = Words::new(alloc)
+        .and(here.path().as_str())
+        .and("/")
+        .and(below)
+        .text()?;
+    if package_at(here, full.as_str()).is_some() {
+        return message.help(
+            Words::new(alloc)
+                .and("write \"")
+                .and(full.as_str())
+                .and("\""),
+        );
+    }
+    Ok(())
+}
+
+// The first element of a path.
+fn first_element(path: &str) -> &str {
+    match path.split_once('/') {
+        Some((first, _)) => first,
+        None => path,
+    }
+}
+
+// Whether a path is that of a module or lies below it.
+fn is_below(path: &str, module: &str) -> bool {
+    match path.strip_prefix(module) {
+        Some(behind) => behind.is_empty() || behind.starts_with('/'),
+        None => false,
+    }
+}
+
+// An import of no package of the workspace.
+fn no_package(
+    alloc: Global,
+    here: &Here<'_>,
+    written: &str,
+    path: &str,
+) -> Result<Message, AllocError> {
+    if is_below(path, here.module) {
+        return no_folder(alloc, here, written, path);
+    }
+    if !first_element(path).contains('.') {
+        return other_or_standard(alloc, here, written, path);
+    }
+    let mut message = Message::of(
+        Words::new(alloc).and(written).and(
+            " is a package of another module, which govisd does not know yet",
+        ),
+    )?;
+    add_near_import(alloc, here, path, &mut message)?;
+    Ok(message)
+}
+
+// An import of a folder of this module that has no Go files.
+fn no_folder(
+    alloc: Global,
+    here: &Here<'_>,
+    written: &str,
+    path: &str,
+) -> Result<Message, AllocError> {
+    let mut message = Message::of(
+        Words::new(alloc)
+            .and(written)
+            .and(": this module has no such folder with Go files"),
+    )?;
+    add_near_import(alloc, here, path, &mut message)?;
+    Ok(message)
+}
+
+// An import whose first element has no dot: of the standard library, or of a package of this module whose path was not written whole.
+fn other_or_standard(
+    alloc: Global,
+    here: &Here<'_>,
+    written: &str,
+    path: &str,
+) -> Result<Message, AllocError> {
+    let full = Words::new(alloc)
+        .and(here.module)
+        .and("/")
+        .and(path)
+        .text()?;
+    if package_at(here, full.as_str()).is_some() {
+        let mut message = Message::of(
+            Words::new(alloc).and(written).and(
+                " is no package: an import is written with the path of its module",
+            ),
+        )?;
+        message.help(
+            Words::new(alloc)
+                .and("write \"")
+                .and(full.as_str())
+                .and("\""),
+        )?;
+        return Ok(message);
+    }
+    Message::of(
+        Words::new(alloc).and(written).and(
+            ": packages of the standard library are not known to govisd yet",
+        ),
+    )
+}
+
+// Adds the nearest path of a package that could be imported.
+fn add_near_import(
+    alloc: Global,
+    here: &Here<'_>,
+    path: &str,
+    message: &mut Message,
+) -> Result<(), AllocError> {
+    match fitting_import(alloc, here.snapshot, here.path(), path)? {
+        Some(near) => message.fitting(Words::new(alloc).and("did you mean \""), &near, "\"?"),
+        None => Ok(()),
+    }
+}
+
+// The path in front of its last element `internal`.
+fn parent_of_internal(path: &str) -> &str {
+    match path.rsplit_once("/internal/") {
+        Some((parent, _)) => parent,
+        None => match path.strip_suffix("/internal") {
+            Some(parent) => parent,
+            None => "",
+        },
+    }
+}
+
+// An import of an internal package.
+fn internal(alloc: Global, written: &str, path: &str) -> Result<Message, AllocError> {
+    let parent = parent_of_internal(path);
+    Message::of(
+        Words::new(alloc)
+            .and(written)
+            .and(": an internal package is for ")
+            .and(parent)
+            .and(" and what lies below it alone"),
+    )
+}
+
+// An import on a cycle.
+fn circle<'s>(alloc: Global, here: &Here<'s>, path: &'s str) -> Result<Message, AllocError> {
+    let own = here.path().as_str();
+    if own == path {
+        return Message::of(
+            Words::new(alloc)
+                .and("import cycle: ")
+                .and(own)
+                .and(" imports itself"),
+        );
+    }
+    let way = way_back(alloc, &*here, &*path, own)?;
+    let mut text = Words::new(alloc)
+        .and("import cycle: ")
+        .and(own)
+        .and(" -> ")
+        .and(path)
+        .text()?;
+    for step in &way {
+        text.push_str(" -> ")?;
+        text.push_str(step.as_str())?;
+    }
+    let mut message = Message::new(alloc, text);
+    if let Some(source) = package_at(here, path) {
+        match way.first() {
+            Some(step) => add_import_place(alloc, here, source, step.as_str(), &mut message)?,
+            None => add_import_place(alloc, here, source, own, &mut message)?,
+        }
+    }
+    Ok(message)
+}
+
+// How many packages a search for a cycle looks at.
+const SEARCHED: usize = 64;
+
+// A package that a search reached, with the number of the one before it.
+#[derive(Drop)]
+struct Reached<'s> {
+    path: &'s str,
+    from: usize,
+}
+
+// The paths of packages that imports lead to from one package up to another, by a shortest way: what stands behind the first. None are given where the search
+// comes to its end before.
+fn way_back<'s>(
+    alloc: Global,
+    here: &Here<'s>,
+    from: &'s str,
+    to: &str,
+) -> Result<Vec<String>, AllocError> {
+    let mut reached = Vec::new(alloc);
+    add(
+        &mut reached,
+        Reached {
+            path: from,
+            from: 0,
+        },
+    )?;
+    for next in 0..SEARCHED {
+        let Some(at) = reached.get(next) else {
+            return Ok(Vec::new(alloc));
+        };
+        let Some(source) = package_at(here, at.path) else {
+            return Ok(Vec::new(alloc));
+        };
+        add_imports(here, source, next, &mut reached)?;
+        if let Some(goal) = number_of(&reached, to) {
+            return steps_to(alloc, &reached, goal);
+        }
+    }
+    Ok(Vec::new(alloc))
+}
+
+// The number of a path among those that are reached.
+fn number_of(reached: &[Reached<'_>], path: &str) -> Option<usize> {
+    let mut number: usize = 0;
+    for step in reached {
+        if number > 0 && step.path == path {
+            return Some(number);
+        }
+        number = number.saturating_add(1);
+    }
+    None
+}
+
+// The paths from the first that is reached up to one, without the first.
+fn steps_to(
+    alloc: Global,
+    reached: &[Reached<'_>],
+    goal: usize,
+) -> Result<Vec<String>, AllocError> {
+    let mut steps = Vec::new(alloc);
+    let mut number = goal;
+    for _ in 0..reached.len() {
+        if number == 0 {
+            break;
+        }
+        let Some(step) = reached.get(number) else {
+            break;
+        };
+        add(&mut steps, String::from_str(alloc, step.path)?)?;
+        number = step.from;
+    }
+    steps.reverse();
+    Ok(steps)
+}
+
+// Adds what a package imports to what is reached.
+fn add_imports<'s>(
+    here: &Here<'s>,
+    source: &'s PackageSource,
+    from: usize,
+    reached: &mut Vec<Reached<'s>>,
+) -> Result<(), AllocError> {
+    for file in source.files() {
+        if let Ok(tree) = file.tree() {
+            for decl in &tree.imports {
+                add_decl(here, &decl.specs, from, reached)?;
+            }
+        }
+    }
+    Ok(())
+}
+
+// Adds what an import declaration imports.
+fn add_decl<'s>(
+    here: &Here<'s>,
+    specs: &'s ImportSpecs,
+    from: usize,
+    reached: &mut Vec<Reached<'s>>,
+) -> Result<(), AllocError> {
+    match specs {
+        ImportSpecs::One(spec) => add_spec(here, spec, from, reached),
+        ImportSpecs::Group(_, lines, _) => {
+            for line in lines {
+                add_spec(here, &line.spec, from, reached)?;
+            }
+            Ok(())
+        }
+    }
+}
+
+// Adds the package that an import comes to, where it is new.
+fn add_spec<'s>(
+    here: &Here<'s>,
+    spec: &'s ImportSpec,
+    from: usize,
+    reached: &mut Vec<Reached<'s>>,
+) -> Result<(), AllocError> {
+    let Some(path) = spec.path.plain() else {
+        return Ok(());
+    };
+    if package_at(here, path).is_none() || number_of(reached, path).is_some() {
+        return Ok(());
+    }
+    if reached.len() > SEARCHED {
+        return Ok(());
+    }
+    add(reached, Reached { path, from })
+}
+
+// Adds the place of an import of a path in a package.
+fn add_import_place(
+    alloc: Global,
+    here: &Here<'_>,
+    source: &PackageSource,
+    path: &str,
+    message: &mut Message,
+) -> Result<(), AllocError> {
+    for file in source.files() {
+        if let Some(offset) = import_offset(file, path) {
+            let place = place_text(alloc, here.module, source.path().as_str(), file, offset)?;
+            return message.note(
+                Words::new(alloc)
+                    .and(source.path().as_str())
+                    .and(" imports ")
+                    .and(path)
+                    .and(" at ")
+                    .and(place.as_str()),
+            );
+        }
+    }
+    Ok(())
+}
+
+// Where a file imports a path.
+fn import_offset(file: &SourceFile, path: &str) -> Option<usize> {
+    let Ok(tree) = file.tree() else {
+        return None;
+    };
+    for decl in &tree.imports {
+        let found = offset_in(&decl.specs, path);
+        if found.is_some() {
+            return found;
+        }
+    }
+    None
+}
+
+// Where an import declaration imports a path.
+fn offset_in(specs: &ImportSpecs, path: &str) -> Option<usize> {
+    match specs {
+        ImportSpecs::One(spec) => offset_if(spec, path),
+        ImportSpecs::Group(_, lines, _) => {
+            for line in lines {
+                let found = offset_if(&line.spec, path);
+                if found.is_some() {
+                    return found;
+                }
+            }
+            None
+        }
+    }
+}
+
+// Where an import stands, if it is of a path.
+fn offset_if(spec: &ImportSpec, path: &str) -> Option<usize> {
+    if spec.path.plain() == Some(path) {
+        return Some(spec.path.span.start as usize);
+    }
+    None
+}
+
+// The name that an import binds, as far as its string and what stands in front of it tell.
+fn bound_name<'s>(here: &Here<'s>, path: &'s str) -> &'s str {
+    if let Some(before) = here.at.checked_sub(1) {
+        if here.tokens.kind(before) == Some(TokenKind::Identifier) {
+            return here.tokens.word(before);
+        }
+    }
+    match package_at(here, path) {
+        Some(source) => match source.files().first() {
+            Some(file) => match file.clause() {
+                Some(clause) => clause.name.as_str(),
+                None => "",
+            },
+            None => "",
+        },
+        None => "",
+    }
+}
+
+// An import that is not used.
+fn unused(
+    alloc: Global,
+    here: &Here<'_>,
+    written: &str,
+    path: &str,
+) -> Result<Message, AllocError> {
+    let name = bound_name(here, path);
+    let mut message = Message::of(
+        Words::new(alloc)
+            .and(written)
+            .and(" is imported and not used"),
+    )?;
+    match local_of(here, name) {
+        Some(offset) => {
+            let place = place_here(alloc, here, offset)?;
+            message.note(
+                Words::new(alloc)
+                    .and(name)
+                    .and(" in ")
+                    .and(place.as_str())
+                    .and(" is the variable declared there, and not the package"),
+            )?;
+        }
+        None => message.help(Words::new(alloc).and("take the import away"))?,
+    }
+    Ok(message)
+}
+
+// Where a function of the file declares a local of a name.
+fn local_of(here: &Here<'_>, name: &str) -> Option<usize> {
+    let locals = locals_of(here);
+    for number in 0..here.tokens.list.len() {
+        if is_declared(&here.tokens, locals, number, name) {
+            return Some(here.tokens.start(number));
+        }
+    }
+    None
+}

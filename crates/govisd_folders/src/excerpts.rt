@@ -1,0 +1,164 @@
+//! Lines of the source below a message.
+
+use crate::notes::{push, push_number};
+use crate::painting::{RED, paint, unpaint};
+use crate::spots::{Spot, word_at};
+use go_folder_core::push_shown;
+use std::alloc::{AllocError, Global};
+use unicode_width::UnicodeWidthChar;
+
+/// How many bytes of a line are shown before the place of a fault at most.
+const BEFORE: usize = 100;
+
+/// How many bytes of a line are shown from the place of a fault on at most.
+const BEHIND: usize = 60;
+
+/// How many columns a tab takes.
+const TAB: usize = 4;
+
+// The first place in a text from an offset on where a character begins, or the text's end.
+fn boundary(text: &str, offset: usize) -> usize {
+    for place in offset..text.len() {
+        if text.is_char_boundary(place) {
+            return place;
+        }
+    }
+    text.len()
+}
+
+// The part of a text between two offsets, as far as characters begin there.
+fn part(text: &str, start: usize, end: usize) -> &str {
+    match text.get(boundary(text, start)..boundary(text, end)) {
+        Some(part) => part,
+        None => "",
+    }
+}
+
+// The first line of a text, without its end.
+fn first_line(text: &str) -> &str {
+    match text.split_once('\n') {
+        Some((line, _)) => line,
+        None => text,
+    }
+}
+
+// How many columns of a terminal a character takes.
+fn width_of(letter: char) -> usize {
+    if letter == '\t' {
+        return TAB;
+    }
+    letter.width().unwrap_or(4)
+}
+
+fn width_in(text: &str) -> usize {
+    let mut width: usize = 0;
+    for letter in text.chars() {
+        width = width.saturating_add(width_of(letter));
+    }
+    width
+}
+
+// Adds a piece as often as a number says.
+fn push_times(out: &mut String, piece: &str, times: usize) -> Result<(), AllocError> {
+    for _ in 0..times {
+        push(out, piece)?;
+    }
+    Ok(())
+}
+
+// Adds a character of the source: of a tab its blanks.
+fn push_letter(alloc: Global, out: &mut String, letter: char) -> Result<(), AllocError> {
+    if letter == '\t' {
+        return push_times(out, " ", TAB);
+    }
+    let mut text = String::new(alloc);
+    text.push(letter)?;
+    push_shown(out, text.as_str())
+}
+
+// Adds a part of a line of the source, with blanks for its tabs.
+fn push_source(alloc: Global, out: &mut String, text: &str) -> Result<(), AllocError> {
+    for letter in text.chars() {
+        push_letter(alloc, out, letter)?;
+    }
+    Ok(())
+}
+
+// How many digits a number has.
+fn digits(number: usize) -> usize {
+    let mut count: usize = 1;
+    let mut rest = number / 10;
+    for _ in 0..20 {
+        if rest == 0 {
+            return count;
+        }
+        rest = rest / 10;
+        count = count.saturating_add(1);
+    }
+    count
+}
+
+/// A line of the source, and marks below it.
+#[derive(Drop)]
+pub(crate) struct Excerpt {
+    /// The line, behind its number.
+    pub(crate) line: String,
+    /// Blanks, and carets below what is marked.
+    pub(crate) marks: String,
+}
+
+// The line of the source, behind its number.
+fn source_line(
+    alloc: Global,
+    number: usize,
+    front: &str,
+    rest: &str,
+) -> Result<String, AllocError> {
+    let mut line = String::new(alloc);
+    push_number(alloc, &mut line, number)?;
+    push(&mut line, " | ")?;
+    push_source(alloc, &mut line, front)?;
+    push_source(alloc, &mut line, rest)?;
+    Ok(line)
+}
+
+// Carets below what is marked of the line of a number.
+fn marks_line(
+    alloc: Global,
+    number: usize,
+    has_color: bool,
+    front: &str,
+    marked: &str,
+) -> Result<String, AllocError> {
+    let mut marks = String::new(alloc);
+    push_times(&mut marks, " ", digits(number))?;
+    push(&mut marks, " | ")?;
+    push_times(&mut marks, " ", width_in(front))?;
+    paint(&mut marks, has_color, RED)?;
+    push_times(&mut marks, "^", width_in(marked).max(1))?;
+    unpaint(&mut marks, has_color)?;
+    Ok(marks)
+}
+
+/// The line of the source in which a fault lies, or what stands there around the fault, and below it carets below what stands at its place.
+///
+/// # Errors
+///
+/// `AllocError` for want of memory.
+pub(crate) fn excerpt_of(
+    alloc: Global,
+    has_color: bool,
+    spot: &Spot<'_>,
+) -> Result<Excerpt, AllocError> {
+    let start = spot.offset.saturating_sub(spot.at.column.saturating_sub(1));
+    let from = start.max(spot.offset.saturating_sub(BEFORE));
+    let front = part(spot.text, from, spot.offset);
+    let behind = spot.offset.saturating_add(BEHIND);
+    let rest = first_line(part(spot.text, spot.offset, behind));
+    let word = first_line(word_at(spot.text, spot.offset));
+    let marked = if word.len() > rest.len() { rest } else { word };
+    Ok(Excerpt {
+        line: source_line(alloc, spot.at.line, front, rest)?,
+        marks: marks_line(alloc, spot.at.line, has_color, front, marked)?,
+    })
+}

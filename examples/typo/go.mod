@@ -1,0 +1,3 @@
+module ex.com/typo
+
+go 1.22
