@@ -285,7 +285,7 @@ class Base:
 
     def changes(self):
         """Waits until a crate has ended, or a while."""
-        was, until = len(self.running), time.time() + 10
+        was, until = len(self.running), time.time() + 60
         while len(self.running) == was and time.time() < until:
             time.sleep(1)
 

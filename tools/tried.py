@@ -44,7 +44,7 @@ def now(root, file):
 
 
 def changed(root, commit, *folders):
-    return [it for it in git(root, "diff", "--name-only", commit, "--", *folders).splitlines() if it]
+    return [it for it in git(root, "diff", "--name-only", "--diff-filter=d", commit, "--", *folders).splitlines() if it]
 
 
 def differing_lines(root, commit, crate):

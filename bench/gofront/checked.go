@@ -21,6 +21,7 @@ type checker struct {
 	checked map[string]*types.Package
 	info    types.Info
 	errors  int
+	said    []types.Error // those that it counts
 }
 
 // Import checks a package before those that import it.
@@ -34,6 +35,9 @@ func (c *checker) Import(from string) (*types.Package, error) {
 	config := types.Config{Importer: c, Sizes: types.SizesFor("gc", "amd64"), Error: func(err error) {
 		if e, ok := err.(types.Error); !ok || !e.Soft {
 			c.errors++
+			if e, ok := err.(types.Error); ok {
+				c.said = append(c.said, e)
+			}
 		}
 	}}
 	p, _ := config.Check(from, c.files, c.trees[from], &c.info)
@@ -102,4 +106,26 @@ func compileAll(folder string) error {
 		c.tell()
 	}
 	return err
+}
+
+// errorsOf parses and checks the packages of an archive by go/types, and tells each error with its place, one a line; of a text without a tree that it has none.
+func errorsOf(name string) error {
+	archive, err := os.ReadFile(name)
+	if err != nil {
+		return err
+	}
+	c := newChecker()
+	for _, m := range members(archive) {
+		if err := c.parse(m.place, m.text); err != nil {
+			fmt.Println(err)
+			return nil
+		}
+	}
+	for _, from := range c.order {
+		c.Import(from)
+	}
+	for _, e := range c.said {
+		fmt.Printf("%s: %s\n", c.files.Position(e.Pos), e.Msg)
+	}
+	return nil
 }

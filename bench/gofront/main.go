@@ -234,7 +234,7 @@ func sources(name string) error {
 }
 
 func run() int {
-	modes := map[string]func(string) error{"sources": sources, "check": checkAll, "compile": compileAll}
+	modes := map[string]func(string) error{"sources": sources, "check": checkAll, "compile": compileAll, "errors": errorsOf}
 	if len(os.Args) == 3 && modes[os.Args[1]] != nil {
 		if err := modes[os.Args[1]](os.Args[2]); err != nil {
 			fmt.Fprintln(os.Stderr, err)
