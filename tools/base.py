@@ -27,7 +27,8 @@ import time
 
 ROOT = os.path.dirname(os.path.dirname(os.path.abspath(__file__)))
 KIT = os.path.realpath(subprocess.run(["rt", "doc"], stdout=subprocess.PIPE, text=True, check=True).stdout.strip() + "/..")
-LOGS = f"{ROOT}/.git/base"
+# In a work tree of git's `.git` is a file.
+LOGS = subprocess.run(["git", "-C", ROOT, "rev-parse", "--absolute-git-dir"], stdout=subprocess.PIPE, text=True, check=True).stdout.strip() + "/base"
 
 # What the children took that a crate's threads waited for.
 TAKEN = threading.local()
