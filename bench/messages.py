@@ -72,4 +72,5 @@ def main(program, *flags):
     return differ > 0
 
 
-sys.exit(main(*sys.argv[1:]))
+if __name__ == "__main__":
+    sys.exit(main(*sys.argv[1:]))

@@ -1,11 +1,11 @@
 #!/usr/bin/env python3
 """mutants.py GOVISD [COUNT]: what `govisd check` shows of small modules with one mistake each, beside go/types.
 
-A module is one of checked.py: three packages that import one another, without a fault. One token of it is changed: a name becomes another one of the same
+A module is one of checked.py, without a fault: some packages, each of which imports up to three of those before it. One token of it is changed: a name becomes another one of the same
 file, a number a string, an operator another operator, a bracket goes, a word is spelled otherwise. COUNT such modules (400 unless given) are checked.
 
 It counts the modules in which go/types finds an error, those of which govisd shows nothing then, and those faults that govisd shows at a line where go/types has no
-error. The status is 1 where govisd is silent of a module with an error, or more than 3 of 100 faults stand at a line where go/types has none."""
+error; of a text without a tree (P1) any error in its file will do. The status is 1 where govisd is silent of a module with an error, or more than 3 of 100 faults stand at a line where go/types has none."""
 import collections
 import json
 import os

@@ -2,7 +2,8 @@
 // denotes: the peer of `govisd resolve`, in its format as far as go/types answers. With the argument `parse` it
 // only parses the file, by go/parser: the peer of `govisd_cases parse`. With `sources FILE` it parses all files of an
 // archive, holds their trees, and counts them: the peer of `govisd_cases sources`. With `check FILE` it parses and checks
-// the packages of an archive, and counts what it finds: the peer of `govisd_cases counts` (checked.go).
+// the packages of an archive, and counts what it finds: the peer of `govisd_cases counts` (checked.go). With `errors FILE` it
+// tells each error of an archive with its place, a line each: the peer of `govisd check` (checked.go).
 //
 // Each line is OFFSET ROLE TEXT ANSWER. ROLE is type or value. ANSWER is universe.NAME,
 // local/in.go:OFFSET, or ? where go/types finds no declaration. Errors go to standard error, but that a
