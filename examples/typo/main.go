@@ -4,5 +4,6 @@ import "ex.com/typo/lib"
 
 func main() {
 	r := lib.Mak(3, 4)
-	println(r.Area())
+	s := lib.Make("5", 6)
+	println(r.Area(), s.Area())
 }

@@ -20,6 +20,8 @@ pub(crate) struct Seen {
     /// Its first byte, in bytes from the file's start.
     pub(crate) start: usize,
     pub(crate) said: Said,
+    /// By what one of the operands of its operators is refused or has no type; where it has no operator, by what it is itself.
+    pub(crate) operands: Option<Blame>,
     /// Whether no call, no literal and no `&` stands in it.
     pub(crate) is_plain: bool,
 }
@@ -304,7 +306,6 @@ fn see_results(look: &Look<'_>, found: &mut Found, results: &Results) -> Said {
 fn see_params(look: &Look<'_>, found: &mut Found, params: &Vec<Param>) -> Said {
     let mut first = UNSAID;
     for param in params {
-        open_names(look, found, &param.names);
         let said = see_type(look, found, &param.type_expr);
         note_names(look, found, &param.names, said);
         first = joined(first, said);
@@ -312,27 +313,23 @@ fn see_params(look: &Look<'_>, found: &mut Found, params: &Vec<Param>) -> Said {
     first
 }
 
-// Notes the names of parameters, which only a file with faults looks up.
-fn open_names(look: &Look<'_>, found: &mut Found, names: &Option<Idents>) {
+// Notes what is known of parameters, which bodies look up as locals, and only those of a file with faults.
+fn note_names(look: &Look<'_>, found: &mut Found, names: &Option<Idents>, said: Said) {
     match names {
         Some(names) => {
             if look.is_faulty {
-                open_idents(look, found, names);
+                note_locals(found, names, said);
             }
         }
         None => {}
     }
 }
 
-// Notes what is known of parameters.
-fn note_names(look: &Look<'_>, found: &mut Found, names: &Option<Idents>, said: Said) {
-    match names {
-        Some(names) => {
-            if look.is_faulty {
-                note_idents(look, found, names, said);
-            }
-        }
-        None => {}
+// Notes what is known of all identifiers of a list, as locals.
+fn note_locals(found: &mut Found, idents: &Idents, said: Said) {
+    found.note_local(idents.first.span.start as usize, said);
+    for next in &idents.more {
+        found.note_local(next.ident.span.start as usize, said);
     }
 }
 
@@ -357,6 +354,7 @@ pub(crate) fn see_expr(look: &Look<'_>, found: &mut Found, expr: &Expr) -> Seen 
             Seen {
                 start: open.start as usize,
                 said: seen.said,
+                operands: seen.operands,
                 is_plain: seen.is_plain,
             }
         }
@@ -381,6 +379,7 @@ fn plain(start: usize, said: Said) -> Seen {
     Seen {
         start,
         said,
+        operands: said.blame,
         is_plain: true,
     }
 }
@@ -400,6 +399,7 @@ fn unary(look: &Look<'_>, start: usize, inner: Seen, is_address: bool) -> Seen {
             of: inner.said.of,
             embedded: inner.said.embedded,
         },
+        operands: inner.operands,
         is_plain: inner.is_plain && !is_address,
     }
 }
@@ -414,6 +414,7 @@ fn both(look: &Look<'_>, left: Seen, right: Seen) -> Seen {
             of: None,
             embedded: None,
         },
+        operands: surer_of(left.operands, right.operands),
         is_plain: left.is_plain && right.is_plain,
     }
 }
@@ -459,9 +460,11 @@ fn see_select(look: &Look<'_>, found: &mut Found, select: &SelectExpr) -> Seen {
     if let Some(qualifier) = name_of(&select.operand) {
         see_qualified(look, found, qualifier, &select.name);
     }
+    let said = said_at(look, found, offset);
     Seen {
         start: operand.start,
-        said: said_at(look, found, offset),
+        said,
+        operands: said.blame,
         is_plain: operand.is_plain,
     }
 }
@@ -473,9 +476,11 @@ fn see_call(look: &Look<'_>, found: &mut Found, call: &CallExpr) -> Seen {
     let offset = call.open.start as usize;
     found.set(look.fault(offset, Wanted::One(Rule::C1)), callee.said.blame);
     see_items(look, found, &call.args, callee.said.blame);
+    let said = said_at(look, found, offset);
     Seen {
         start: callee.start,
-        said: said_at(look, found, offset),
+        said,
+        operands: said.blame,
         is_plain: false,
     }
 }
@@ -560,13 +565,15 @@ fn literal_at(
             found.set(look.fault(offset, Wanted::Promoted), by_embedded(said.of));
         }
     }
+    let blame = first_of(said.blame, by_fault(no_struct));
     Seen {
         start,
         said: Said {
-            blame: first_of(said.blame, by_fault(no_struct)),
+            blame,
             of: said.of,
             embedded: said.embedded,
         },
+        operands: blame,
         is_plain: false,
     }
 }

@@ -1,8 +1,8 @@
 //! What follows from what in a file.
 use crate::exprs::{
-    by_fault, note_ident, open_ident, said_by, see_signature, see_type, see_type_name,
+    Seen, by_fault, note_ident, open_ident, said_by, see_signature, see_type, see_type_name,
 };
-use crate::found::Found;
+use crate::found::{Blame, Found};
 use crate::look::{Look, Wanted};
 use crate::stmts::{see_lines, see_value_spec};
 use go_text_core::Rule;
@@ -57,6 +57,14 @@ fn own_fault(look: &Look<'_>, ident: &Ident, rule: Rule) -> Option<usize> {
     look.fault(ident.span.start as usize, Wanted::One(rule))
 }
 
+// By what an expression is refused or has no type, other than by this fault, which stands where it begins.
+fn blame_beside(seen: Seen, fault: Option<usize>) -> Option<Blame> {
+    match (seen.said.blame, fault) {
+        (Some(Blame::Fault(one)), Some(other)) if one == other => seen.operands,
+        (blame, _) => blame,
+    }
+}
+
 // A specification of constants or variables outside functions. An initialiser that is outside the profile follows from what it is refused by, where
 // no call, no literal and no `&` stands in it.
 fn see_top_value(look: &Look<'_>, found: &mut Found, spec: &ValueSpec) {
@@ -67,7 +75,7 @@ fn see_top_value(look: &Look<'_>, found: &mut Found, spec: &ValueSpec) {
     if let Some(seen) = seen {
         if seen.is_plain {
             let unsupported = look.fault(seen.start, Wanted::One(Rule::X1));
-            found.set(unsupported, seen.said.blame);
+            found.set(unsupported, blame_beside(seen, unsupported));
         }
     }
     if own.is_some() {
@@ -110,19 +118,13 @@ fn see_top_types(look: &Look<'_>, found: &mut Found, decl: &TypeDecl) {
     }
 }
 
-// A receiver.
+// A receiver, which bodies look up as a local, and only those of a file with faults.
 fn see_receiver(look: &Look<'_>, found: &mut Found, receiver: &Receiver) {
-    let name = if look.is_faulty {
-        receiver.name.as_ref()
-    } else {
-        None
-    };
-    if let Some(name) = name {
-        open_ident(look, found, name);
-    }
     let said = see_type_name(look, found, &receiver.base);
-    if let Some(name) = name {
-        note_ident(look, found, name, said);
+    if let Some(name) = &receiver.name {
+        if look.is_faulty {
+            found.note_local(name.span.start as usize, said);
+        }
     }
 }
 

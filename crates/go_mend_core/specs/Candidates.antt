@@ -11,7 +11,7 @@ use Rattle.go_mend_core.specs.declared.mending.Mark.TheVariants as marks
 use Rattle.go_mend_core.specs.declared.mending.Mending.{Mending}
 use Rattle.go_mend_core.specs.declared.mending.Mending.TheVariants as mendings
 use Rattle.go_mend_core.specs.Forms.{is_mark}
-use Rattle.go_mend_core.specs.Tokens.{bracket_of, open_before}
+use Rattle.go_mend_core.specs.Tokens.{assign_before, bracket_of, open_before}
 
 -- the mark that closes a bracket
 abbrev pub closing_of : Option TokenKind → Option Mark
@@ -43,6 +43,11 @@ opened_at _ at = None
 abbrev pub opened_before : Option Token → Option Mending
 opened_before (Some t) = opened_at t.kind t.span.start
 opened_before None = None
+
+-- `=` before another one, so that the two compare
+abbrev pub doubled : Option Token → Option Mending
+doubled (Some t) = Some (mendings.PutIn marks.Equal t.span.start)
+doubled None = None
 
 -- space, tab, carriage return or line feed
 abbrev pub is_blank_byte : ℕ → Bool
@@ -91,4 +96,5 @@ candidates text tokens n offset =
     ∷ put_in (Some marks.OpenParen) (end_of before)
     ∷ opened_before before
     ∷ taken text before (slice_get tokens n) (slice_get tokens (n + 1))
+    ∷ doubled (assign_before tokens n)
     ∷ []

@@ -12,6 +12,7 @@ mark_text marks.CloseParen = codes ")"
 mark_text marks.OpenBrace = codes "{"
 mark_text marks.CloseBrace = codes "}"
 mark_text marks.Comma = codes ","
+mark_text marks.Equal = codes "="
 
 -- two offsets are in order and lie between characters of the text
 abbrev pub is_cut : List ℕ → ℕ → ℕ → Bool

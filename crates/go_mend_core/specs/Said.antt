@@ -12,6 +12,7 @@ use Rattle.go_token_core.specs.declared.kind.Keyword.TheVariants as keywords
 use Rattle.go_mend_core.specs.declared.foreign.ForeignWord.{ForeignWord}
 use Rattle.go_mend_core.specs.declared.forms.FormOfGo.{FormOfGo}
 use Rattle.go_mend_core.specs.declared.mending.Mark.{Mark}
+use Rattle.go_mend_core.specs.declared.mending.Mark.TheVariants as marks
 use Rattle.go_mend_core.specs.declared.mending.Mending.{Mending}
 use Rattle.go_mend_core.specs.declared.mending.Mending.TheVariants as mendings
 use Rattle.go_mend_core.specs.declared.outcome.Mend.{Mend}
@@ -67,25 +68,26 @@ form_said text met None = met_text text met
 abbrev pub headline_text : List ℕ → Mend → List ℕ
 headline_text text m = if m.too_high then too_high_text else form_said text m.met m.form
 
-abbrev pub put_in_text : Mark → ℕ → ℕ → List ℕ
-put_in_text mark at fault = if nat_eq at fault then codes "put in " ++ (mark_text mark ++ codes "") else codes "put in " ++ (mark_text mark ++ codes " before it")
+abbrev pub put_in_text : Mark → List ℕ
+put_in_text marks.Equal = codes "write == in place of =" ++ (codes "" ++ codes "")
+put_in_text mark = codes "put in " ++ (mark_text mark ++ codes "")
 
 abbrev pub take_away_words : Option Token → List ℕ
 take_away_words (Some t) = if nat_eq t.span.start t.span.end then codes "put the { on this line" else codes "take it away"
 take_away_words None = codes "take it away"
 
-abbrev pub mending_said : Option Mending → ℕ → Option Token → Option (List ℕ)
-mending_said (Some (mendings.PutIn mark at)) fault met = Some (put_in_text mark at fault)
-mending_said (Some (mendings.TakeAway from to)) fault met = Some (take_away_words met)
-mending_said None fault met = None
+abbrev pub mending_said : Option Mending → Option Token → Option (List ℕ)
+mending_said (Some (mendings.PutIn mark at)) met = Some (put_in_text mark)
+mending_said (Some (mendings.TakeAway from to)) met = Some (take_away_words met)
+mending_said None met = None
 
-abbrev pub or_mending : Option ForeignWord → Option Mending → ℕ → Option Token → Option (List ℕ)
-or_mending (Some word) mending fault met = Some (foreign_advice word)
-or_mending None mending fault met = mending_said mending fault met
+abbrev pub or_mending : Option ForeignWord → Option Mending → Option Token → Option (List ℕ)
+or_mending (Some word) mending met = Some (foreign_advice word)
+or_mending None mending met = mending_said mending met
 
 -- what helps
 abbrev pub help_text : Mend → Option (List ℕ)
-help_text m = or_mending m.foreign m.mending m.at m.met
+help_text m = or_mending m.foreign m.mending m.met
 
 abbrev pub begins_declaration : Keyword → Bool
 begins_declaration keywords.Func = true

@@ -40,6 +40,10 @@ abbrev pub is_semicolon : Option TokenKind → Bool
 is_semicolon (Some (kinds.Operator operators.Semicolon)) = true
 is_semicolon _ = false
 
+abbrev pub is_assign : Option TokenKind → Bool
+is_assign (Some (kinds.Operator operators.Assign)) = true
+is_assign _ = false
+
 -- how many closing brackets have no partner yet where one token more is an opening one, and none where that has no partner itself
 abbrev pub fewer : ℕ → Option ℕ
 fewer zero = None
@@ -63,6 +67,14 @@ open_before tokens (suc n) closed = opened (seen (kind_at tokens n) closed) n (o
 abbrev pub line_before : List Token → ℕ → ℕ
 line_before tokens zero = zero
 line_before tokens (suc n) = if is_semicolon (kind_at tokens n) then suc n else line_before tokens n
+
+-- the last `=` behind the last semicolon that stands before the token of a number
+abbrev pub assign_before : List Token → ℕ → Option Token
+assign_before tokens zero = None
+assign_before tokens (suc n) =
+    if is_semicolon (kind_at tokens n) then None
+    else if is_assign (kind_at tokens n) then slice_get tokens n
+    else assign_before tokens n
 
 -- the token before the innermost open bracket
 abbrev pub opener_of : List Token → Option ℕ → Option TokenKind

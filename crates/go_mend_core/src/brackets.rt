@@ -1,8 +1,8 @@
 //! The bracket that is open at a place, and the line that goes on there.
 ghost use Rattle.std.specs.Prelude.{◌≡◌, ◌≤◌, ◌<◌, ◌+◌, ◌^◌, IfSome};
-ghost use Rattle.go_mend_core.specs.Tokens.{fewer, is_closing, is_opening, is_semicolon, line_before, open_before, seen};
+ghost use Rattle.go_mend_core.specs.Tokens.{assign_before, fewer, is_assign, is_closing, is_opening, is_semicolon, line_before, open_before, seen};
 
-use crate::tokens::kind_at;
+use crate::tokens::{kind_at, token_at};
 use go_token_core::{Operator, Token, TokenKind};
 
 fn is_opening(kind: Option<TokenKind>) -> bool
@@ -29,6 +29,12 @@ fn is_semicolon(kind: Option<TokenKind>) -> bool
     ensures { result ≡ is_semicolon kind }
 {
     matches!(kind, Some(TokenKind::Operator(Operator::Semicolon)))
+}
+
+fn is_assign(kind: Option<TokenKind>) -> bool
+    ensures { result ≡ is_assign kind }
+{
+    matches!(kind, Some(TokenKind::Operator(Operator::Assign)))
 }
 
 // How many closing brackets have no partner yet where one bracket more is an opening one, and none where that has no partner itself.
@@ -88,4 +94,22 @@ pub(crate) fn line_before(tokens: &[Token], number: usize) -> usize
         at -= 1;
     }
     0
+}
+
+/// The last `=` after the last semicolon that stands before the token of a number.
+#[tactic(auto, using(crate::proofs::BracketLemmas::assign_next, crate::proofs::BracketLemmas::assign_here, crate::proofs::BracketLemmas::assign_none))]
+pub(crate) fn assign_before(tokens: &[Token], number: usize) -> Option<Token>
+    ensures { result ≡ assign_before tokens.now number }
+{
+    let mut at = number;
+    while at > 0 {
+        if is_semicolon(kind_at(tokens, at - 1)) {
+            return None;
+        }
+        if is_assign(kind_at(tokens, at - 1)) {
+            return token_at(tokens, at - 1);
+        }
+        at -= 1;
+    }
+    None
 }

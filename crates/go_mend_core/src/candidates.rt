@@ -1,10 +1,10 @@
 //! The changes that are tried.
 ghost use Rattle.std.specs.Prelude.{◌≡◌, ◌≤◌, length};
 ghost use Rattle.std.specs.List.{list_all};
-ghost use Rattle.go_mend_core.specs.Candidates.{candidates, closing_of, end_of, if_apart, is_blank_between, is_blank_byte, is_word_kind, join, opened_before, put_in, taken, token_before, would_glue};
+ghost use Rattle.go_mend_core.specs.Candidates.{candidates, closing_of, doubled, end_of, if_apart, is_blank_between, is_blank_byte, is_word_kind, join, opened_before, put_in, taken, token_before, would_glue};
 ghost use Rattle.go_mend_core.specs.Tokens.{bracket_of};
 
-use crate::brackets::open_before;
+use crate::brackets::{assign_before, open_before};
 use crate::forms::is_mark;
 use crate::mending::{Mark, Mending};
 use crate::tokens::{kind_at, token_after, token_at};
@@ -85,6 +85,19 @@ fn opened_before(token: Option<Token>) -> Option<Mending>
             at: span.start as usize,
         }),
         _ => None,
+    }
+}
+
+// `=` before another one, so that the two compare.
+fn doubled(assign: Option<Token>) -> Option<Mending>
+    ensures { result ≡ doubled assign }
+{
+    match assign {
+        Some(token) => Some(Mending::PutIn {
+            token: Mark::Equal,
+            at: token.span.start as usize,
+        }),
+        None => None,
     }
 }
 
@@ -177,13 +190,13 @@ fn taken(
 
 /// The changes that are tried at the token of a number, in this order, none where one makes no sense there: the mark that closes the innermost open
 /// bracket, behind the token before or at the offset; `,`, `{` and `(` behind the token before; `(` before a name that stands before; the token taken
-/// away, or the end of the line before `{`.
+/// away, or the end of the line before `{`; `==` in place of the last `=` of the line.
 pub(crate) fn candidates(
     text: &str,
     tokens: &[Token],
     number: usize,
     offset: usize,
-) -> [Option<Mending>; 7]
+) -> [Option<Mending>; 8]
     requires { number ≤ length tokens.now }
     ensures { result ≡ candidates text.now tokens.now number offset }
 {
@@ -203,5 +216,6 @@ pub(crate) fn candidates(
             token_at(tokens, number),
             token_after(tokens, number),
         ),
+        doubled(assign_before(tokens, number)),
     ]
 }

@@ -186,7 +186,7 @@ fn told_of(
 /// first of these that there is: the form of Go that stands there and that the grammar of govisd lacks; the word of another language; the change with
 /// which the text has a tree; and a form of Go that a mistake may look like too.
 ///
-/// At most seven changes are tried, each by a parse of the text with the change, and none of a text of more than [`GREATEST_LENGTH`] bytes. All else takes
+/// At most eight changes are tried, each by a parse of the text with the change, and none of a text of more than [`GREATEST_LENGTH`] bytes. All else takes
 /// time linear in the text. A text that has a fault of its tokens is said to have none.
 ///
 /// # Errors

@@ -18,6 +18,8 @@ pub enum Mark {
     CloseBrace,
     /// `,`
     Comma,
+    /// `=`, in front of another one
+    Equal,
 }
 
 impl Mark {
@@ -31,6 +33,7 @@ impl Mark {
             Mark::OpenBrace => "{",
             Mark::CloseBrace => "}",
             Mark::Comma => ",",
+            Mark::Equal => "=",
         }
     }
 }

@@ -125,14 +125,16 @@ fn met_said(alloc: Global, text: &str, met: Option<Token>) -> Result<String, All
     }
 }
 
-// What is said of a mark that is put in at an offset, of a fault at another one.
-fn put_in_said(alloc: Global, mark: Mark, at: usize, fault: usize) -> Result<String, AllocError>
-    ensures { IfOk result (λ s. string_bytes s ≡ put_in_text mark at fault) }
+// What is said of a mark that is put in.
+fn put_in_said(alloc: Global, mark: Mark) -> Result<String, AllocError>
+    ensures { IfOk result (λ s. string_bytes s ≡ put_in_text mark) }
 {
-    if at == fault {
-        return joined(alloc, "put in ", mark.text(), "");
+    match mark {
+        Mark::Equal => joined(alloc, "write == in place of =", "", ""),
+        Mark::OpenParen | Mark::CloseParen | Mark::OpenBrace | Mark::CloseBrace | Mark::Comma => {
+            joined(alloc, "put in ", mark.text(), "")
+        }
     }
-    joined(alloc, "put in ", mark.text(), " before it")
 }
 
 // What is said of a token that is taken away, or of the end of a line.
@@ -194,7 +196,8 @@ impl Mend {
         }
     }
 
-    /// What helps, if anything is known that does: `put in )`, `take it away`, `Go's loop is for`. It has one line.
+    /// What helps, if anything is known that does: `put in )`, `take it away`, `write == in place of =`, `Go's loop is for`. It has one line. Where a mark is put in is told by
+    /// `mending`: it may be another place than that of the fault.
     ///
     /// # Errors
     ///
@@ -206,9 +209,7 @@ impl Mend {
             return Ok(Some(String::from_str(alloc, word.advice())?));
         }
         match self.mending {
-            Some(Mending::PutIn { token, at }) => {
-                Ok(Some(put_in_said(alloc, token, at, self.at)?))
-            }
+            Some(Mending::PutIn { token, at: _ }) => Ok(Some(put_in_said(alloc, token)?)),
             Some(Mending::TakeAway { from: _, to: _ }) => {
                 Ok(Some(String::from_str(alloc, take_away_words(self.met))?))
             }

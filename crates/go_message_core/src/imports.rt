@@ -1,15 +1,14 @@
 //! What is said of imports.
 
-use crate::here::Here;
+use crate::clauses::{clause_name, has_other_name};
+use crate::common::last_element;
 use crate::local::{is_declared, locals_of};
-use crate::messages::{Message, Words};
-use crate::packages::package_at;
-use crate::place::{place_here, place_text};
-use crate::quoting::shown;
-use crate::suggesting::fitting_import;
+use go_diagnostic_core::{
+    Here, Message, Words, add_near_import, package_at, place_here, place_text, shown,
+};
 use go_snap_core::graph_core::{PackageSource, SourceFile};
 use go_text_core::{Rule, add};
-use go_token_core::{TokenKind, plain_value};
+use go_token_core::{Operator, TokenKind, plain_value};
 use go_tree_nodes::{ImportSpec, ImportSpecs};
 use std::alloc::{AllocError, Global};
 
@@ -127,7 +126,7 @@ fn first_element(path: &str) -> &str {
 // Whether a path is that of a module or lies below it.
 fn is_below(path: &str, module: &str) -> bool {
     match path.strip_prefix(module) {
-        Some(behind) => behind.is_empty() || behind.starts_with('/'),
+        Some(rest) => rest.is_empty() || rest.starts_with('/'),
         None => false,
     }
 }
@@ -203,19 +202,6 @@ fn other_or_standard(
     )
 }
 
-// Adds the nearest path of a package that could be imported.
-fn add_near_import(
-    alloc: Global,
-    here: &Here<'_>,
-    path: &str,
-    message: &mut Message,
-) -> Result<(), AllocError> {
-    match fitting_import(alloc, here.snapshot, here.path(), path)? {
-        Some(near) => message.fitting(Words::new(alloc).and("did you mean \""), &near, "\"?"),
-        None => Ok(()),
-    }
-}
-
 // The path in front of its last element `internal`.
 fn parent_of_internal(path: &str) -> &str {
     match path.rsplit_once("/internal/") {
@@ -281,7 +267,7 @@ struct Reached<'s> {
     from: usize,
 }
 
-// The paths of packages that imports lead to from one package up to another, by a shortest way: what stands behind the first. None are given where the search
+// The paths of packages that imports lead to from one package up to another, by a shortest way: what comes after the first. None are given where the search
 // comes to its end before.
 fn way_back<'s>(
     alloc: Global,
@@ -470,14 +456,23 @@ fn bound_name<'s>(here: &Here<'s>, path: &'s str) -> &'s str {
         }
     }
     match package_at(here, path) {
-        Some(source) => match source.files().first() {
-            Some(file) => match file.clause() {
-                Some(clause) => clause.name.as_str(),
-                None => "",
-            },
-            None => "",
-        },
+        Some(source) => clause_name(source),
         None => "",
+    }
+}
+
+// Whether an import without a name of its own comes to a package whose clause has another name than its folder.
+fn is_of_other_name(here: &Here<'_>, path: &str) -> bool {
+    let is_named = matches!(
+        here.tokens.kind_before(here.at),
+        Some(TokenKind::Identifier | TokenKind::Operator(Operator::Dot))
+    );
+    if is_named {
+        return false;
+    }
+    match package_at(here, path) {
+        Some(source) => has_other_name(source),
+        None => false,
     }
 }
 
@@ -489,32 +484,74 @@ fn unused(
     path: &str,
 ) -> Result<Message, AllocError> {
     let name = bound_name(here, path);
-    let mut message = Message::of(
-        Words::new(alloc)
-            .and(written)
-            .and(" is imported and not used"),
-    )?;
+    let is_other = is_of_other_name(here, path);
+    let mut message = Message::of(unused_words(alloc, written, name, is_other))?;
     match local_of(here, name) {
-        Some(offset) => {
-            let place = place_here(alloc, here, offset)?;
-            message.note(
-                Words::new(alloc)
-                    .and(name)
-                    .and(" in ")
-                    .and(place.as_str())
-                    .and(" is the variable declared there, and not the package"),
-            )?;
-        }
+        Some(offset) => add_variable(alloc, here, name, offset, &mut message)?,
+        None if is_other => add_clause(alloc, written, path, name, &mut message)?,
         None => message.help(Words::new(alloc).and("take the import away"))?,
     }
     Ok(message)
 }
 
+// That an import is not used, and by which name it would be where that is another one than its folder's.
+fn unused_words(alloc: Global, written: &str, name: &str, is_other: bool) -> Words {
+    let words = Words::new(alloc).and(written).and(" is imported");
+    if is_other {
+        return words.and(" as ").and(name).and(" and not used");
+    }
+    words.and(" and not used")
+}
+
+// Adds that a variable has the name of a package.
+fn add_variable(
+    alloc: Global,
+    here: &Here<'_>,
+    name: &str,
+    offset: usize,
+    message: &mut Message,
+) -> Result<(), AllocError> {
+    let place = place_here(alloc, here, offset)?;
+    message.note(
+        Words::new(alloc)
+            .and(name)
+            .and(" in ")
+            .and(place.as_str())
+            .and(" is the variable declared there, and not the package"),
+    )
+}
+
+// Adds how a package is used whose clause has another name than its folder.
+fn add_clause(
+    alloc: Global,
+    written: &str,
+    path: &str,
+    name: &str,
+    message: &mut Message,
+) -> Result<(), AllocError> {
+    let says = Words::new(alloc).and("its package clause says ").and(name);
+    let write = says.and(": write ").and(name).and(".X");
+    let folder = last_element(path);
+    if !is_identifier(folder) {
+        return message.help(write);
+    }
+    message.help(write.and(", or import ").and(folder).and(" ").and(written))
+}
+
+// Whether an element of an import path is an identifier.
+fn is_identifier(element: &str) -> bool {
+    let begins = match element.as_bytes().first() {
+        Some(byte) => !byte.is_ascii_digit(),
+        None => false,
+    };
+    begins && !element.contains('-') && !element.contains('.') && !element.contains('~')
+}
+
 // Where a function of the file declares a local of a name.
 fn local_of(here: &Here<'_>, name: &str) -> Option<usize> {
     let locals = locals_of(here);
-    for number in 0..here.tokens.list.len() {
-        if is_declared(&here.tokens, locals, number, name) {
+    for number in 0..here.tokens.count() {
+        if is_declared(here.tokens, locals, number, name) {
             return Some(here.tokens.start(number));
         }
     }

@@ -1,7 +1,6 @@
 //! The locals of a file that are open at a place.
 
-use crate::here::Here;
-use crate::tokens::Tokens;
+use go_diagnostic_core::{Here, Tokens};
 use go_snap_core::answer_core::HeldLocal;
 use go_token_core::{Keyword, Operator, TokenKind};
 
@@ -113,5 +112,5 @@ pub(crate) fn locals_of<'s>(here: &Here<'s>) -> &'s [HeldLocal] {
 
 /// The local of a name that is open at a place: the number of its token.
 pub(crate) fn local_here(here: &Here<'_>, name: &str) -> Option<usize> {
-    open_local(&here.tokens, locals_of(here), here.at, name)
+    open_local(here.tokens, locals_of(here), here.at, name)
 }

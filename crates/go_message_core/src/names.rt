@@ -1,15 +1,12 @@
 //! What is said of names that denote nothing, or not what is wanted.
 
-use crate::adding::{add_names, add_near};
-use crate::here::Here;
+use crate::clauses::{clause_name, imported_from};
 use crate::local::{earlier_local, local_here, locals_of};
-use crate::messages::{LineKind, Message, Words};
-use crate::packages::{
-    declared_in, import_place, kind_text, own_decl, package_of_name, place_of_decl,
-};
-use crate::place::place_here;
-use crate::suggesting::{import_with, near_here};
 use crate::twice::{has_member, receiver_base};
+use go_diagnostic_core::{
+    Here, LineKind, Message, Words, add_import_with, add_names, add_near, add_near_in_case,
+    declared_in, import_place, kind_text, own_decl, package_of_name, place_here, place_of_decl,
+};
 use go_text_core::Rule;
 use go_token_core::{Keyword, Operator, TokenKind};
 use go_universe_core::{PredeclaredKind, find_predeclared};
@@ -44,7 +41,7 @@ fn undeclared(alloc: Global, here: &Here<'_>) -> Result<Message, AllocError> {
         message.help(Words::new(alloc).and(word))?;
         return Ok(message);
     }
-    if is_behind_type(here) {
+    if is_after_type(here) {
         let first = here.tokens.word(here.at.saturating_sub(1));
         message.help(
             Words::new(alloc)
@@ -100,7 +97,7 @@ fn add_member(
         && !here
             .tokens
             .is(receiver.saturating_add(1), Operator::CloseParen);
-    if !is_named || !has_member(&here.tokens, receiver_base(&here.tokens, open), name) {
+    if !is_named || !has_member(here.tokens, receiver_base(here.tokens, open), name) {
         return Ok(());
     }
     let word = here.tokens.word(receiver);
@@ -122,11 +119,11 @@ fn is_assigned(here: &Here<'_>) -> bool {
     begins && here.tokens.is(here.at.saturating_add(1), Operator::Assign)
 }
 
-// Whether a name stands behind the name of a predeclared type, in front of a comma or a parenthesis.
-fn is_behind_type(here: &Here<'_>) -> bool {
-    let behind = here.at.saturating_add(1);
-    let is_last = here.tokens.is(behind, Operator::Comma)
-        || here.tokens.is(behind, Operator::CloseParen);
+// Whether a name stands after the name of a predeclared type, in front of a comma or a parenthesis.
+fn is_after_type(here: &Here<'_>) -> bool {
+    let after = here.at.saturating_add(1);
+    let is_last = here.tokens.is(after, Operator::Comma)
+        || here.tokens.is(after, Operator::CloseParen);
     if !is_last || here.tokens.kind_before(here.at) != Some(TokenKind::Identifier) {
         return false;
     }
@@ -189,6 +186,23 @@ fn is_standard(name: &str) -> bool {
     false
 }
 
+// Adds the name in the clause of a package that the file imports from a folder of a name in front of a dot, and answers whether there is such a package.
+fn add_clause(
+    alloc: Global,
+    here: &Here<'_>,
+    name: &str,
+    message: &mut Message,
+) -> Result<bool, AllocError> {
+    let Some(source) = imported_from(here, name) else {
+        return Ok(false);
+    };
+    let package = Words::new(alloc)
+        .and("the package \"")
+        .and(source.path().as_str());
+    message.help(package.and("\" has the name ").and(clause_name(source)))?;
+    Ok(true)
+}
+
 // Adds the import that is missing for a name in front of a dot, and answers whether there is one to speak of.
 fn add_import(
     alloc: Global,
@@ -196,15 +210,15 @@ fn add_import(
     name: &str,
     message: &mut Message,
 ) -> Result<bool, AllocError> {
-    let behind = here.at.saturating_add(1);
-    if !here.tokens.is(behind, Operator::Dot) {
+    let after = here.at.saturating_add(1);
+    if !here.tokens.is(after, Operator::Dot) {
         return Ok(false);
     }
-    let member = here.tokens.word(behind.saturating_add(1));
-    if let Some(path) = import_with(alloc, here, name, member)? {
-        let before = Words::new(alloc).and("import \"");
-        let behind = Words::new(alloc).and("\", which has ").and(member).text()?;
-        message.fitting(before, &path, behind.as_str())?;
+    if add_clause(alloc, here, name, message)? {
+        return Ok(true);
+    }
+    let member = here.tokens.word(after.saturating_add(1));
+    if add_import_with(alloc, here, name, member, message)? {
         return Ok(true);
     }
     if is_standard(name) {
@@ -223,11 +237,11 @@ fn add_ended(
     name: &str,
     message: &mut Message,
 ) -> Result<(), AllocError> {
-    match earlier_local(&here.tokens, locals_of(here), here.at, name) {
+    match earlier_local(here.tokens, locals_of(here), here.at, name) {
         Some(number) => {
             let place = place_here(alloc, here, here.tokens.start(number))?;
             let why = if local_here(here, name).is_some() {
-                " is declared by this statement, and known behind it alone"
+                " is declared by this statement, and known after it alone"
             } else {
                 " is no longer known here: its block has ended"
             };
@@ -310,9 +324,9 @@ fn type_as_value(alloc: Global, here: &Here<'_>) -> Result<Message, AllocError> 
             .and(name.as_str())
             .and(" is a type, and no value"),
     )?;
-    let behind = here.at.saturating_add(1);
-    if here.tokens.is(behind, Operator::Dot) {
-        let member = here.tokens.word(behind.saturating_add(1));
+    let after = here.at.saturating_add(1);
+    if here.tokens.is(after, Operator::Dot) {
+        let member = here.tokens.word(after.saturating_add(1));
         message.note(
             Words::new(alloc)
                 .and("if ")
@@ -325,34 +339,25 @@ fn type_as_value(alloc: Global, here: &Here<'_>) -> Result<Message, AllocError> 
         )?;
         return Ok(message);
     }
-    add_near_value(alloc, here, &mut message)?;
+    add_near_value(alloc, here, name.as_str(), &mut message)?;
     Ok(message)
 }
 
-// Adds a value whose name differs from that of the type in case alone.
-fn add_near_value(alloc: Global, here: &Here<'_>, message: &mut Message) -> Result<(), AllocError> {
-    let spelled = here.word();
-    if let Some(name) = near_here(alloc, here, spelled)? {
-        if name.text().eq_ignore_ascii_case(spelled) {
-            return message.fitting(Words::new(alloc).and("did you mean "), &name, "?");
-        }
+// Adds a value whose name differs from that of the type in case alone, or how a value of the type is written, by its name with what stands left of its dot.
+fn add_near_value(
+    alloc: Global,
+    here: &Here<'_>,
+    name: &str,
+    message: &mut Message,
+) -> Result<(), AllocError> {
+    if add_near_in_case(alloc, here, here.word(), message)? {
+        return Ok(());
     }
-    if find_predeclared(spelled).is_some() {
-        return message.help(
-            Words::new(alloc)
-                .and("a value of it is written ")
-                .and(spelled)
-                .and("(..)"),
-        );
+    let mut help = Words::new(alloc).and("a value of it is written ");
+    if find_predeclared(name).is_none() {
+        help = help.and(name).and("{..} where it is a struct, else ");
     }
-    message.help(
-        Words::new(alloc)
-            .and("a value of it is written ")
-            .and(spelled)
-            .and("{..} where it is a struct, else ")
-            .and(spelled)
-            .and("(..)"),
-    )
+    message.help(help.and(name).and("(..)"))
 }
 
 // A name, with what stands left of the dot in front of it where one does.

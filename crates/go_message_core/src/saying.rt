@@ -1,12 +1,12 @@
 //! What is said of a fault.
 
-use crate::here::Here;
+use crate::common::common_path;
 use crate::imports::of_import;
-use crate::messages::{LineKind, Message, Words};
 use crate::names::of_name;
-use crate::place::{common_path, place_here, place_text};
-use crate::suggesting::fitting_change;
 use crate::twice::of_declaration;
+use go_diagnostic_core::{
+    Here, LineKind, Message, ScannedFile, Words, add_change, place_here, place_text,
+};
 use go_explain_core::meaning;
 use go_mend_core::{Mend, lexical, mend};
 use go_parse_core::SynFault;
@@ -86,9 +86,8 @@ fn of_grammar(alloc: Global, here: &Here<'_>, rule: Rule) -> Result<Message, All
     };
     let found = mend(alloc, text, fault)?;
     let mut message = Message::new(alloc, found.headline(alloc, text)?);
-    match fitting_change(alloc, &found)? {
-        Some(change) => message.fitting(Words::new(alloc), &change, "")?,
-        None => add_advice(alloc, &found, &mut message)?,
+    if !add_change(alloc, here, &found, &mut message)? {
+        add_advice(alloc, &found, &mut message)?;
     }
     if found.is_opened() {
         add_open(alloc, here, found.open, &mut message)?;
@@ -182,14 +181,32 @@ fn other_clause(alloc: Global, here: &Here<'_>) -> Result<Message, AllocError> {
     Ok(message)
 }
 
-/// What is said of a fault of a snapshot, where places are told by folders below that of the module of this path: a headline that names what stands there,
-/// and lines behind it. Of a fault that lies in no file of the snapshot, and of a rule of which no more is said, the headline is the sentence of the rule.
+/// What is said of a fault of a file of a snapshot, where places are told by folders below that of the module of this path: a headline that names what stands there,
+/// and lines after it. Of a fault that lies in another file, and of a rule of which no more is said, the headline is the sentence of the rule.
 ///
-/// A line that fits names something that has a declaration in place of what is amiss, or a package that could be imported there. Lines and columns are
-/// counted from 1, columns in bytes.
+/// A line that fits names something that has a declaration in place of what is amiss, a package that could be imported there, or a change with which the text
+/// has a tree. Lines and columns are counted from 1, columns in bytes.
 ///
-/// The time is linear in the file of the fault, in the files of the declarations that are looked at, at most twenty, and in the names of a scope, a package or a
-/// type; for imports in those of the workspace. Where a suggestion depends on types it is that of `complete`.
+/// The tokens of the file are read once for all its faults. The time is linear in the file of the fault, in the files of the declarations that are looked at, at most
+/// twenty, and in the names of a scope, a package or a type; for imports in those of the workspace. Where a suggestion depends on types it is that of `complete`.
+///
+/// # Errors
+///
+/// `AllocError` where memory is wanting.
+pub fn message_in(
+    alloc: Global,
+    scanned: &ScannedFile<'_>,
+    module: &str,
+    fault: &PlacedFault,
+) -> Result<Message, AllocError> {
+    match Here::of(scanned, module, fault) {
+        Some(here) => said(alloc, &here, fault.rule),
+        None => by_meaning(alloc, fault.rule),
+    }
+}
+
+/// What is said of a fault of a snapshot, as by [`message_in`], with the tokens of its file read for it alone. Of a fault that lies in no file of the snapshot it is the
+/// sentence of the rule.
 ///
 /// # Errors
 ///
@@ -200,13 +217,10 @@ pub fn message_below(
     module: &str,
     fault: &PlacedFault,
 ) -> Result<Message, AllocError> {
-    let found = match Here::of(alloc, snapshot, module, fault) {
-        Ok(found) => found,
-        Err(error) => return Err(error),
-    };
-    match found {
-        Some(here) => said(alloc, &here, fault.rule),
-        None => by_meaning(alloc, fault.rule),
+    match ScannedFile::of(alloc, snapshot, fault) {
+        Ok(Some(scanned)) => message_in(alloc, &scanned, module, fault),
+        Ok(None) => by_meaning(alloc, fault.rule),
+        Err(error) => Err(error),
     }
 }
 

@@ -1,13 +1,12 @@
 //! What is said of what is declared twice.
 
-use crate::here::Here;
+use crate::common::last_element;
 use crate::local::{local_here, locals_of, open_local};
-use crate::messages::{LineKind, Message, Words};
-use crate::packages::{import_place, own_decl, package_at, place_of_decl};
-use crate::place::{place_here, place_text};
-use crate::quoting::shown;
-use crate::tokens::Tokens;
 use go_decl_core::DeclRef;
+use go_diagnostic_core::{
+    Here, LineKind, Message, Tokens, Words, import_place, own_decl, package_at, place_here,
+    place_of_decl, place_text, shown,
+};
 use go_snap_core::graph_core::SourceFile;
 use go_text_core::Rule;
 use go_token_core::{Keyword, Operator, TokenKind, plain_value};
@@ -96,7 +95,7 @@ fn add_earlier(alloc: Global, here: &Here<'_>, message: &mut Message) -> Result<
 // An import that binds a name which another one of the file binds.
 fn second_import(alloc: Global, here: &Here<'_>) -> Result<Message, AllocError> {
     let written = shown(alloc, here.word())?;
-    let name = last_element(written.as_str());
+    let name = last_written(written.as_str());
     let mut message = Message::of(
         Words::new(alloc)
             .and(written.as_str())
@@ -113,13 +112,9 @@ fn second_import(alloc: Global, here: &Here<'_>) -> Result<Message, AllocError> 
     Ok(message)
 }
 
-// What stands behind the last `/` of a string with its quotes.
-fn last_element(written: &str) -> &str {
-    let path = written.trim_matches('"');
-    match path.rsplit_once('/') {
-        Some((_, last)) => last,
-        None => path,
-    }
+// What comes after the last `/` of a string with its quotes.
+fn last_written(written: &str) -> &str {
+    last_element(written.trim_matches('"'))
 }
 
 // The declaration of the package that has the name which an import brings, by the name in front of its path or the last element of that.
@@ -128,7 +123,7 @@ fn bound_decl(here: &Here<'_>, written: &str) -> Option<DeclRef> {
         Some(TokenKind::Identifier) => {
             own_decl(here, here.tokens.word(here.at.saturating_sub(1)))
         }
-        _ => own_decl(here, last_element(written)),
+        _ => own_decl(here, last_written(written)),
     }
 }
 
@@ -138,7 +133,7 @@ fn bound_name(alloc: Global, here: &Here<'_>, written: &str) -> Result<String, A
         Some(TokenKind::Identifier) => {
             String::from_str(alloc, here.tokens.word(here.at.saturating_sub(1)))
         }
-        _ => String::from_str(alloc, last_element(written)),
+        _ => String::from_str(alloc, last_written(written)),
     }
 }
 
@@ -244,7 +239,7 @@ fn add_first(
     message: &mut Message,
 ) -> Result<(), AllocError> {
     let name = here.tokens.word(number);
-    match open_local(&here.tokens, locals_of(here), here.at, name) {
+    match open_local(here.tokens, locals_of(here), here.at, name) {
         Some(first) => {
             let place = place_here(alloc, here, here.tokens.start(first))?;
             message.line(LineKind::First, Words::new(alloc).and(place.as_str()))
@@ -259,7 +254,7 @@ fn second_member(alloc: Global, here: &Here<'_>) -> Result<Message, AllocError> 
     let is_method = here.tokens.is_before(here.at, Operator::CloseParen);
     if is_method {
         let open = here.tokens.opening(here.at.saturating_sub(1));
-        let base = receiver_base(&here.tokens, open);
+        let base = receiver_base(here.tokens, open);
         let mut message = Message::of(
             Words::new(alloc)
                 .and(base)
@@ -305,7 +300,7 @@ fn add_first_member(
     if let Some(place) = field_place(alloc, here, decl, base, name)? {
         return message.line(LineKind::First, Words::new(alloc).and(place.as_str()));
     }
-    if let Some(number) = method_of(&here.tokens, here.at, base, name) {
+    if let Some(number) = method_of(here.tokens, here.at, base, name) {
         let place = place_here(alloc, here, here.tokens.start(number))?;
         return message.line(LineKind::First, Words::new(alloc).and(place.as_str()));
     }
@@ -364,7 +359,7 @@ fn earlier_method(
                 Ok(tokens) => tokens,
                 Err(error) => return Err(error),
             };
-            let method = method_of(&tokens, tokens.list.len(), base, name);
+            let method = method_of(&tokens, tokens.count(), base, name);
             let place = token_place(alloc, here, file, &tokens, method)?;
             if place.is_some() {
                 return Ok(place);
@@ -377,7 +372,7 @@ fn earlier_method(
 /// Whether a file declares a field or a method of a name of a type.
 pub(crate) fn has_member(tokens: &Tokens<'_>, base: &str, name: &str) -> bool {
     field_of(tokens, base, name).is_some()
-        || method_of(tokens, tokens.list.len(), base, name).is_some()
+        || method_of(tokens, tokens.count(), base, name).is_some()
 }
 
 // The first token in front of another that names a method of a type, which is declared with a receiver.
@@ -401,7 +396,7 @@ fn is_method_of(tokens: &Tokens<'_>, number: usize, base: &str) -> bool {
 
 // The token that names a field of a struct type, in the declaration of the type.
 fn field_of(tokens: &Tokens<'_>, base: &str, name: &str) -> Option<usize> {
-    for number in 0..tokens.list.len() {
+    for number in 0..tokens.count() {
         if tokens.word(number) == base && is_struct_declared(tokens, number) {
             return field_in(tokens, number.saturating_add(2), name);
         }
@@ -428,12 +423,12 @@ fn field_in(tokens: &Tokens<'_>, open: usize, name: &str) -> Option<usize> {
         if depth == 1 && tokens.word(number) == name && begins_field(tokens, number) {
             return Some(number);
         }
-        depth = tokens.depth_behind(number, depth);
+        depth = tokens.depth_after(number, depth);
     }
     None
 }
 
-// Whether a token stands as the name of a field does, between what may stand in front of one and behind one.
+// Whether a token stands as the name of a field does, between what may stand in front of one and after one.
 fn begins_field(tokens: &Tokens<'_>, number: usize) -> bool {
     let is_first = matches!(
         tokens.kind_before(number),

@@ -4,7 +4,7 @@ use Rattle.std.proofs.lemmas.List.{append-nil, append_cancel_left}
 use Rattle.std.specs.Str.Pattern.{FindsTextPrefix}
 use Rattle.go_folder_core.specs.Folders.{joined_path}
 
--- what stands behind the module's path
+-- what stands after the module's path
 abbrev pub behind : List ℕ → List ℕ
 behind [] = []
 behind (c ∷ cs) = 47 ∷ c ∷ cs
@@ -18,7 +18,7 @@ joined_is (b ∷ bs) (c ∷ cs) h = refl
 pub not_begun : (m path folder : List ℕ) → FindsTextPrefix m path None → 0 < length m → path ≡ joined_path m folder → [] ≡ folder
 not_begun m path folder none some is = absurd (none (behind folder) (is ∙ joined_is m folder some))
 
--- what stands behind it, where it begins so
+-- what stands after it, where it begins so
 pub rest_is : (m path rest folder : List ℕ) (n : ℕ) → FindsTextPrefix m path (Some n) → rest ≡ drop n path → 0 < length m → path ≡ joined_path m folder → rest ≡ behind folder
 rest_is m path rest folder n found cut some is =
     append_cancel_left m rest (behind folder) (ap (λ l. m ++ l) cut ∙ sym found.1 ∙ is ∙ joined_is m folder some)

@@ -26,7 +26,7 @@ below_more start old mid new h blank w = (
       ∙ (append_assoc (start ++ h.0) (codes " ") (w.words ++ codes "\n") ∙ append_assoc start h.0 (codes " " ++ (w.words ++ codes "\n")))),
 )
 
--- a line behind what it begins with
+-- a line after what it begins with
 line_added : (start mid new front : List ℕ) → mid ≡ start ++ front → AddsWords mid new → AddsLine front start new
 line_added start mid new front is w = (
   front ++ (w.words ++ codes "\n"),

@@ -1,4 +1,4 @@
--- Folders that are put one behind another.
+-- Folders that are put one after another.
 use Rattle.std.proofs.Common.{◌≡◌, ◌∙◌, ℕ, List, [], ◌∷◌, ◌++◌, inl, inr, Some, None, Result, Ok, Err, OnOk, refl, sym, subst}
 use Rattle.go_text_core.specs.declared.rule.Rule.TheVariants.{E1}
 use Rattle.go_path_core.specs.Path.{IsPath}

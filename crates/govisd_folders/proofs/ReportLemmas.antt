@@ -28,7 +28,7 @@ fault_added (Ok x) look path file text is_first is_follower t at old new place s
     record { at = at; place = place; line = k.0; said = k.1; is = k.2 }
 fault_added (Err e) look path file text is_first is_follower t at old new place same h = tt
 
--- faults and what stands before, beside and behind them
+-- faults and what stands before, beside and after them
 pub report_added : {X E : Type 0} (r : Result X E) (look : Look) (own given : List ℕ) (ps : List PackageModel) (told : ℕ) (shown : List Told) (count packages : ℕ) (start head mid next end : List ℕ) → count ≡ length shown → head ≡ start ++ head_text look.format
     → AddsLines look own given ps true shown head mid → AddsBeside look.format mid next → OnOk r (end ≡ next ++ ending_text look.format told count packages) → OnOk r (AddsReport look own given ps told shown packages start end)
 report_added (Ok x) look own given ps told shown count packages start head mid next end many before lines said behind =

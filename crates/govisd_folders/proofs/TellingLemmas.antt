@@ -1,4 +1,4 @@
--- Faults that are written one behind another, each of the file in which it lies.
+-- Faults that are written one after another, each of the file in which it lies.
 use Rattle.std.proofs.Common.{◌≡◌, ◌≢◌, ◌∙◌, ℕ, zero, suc, ◌+◌, ◌-◌, ◌<◌, ◌≤◌, ◌==◌, Bool, true, false, List, [], ◌∷◌, ◌++◌, length, drop, get_or, take, append_assoc, flat_map, All, Option, Some, None, Result, Ok, Err, OnOk, IfOk, refl, sym, ap, subst, arith}
 use Rattle.std.specs.Prelude.{option_and_then, option_map, slice_get, string_bytes}
 use Rattle.std.specs.List.{AllByRecursion}
@@ -7,7 +7,6 @@ use Rattle.std.proofs.lemmas.List.Elements.{All-from_recursion, recursion_from_A
 use Rattle.std.proofs.lemmas.Bool.{eqb-false, eqb-true}
 use Rattle.std.proofs.lemmas.Option.{none-some}
 use Rattle.std.proofs.Math.Seq.{take-add}
-use Rattle.go_text_core.specs.declared.rule.Rule.TheVariants.{L1}
 use Rattle.go_folder_core.specs.Folders.{joined_path}
 use Rattle.go_folder_core.specs.Places.{IsPosition}
 use Rattle.go_snap_core.specs.graph_core.Workspaces.{PackageModel}
@@ -37,17 +36,13 @@ source_there ps f h =
 pub lies_somewhere : (ps : List PackageModel) (f : PlacedFault) → LiesIn ps f → source_at ps f ≡ None → ⊥
 lies_somewhere ps f h none = none-some _ (sym none ∙ source_there ps f h)
 
--- a fault of a list, as code reads it
-abbrev pub told_at : List Told → ℕ → Told
-told_at faults i = get_or faults i (record { fault = record { «package» = 0; file = 0; offset = 0; rule = L1 }; root = None })
-
 -- faults of one file are found in the same
 pub source_beside : (ps : List PackageModel) (f g : PlacedFault) → f.«package» ≡ g.«package» → f.file ≡ g.file → source_at ps f ≡ source_at ps g
 source_beside ps f g of_package of_file =
     ap (λ (n : ℕ). option_and_then (λ (p : PackageModel). option_map (λ s. (p.0, s)) (slice_get p.1 n)) (slice_get ps f.«package»)) of_file
     ∙ ap (λ (n : ℕ). option_and_then (λ (p : PackageModel). option_map (λ s. (p.0, s)) (slice_get p.1 g.file)) (slice_get ps n)) of_package
 
--- so many of the faults behind the first ones
+-- so many of the faults after the first ones
 pub within_rest : (faults : List Told) (i n : ℕ) → n ≤ length (drop i faults) → i ≤ length faults → i + n ≤ length faults
 within_rest faults i n few within = close i n (length faults) (subst (λ k. n ≤ k) (length-drop i faults) few) within
   where
@@ -143,7 +138,7 @@ module _ (look : Look) (own given : List ℕ) (ps : List PackageModel) where
     k.2 ∙ ap (λ l. l ++ k.0) h.2 ∙ append_assoc start h.0 k.0,
   )
 
-  -- the lines of some faults behind those of others
+  -- the lines of some faults after those of others
   lines_joined : (is_first : Bool) (ts us : List Told) (text rest : List ℕ) → AreLines look own given ps is_first ts text → AreLines look own given ps (next_first is_first ts) us rest → AreLines look own given ps is_first (ts ++ us) (text ++ rest)
   lines_joined is_first [] us text rest h k = subst (λ l. AreLines look own given ps is_first us (l ++ rest)) (sym h) k
   lines_joined is_first (t ∷ ts) us text rest h k =

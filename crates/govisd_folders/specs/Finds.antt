@@ -31,7 +31,7 @@ pub record IsUnread (folder : List ℕ) (kind : ErrorKind) (r : ReadModel) : Typ
   pub why : List ℕ
   pub is : r ≡ Refused (refused_line folder why)
 
--- what comes of a workspace; where it has no file that is told of, what was asked for is refused behind what was left out and passed over
+-- what comes of a workspace; where it has no file that is told of, what was asked for is refused after what was left out and passed over
 abbrev pub read_on : List ℕ → List ℕ → List PackageModel → ScopeModel → List ℕ → List ℕ → ReadModel
 read_on folder own ps scope notes passed =
     if has_any scope ps then Found own ps scope notes passed else Refused ((notes ++ passed) ++ refused_line folder (codes "no Go files to check"))

@@ -30,7 +30,7 @@ IsPut own f old new =
     (IsPath (joined_path own f.0) × Puts old.0 (joined_path own f.0) f.1 new.0 × (new.1 ≡ old.1))
     ⊎ ((¬ IsPath (joined_path own f.0)) × (new.0 ≡ old.0) × (new.1 ≡ old.1 ++ refusal_line f.0 E1))
 
--- those of folders, one behind another
+-- those of folders, one after another
 abbrev pub ArePut : List ℕ → List FolderModel → StateModel → StateModel → Type 0
 ArePut own [] old new = new ≡ old
 ArePut own (f ∷ fs) old new = (between : StateModel) × IsPut own f old between × ArePut own fs between new

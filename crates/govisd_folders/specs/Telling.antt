@@ -1,7 +1,8 @@
 -- How faults are written.
-use Rattle.std.specs.Prelude.{◌≡◌, ◌≢◌, ◌<◌, ◌-◌, ◌==◌, ℕ, Bool, true, false, nat_le, List, [], ◌∷◌, ◌++◌, get_or, length, take, Option, Some, codes, decimal, string_bytes, if◌then◌else◌}
+use Rattle.std.specs.Prelude.{◌≡◌, ◌≢◌, ◌<◌, ◌-◌, ◌==◌, ℕ, Bool, true, false, nat_le, List, [], ◌∷◌, ◌++◌, get_or, length, take, Option, Some, None, codes, decimal, string_bytes, if◌then◌else◌}
 use Rattle.go_text_core.specs.Rules.{rule_number}
 use Rattle.go_text_core.specs.declared.rule.Rule.{Rule}
+use Rattle.go_text_core.specs.declared.rule.Rule.TheVariants.{L1}
 use Rattle.go_explain_core.specs.Meanings.{rule_meaning}
 use Rattle.go_folder_core.specs.Folders.{joined_path}
 use Rattle.go_folder_core.specs.Places.{IsPosition}
@@ -88,7 +89,7 @@ sarif_front is_first follows file at offset rule =
 abbrev pub IsInLine : List ℕ → Type 0
 IsInLine words = (i : ℕ) → i < length words → get_or words i 0 ≢ 10
 
--- words and the end of their line are written behind what was there
+-- words and the end of their line are written after what was there
 pub record AddsWords (old new : List ℕ) : Type 0 where
   pub words : List ℕ
   pub one_line : IsInLine words
@@ -123,7 +124,7 @@ IsForm format.Json color is_first follows path file at offset rule text = IsLine
 IsForm format.Github color is_first follows path file at offset rule text = IsLineOf (github_front follows file at rule) text
 IsForm format.Sarif color is_first follows path file at offset rule text = IsLineOf (sarif_front is_first follows file at offset rule) text
 
--- these are written behind what was there
+-- these are written after what was there
 abbrev pub AddsLine : List ℕ → List ℕ → List ℕ → Type 0
 AddsLine front old new = (line : List ℕ) × IsLineOf front line × (new ≡ old ++ line)
 
@@ -190,6 +191,19 @@ file_text format.Json given file = file
 file_text format.Github given file = joined_path given file
 file_text format.Sarif given file = joined_path given file
 
+-- a fault of a list, as code reads it
+abbrev pub told_at : List Told → ℕ → Told
+told_at faults i = get_or faults i (record { fault = record { «package» = 0; file = 0; offset = 0; rule = L1 }; root = None })
+
+-- a fault lies in a file of the package of a path, which has this text and is written so
+pub record IsPlacedIn (look : Look) (own given : List ℕ) (ps : List PackageModel) (t : Told) (path file text : List ℕ) : Type 0 where
+  pub source : SourceModel
+  pub lies : source_at ps t.fault ≡ Some (path, source)
+  pub folder : List ℕ
+  pub below : IsFolderOf own path folder
+  pub named : file ≡ file_text look.format given (joined_path folder source.name)
+  pub same : text ≡ source.text
+
 -- a fault lies in a file of a package, and what is written of it
 pub record IsToldIn (look : Look) (own given path : List ℕ) (source : SourceModel) (is_first : Bool) (t : Told) (line : List ℕ) : Type 0 where
   pub folder : List ℕ
@@ -204,13 +218,13 @@ pub record IsLine (look : Look) (own given : List ℕ) (ps : List PackageModel) 
   pub lies : source_at ps t.fault ≡ Some (path, source)
   pub text : IsToldIn look own given path source is_first t line
 
--- of faults, one behind another, where nothing or something stands in front of them
+-- of faults, one after another, where nothing or something stands in front of them
 abbrev pub AreLines : Look → List ℕ → List ℕ → List PackageModel → Bool → List Told → List ℕ → Type 0
 AreLines look own given ps is_first [] text = text ≡ []
 AreLines look own given ps is_first (t ∷ ts) text =
     (line rest : List ℕ) × IsLine look own given ps is_first t line × AreLines look own given ps false ts rest × (text ≡ line ++ rest)
 
--- they are written behind what was there
+-- they are written after what was there
 abbrev pub AddsOne : Look → List ℕ → List ℕ → List PackageModel → Bool → Told → List ℕ → List ℕ → Type 0
 AddsOne look own given ps is_first t old new = (line : List ℕ) × IsLine look own given ps is_first t line × (new ≡ old ++ line)
 
@@ -235,13 +249,13 @@ abbrev pub hidden_text : ℕ → List ℕ
 hidden_text n = if n == 0 then [] else (if n == 1 then codes "; 1 of them follows from these (--all shows it)" else several_text n)
 
 abbrev pub full_text : ℕ → List ℕ
-full_text shown = if nat_le shown 300 then [] else codes "The first 300 faults are told in full, of the others what their rules mean\n"
+full_text shown = if nat_le shown 300 then [] else codes "Only the first faults are told in full, of the others what their rules mean\n"
 
 abbrev pub count_text : ℕ → ℕ → ℕ → List ℕ
 count_text faults shown packages =
     full_text shown ++ faults_text faults ++ codes " in " ++ packages_text packages ++ hidden_text (faults - shown) ++ codes "\n"
 
--- what stands before the faults, and behind them
+-- what stands before the faults, and after them
 abbrev pub head_text : Format → List ℕ
 head_text format.Sarif = codes "{\"$schema\":\"https://json.schemastore.org/sarif-2.1.0.json\",\"version\":\"2.1.0\",\"runs\":[{\"tool\":{\"driver\":{\"name\":\"govisd\",\"version\":\"0.1.0\"}},\"columnKind\":\"unicodeCodePoints\",\"results\":[\n"
 head_text _ = []
@@ -260,7 +274,7 @@ all_in _ all = all
 abbrev pub shows_all : Look → Bool
 shows_all look = all_in look.format look.all
 
--- a report on so many faults, of which these are shown, and that lie in so many packages, is written behind what was there: each of those once, in order,
+-- a report on so many faults, of which these are shown, and that lie in so many packages, is written after what was there: each of those once, in order,
 -- what is said beside, and how many faults there are
 pub record AddsReport (look : Look) (own given : List ℕ) (ps : List PackageModel) (told : ℕ) (shown : List Told) (packages : ℕ) (old new : List ℕ) : Type 0 where
   pub lines : List ℕ

@@ -11,7 +11,7 @@ use unicode_width::UnicodeWidthChar;
 const BEFORE: usize = 100;
 
 /// How many bytes of a line are shown from the place of a fault on at most.
-const BEHIND: usize = 60;
+const AFTER: usize = 60;
 
 /// How many columns a tab takes.
 const TAB: usize = 4;
@@ -101,13 +101,13 @@ fn digits(number: usize) -> usize {
 /// A line of the source, and marks below it.
 #[derive(Drop)]
 pub(crate) struct Excerpt {
-    /// The line, behind its number.
+    /// The line, after its number.
     pub(crate) line: String,
     /// Blanks, and carets below what is marked.
     pub(crate) marks: String,
 }
 
-// The line of the source, behind its number.
+// The line of the source, after its number.
 fn source_line(
     alloc: Global,
     number: usize,
@@ -153,8 +153,8 @@ pub(crate) fn excerpt_of(
     let start = spot.offset.saturating_sub(spot.at.column.saturating_sub(1));
     let from = start.max(spot.offset.saturating_sub(BEFORE));
     let front = part(spot.text, from, spot.offset);
-    let behind = spot.offset.saturating_add(BEHIND);
-    let rest = first_line(part(spot.text, spot.offset, behind));
+    let after = spot.offset.saturating_add(AFTER);
+    let rest = first_line(part(spot.text, spot.offset, after));
     let word = first_line(word_at(spot.text, spot.offset));
     let marked = if word.len() > rest.len() { rest } else { word };
     Ok(Excerpt {

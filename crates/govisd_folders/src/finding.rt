@@ -47,7 +47,7 @@ pub enum ReadFolder {
     Found(FoundPackages),
 }
 
-// There is no package, for a reason of what has a name. That stands behind what is said already.
+// There is no package, for a reason of what has a name. That stands after what is said already.
 fn refused(said: String, name: &str, why: &str) -> Result<ReadFolder, AllocError>
     ensures { IfOk result (λ r. read_shown r ≡ IsRefused (string_bytes said ++ refused_line name.now why.now)) }
 {
@@ -80,7 +80,7 @@ fn found(
     }))
 }
 
-// There is no file that is told of. That stands behind what was left out and passed over.
+// There is no file that is told of. That stands after what was left out and passed over.
 fn refuse_empty(folder: &str, notes: String, passed: &str) -> Result<ReadFolder, AllocError>
     ensures { IfOk result (λ r. read_shown r ≡ IsRefused ((string_bytes notes ++ passed.now) ++ refused_line folder.now (codes "no Go files to check"))) }
 {
@@ -183,7 +183,7 @@ fn refuse_folder(alloc: Global, folder: &str, error: &io::Error) -> Result<ReadF
     Ok(read)
 }
 
-// There is no package, since there is no path of a module. That stands behind what is said already.
+// There is no package, since there is no path of a module. That stands after what is said already.
 fn refuse_hinted(said: String) -> Result<ReadFolder, AllocError>
     ensures { IfOk result (λ r. read_shown r ≡ IsRefused (string_bytes said ++ module_hint)) }
 {

@@ -1,4 +1,4 @@
-//! Faults in lines: the place and the rule of each, in each form, with the words behind them.
+//! Faults in lines: the place and the rule of each, in each form, with the words after them.
 ghost use Rattle.std.specs.Prelude.{◌≡◌, ◌++◌, IfOk, OnOk, IsTrue, true, is_some, string_bytes};
 ghost use Rattle.govisd_folders.specs.Telling.{AddsBelow, AddsBeside, AddsForm, AddsLine as AddsOneLine, AddsNote, AddsNotes, AddsText, AddsWords, comma_text, github_front, IsInLine, json_front, level_text, line_front, painted_front, plain_front, position_text, result_text, sarif_front};
 
@@ -328,7 +328,7 @@ fn push_sarif(
     push_words(out, words.line.as_str())
 }
 
-/// Adds a fault in a form: its place and its rule, and the words behind them.
+/// Adds a fault in a form: its place and its rule, and the words after them.
 ///
 /// # Errors
 ///

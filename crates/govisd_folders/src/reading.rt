@@ -71,14 +71,14 @@ fn kind_of(metadata: &Metadata) -> EntryKind {
     EntryKind::Other
 }
 
-/// What lies behind the link at a path.
-fn look_behind(rt: &HostRuntime, path: &str) -> io::Result<EntryKind> {
+/// What the link at a path leads to.
+fn look_through(rt: &HostRuntime, path: &str) -> io::Result<EntryKind> {
     match fs::metadata(rt, path) {
-        Ok(behind) => {
-            if behind.is_dir() {
+        Ok(found) => {
+            if found.is_dir() {
                 return Ok(EntryKind::FolderLink);
             }
-            Ok(kind_of(&behind))
+            Ok(kind_of(&found))
         }
         Err(error) => {
             if is_memory(error.kind()) {
@@ -95,7 +95,7 @@ fn look(rt: &HostRuntime, path: &str) -> io::Result<EntryKind> {
     if !own.is_symlink() {
         return Ok(kind_of(&own));
     }
-    look_behind(rt, path)
+    look_through(rt, path)
 }
 
 /// Adds the name of an entry, or says why there is none.

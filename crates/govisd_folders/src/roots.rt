@@ -32,7 +32,7 @@ pub(crate) enum Above {
 }
 
 // The path of a folder from that of another, in which or below which it lies.
-fn behind<'a>(root: &str, folder: &'a str) -> &'a str {
+fn rest_of<'a>(root: &str, folder: &'a str) -> &'a str {
     if root == "/" {
         return folder.strip_prefix('/').unwrap_or(folder);
     }
@@ -52,9 +52,9 @@ fn has_passed_over(path: &str) -> bool {
 // The root of a folder that lies in another one, which is the folder of a module of this path. Where the folder is one of those that are passed over, it
 // is read alone.
 fn root_in(alloc: Global, module: &str, root: &str, folder: &str) -> Result<Root, AllocError> {
-    let behind = behind(root, folder);
-    let told = package_path(alloc, module, behind)?;
-    if has_passed_over(behind) {
+    let rest = rest_of(root, folder);
+    let told = package_path(alloc, module, rest)?;
+    if has_passed_over(rest) {
         return Ok(Root {
             folder: String::from_str(alloc, folder)?,
             own: String::from_str(alloc, told.as_str())?,

@@ -4,7 +4,7 @@ ghost use Rattle.go_folder_core.specs.Folders.{joined_path};
 ghost use Rattle.go_snap_core.specs.Faults.{LiesIn};
 ghost use Rattle.go_snap_core.specs.Snapshots.{IsSnapshot};
 ghost use Rattle.govisd_folders.specs.Scopes.{packages_in, shown_in, source_at, told_by, told_in};
-ghost use Rattle.govisd_folders.specs.Telling.{AddsFault, AddsLines, AddsReport, AreTold, IsReport, LiesTold, count_text, ending_text, faults_text, file_text, full_text, head_text, hidden_text, packages_text, several_text, shows_all};
+ghost use Rattle.govisd_folders.specs.Telling.{AddsFault, AddsLines, AddsReport, AreTold, IsPlacedIn, IsReport, LiesTold, count_text, ending_text, faults_text, file_text, full_text, head_text, hidden_text, packages_text, several_text, shows_all, told_at};
 
 use crate::lines::{push_beside, push_form};
 use crate::looks::Look;
@@ -16,8 +16,9 @@ use crate::spots::{Spot, folder_of, push_fault_place, push_fault_spot};
 use crate::unused::{Beside, unused_in};
 use crate::words::{Words, words_of};
 use go_cause_core::{Cause, causes, repeated_names};
+use go_diagnostic_core::{LineKind, Message};
 use go_folder_core::{Format, LineCounter, Position, below};
-use go_message_core::{LineKind, Message, MessageLine, message_below};
+use go_mismatch_core::{FileMessages, is_of_types, message_below};
 use go_snap_core::graph_core::SourceFile;
 use go_snap_core::{PlacedFault, Snapshot, faults_lie_in_files};
 use go_text_core::Rule;
@@ -26,8 +27,8 @@ use std::alloc::{AllocError, Global};
 /// Of how many faults the message is told; of others, what the rule means.
 const IN_FULL: usize = 300;
 
-/// How many bytes may be gone through for the messages of a file: each goes through the whole file.
-const MESSAGE_BYTES: usize = 20_000_000;
+/// How many bytes may be gone through for the messages of a file: each goes through the whole file. The first one is always told.
+const MESSAGE_BYTES: usize = 2_000_000;
 
 /// Of how many faults the line of the source is shown.
 const WITH_SOURCE: usize = 50;
@@ -48,12 +49,39 @@ pub struct Page<'a> {
 
 // Adds a line to a message.
 fn add_note(message: &mut Message, text: String) -> Result<(), AllocError> {
-    message.lines.push(MessageLine {
-        kind: LineKind::Note,
-        text,
-        fits: false,
-    })?;
-    Ok(())
+    message.at(LineKind::Note, Some(text))
+}
+
+/// A file in which faults lie that are written, and what is written of all of them.
+struct Sheet<'s, 'f> {
+    page: &'s Page<'s>,
+    snapshot: &'s Snapshot,
+    /// All faults that are told of.
+    every: &'s [Told],
+    /// The path of its package.
+    package: &'s str,
+    /// The path of the file, as it is written.
+    file: &'f str,
+    text: &'s str,
+    /// How many faults stand before its first one.
+    before: usize,
+    /// The messages of its faults; none where no fault of it is told in full.
+    messages: Option<FileMessages<'s>>,
+}
+
+impl Drop for Sheet<'_, '_> {
+    fn drop(self) {
+        let Sheet {
+            page: _,
+            snapshot: _,
+            every: _,
+            package: _,
+            file: _,
+            text: _,
+            before: _,
+            messages: _,
+        } = self;
+    }
 }
 
 // That a fault follows from another.
@@ -158,55 +186,59 @@ fn note_others(
 
 // What is said of a file that could not be read.
 fn of_unread(alloc: Global) -> Result<Message, AllocError> {
-    Ok(Message {
-        headline: String::from_str(
-            alloc,
-            "this file could not be read: standard error says why",
-        )?,
-        lines: Vec::new(alloc),
-    })
+    let headline = String::from_str(
+        alloc,
+        "this file could not be read: standard error says why",
+    )?;
+    Ok(Message::new(alloc, headline))
+}
+
+// What is said of a fault of a file.
+fn said_in(
+    alloc: Global,
+    sheet: &Sheet<'_, '_>,
+    fault: &PlacedFault,
+) -> Result<Message, AllocError> {
+    let page = sheet.page;
+    let module = page.scope.package;
+    match &sheet.messages {
+        Some(messages) => messages.message(alloc, module, fault),
+        None => message_below(alloc, sheet.snapshot, module, fault),
+    }
 }
 
 // The message of a fault, which says what the fault follows from; as JSON a member says so.
-fn message_of(
-    alloc: Global,
-    page: &Page<'_>,
-    snapshot: &Snapshot,
-    every: &[Told],
-    text: &str,
-    told: Told,
-) -> Result<Message, AllocError> {
-    let module = page.scope.package;
-    let mut message = if text == STAND_IN && told.fault.rule == Rule::L1 {
+fn message_of(alloc: Global, sheet: &Sheet<'_, '_>, told: Told) -> Result<Message, AllocError> {
+    let page = sheet.page;
+    let mut message = if sheet.text == STAND_IN && told.fault.rule == Rule::L1 {
         of_unread(alloc)?
     } else {
-        message_below(alloc, snapshot, module, &told.fault)?
+        said_in(alloc, sheet, &told.fault)?
     };
     if page.look.format != Format::Json {
-        note_others(alloc, page, snapshot, every, told, &mut message)?;
+        note_others(alloc, page, sheet.snapshot, sheet.every, told, &mut message)?;
     }
     Ok(message)
 }
 
-// Whether the message of the fault of a number is told, where so many bytes are in its file.
-fn is_in_full(number: usize, bytes: usize) -> bool {
-    number < IN_FULL && number.saturating_mul(bytes) < MESSAGE_BYTES
+// Whether the message of the fault of a number is told, where so many faults stand before the first one of its file, which has so many bytes.
+fn is_in_full(number: usize, before: usize, bytes: usize) -> bool {
+    let place = number.saturating_sub(before);
+    number < IN_FULL && place.saturating_mul(bytes) < MESSAGE_BYTES
 }
 
-// What is said of the fault of a number behind its place and its rule: of the first ones what their messages say.
+// What is said of the fault of a number after its place and its rule: of the first ones what their messages say.
 fn words_at(
     alloc: Global,
-    page: &Page<'_>,
-    snapshot: &Snapshot,
-    every: &[Told],
-    text: &str,
+    sheet: &Sheet<'_, '_>,
     at: Position,
     told: Told,
     number: usize,
 ) -> Result<Words, AllocError> {
-    let is_read = text != STAND_IN;
+    let page = sheet.page;
+    let is_read = sheet.text != STAND_IN;
     let spot = Spot {
-        text: if is_read { text } else { "" },
+        text: if is_read { sheet.text } else { "" },
         at,
         offset: told.fault.offset,
         rule: told.fault.rule,
@@ -216,43 +248,38 @@ fn words_at(
         ..page.look
     };
     let scope = &page.scope;
-    let workspace = snapshot.sources();
-    if is_in_full(number, text.len()) {
-        let message = message_of(alloc, page, snapshot, every, text, told)?;
+    let workspace = sheet.snapshot.sources();
+    if is_in_full(number, sheet.before, sheet.text.len()) {
+        let message = message_of(alloc, sheet, told)?;
         return words_of(alloc, look, scope, workspace, &spot, told, Some(&message));
     }
     words_of(alloc, look, scope, workspace, &spot, told, None)
 }
 
-// Adds the fault of a number, behind others or as the first. The lines of its file are counted on from the last place that was asked for.
+// Adds the fault of a number, after others or as the first. The lines of its file are counted on from the last place that was asked for.
 fn push_fault(
     alloc: Global,
     out: &mut String,
-    page: &Page<'_>,
-    snapshot: &Snapshot,
-    every: &[Told],
-    package: &str,
-    file: &str,
-    text: &str,
+    sheet: &Sheet<'_, '_>,
     lines: &mut LineCounter<'_>,
     told: Told,
     number: usize,
     is_first: bool,
 ) -> Result<(), AllocError>
-    ensures added { OnOk result (AddsFault page.now.look «package».now file.now lines.old is_first told (string_bytes out.old) (string_bytes out.new)) }
+    ensures added { OnOk result (AddsFault sheet.now.page.now.look sheet.now.package.now sheet.now.file.now lines.old is_first told (string_bytes out.old) (string_bytes out.new)) }
     ensures text { lines.new ≡ lines.old }
 {
     let at = lines.position_of(told.fault.offset);
-    let words = words_at(alloc, page, snapshot, every, text, at, told, number)?;
+    let words = words_at(alloc, sheet, at, told, number)?;
     push_form(
         alloc,
         out,
-        page.look.format,
-        page.look.color,
+        sheet.page.look.format,
+        sheet.page.look.color,
         is_first,
         follows(told),
-        package,
-        file,
+        sheet.package,
+        sheet.file,
         at,
         told.fault.offset,
         told.fault.rule,
@@ -286,14 +313,72 @@ fn file_text(alloc: Global, format: Format, given: &str, file: &str) -> Result<S
     }
 }
 
-// Adds the first of these faults and those that follow it in the same file, whose lines are counted once. Answers how many they are. So many faults
-// stand before them.
-fn push_file(
+// Adds the first of these faults, which lies in a file, and those that follow it in the same file, whose lines are counted once. Answers how many they are.
+fn push_run(
     alloc: Global,
     out: &mut String,
-    page: &Page<'_>,
-    snapshot: &Snapshot,
-    every: &[Told],
+    sheet: &Sheet<'_, '_>,
+    faults: &[Told],
+    is_first: bool,
+) -> Result<usize, AllocError>
+    requires some { 0 < length faults.now }
+    requires lies { IsPlacedIn sheet.now.page.now.look sheet.now.page.now.scope.package.now sheet.now.page.now.given.now sheet.now.snapshot.now.sources (told_at faults.now 0) sheet.now.package.now sheet.now.file.now sheet.now.text.now }
+    ensures some { IfOk result (λ count. 0 < count) }
+    ensures within { IfOk result (λ count. count ≤ length faults.now) }
+    ensures added { IfOk result (λ count. AddsLines sheet.now.page.now.look sheet.now.page.now.scope.package.now sheet.now.page.now.given.now sheet.now.snapshot.now.sources is_first (take count faults.now) (string_bytes out.old) (string_bytes out.new)) }
+{
+    let first = faults[0];
+    let mut lines = LineCounter::new(sheet.text);
+    push_fault(alloc, out, sheet, &mut lines, first, sheet.before, is_first)?;
+    for place in 1..faults.len() {
+        let told = faults[place];
+        if !is_beside(told.fault, first.fault) {
+            return Ok(place);
+        }
+        let number = sheet.before.saturating_add(place);
+        push_fault(alloc, out, sheet, &mut lines, told, number, false)?;
+    }
+    Ok(faults.len())
+}
+
+// Whether one of these faults has a rule of types, among the first ones that lie in the same file as another and are told in full. So many faults stand before them.
+fn has_types(faults: &[Told], first: PlacedFault, before: usize, bytes: usize) -> bool {
+    let mut number = before;
+    for told in faults {
+        if !is_beside(told.fault, first) || !is_in_full(number, before, bytes) {
+            return false;
+        }
+        if is_of_types(told.fault.rule) {
+            return true;
+        }
+        number = number.saturating_add(1);
+    }
+    false
+}
+
+// The messages of the file of a fault, which is the first of these; none where it is not told in full. So many faults stand before them.
+fn messages_of<'s>(
+    alloc: Global,
+    snapshot: &'s Snapshot,
+    faults: &[Told],
+    first: PlacedFault,
+    before: usize,
+    bytes: usize,
+) -> Result<Option<FileMessages<'s>>, AllocError> {
+    if !is_in_full(before, before, bytes) {
+        return Ok(None);
+    }
+    let with_types = has_types(faults, first, before, bytes);
+    FileMessages::of(alloc, snapshot, &first, with_types)
+}
+
+// Adds the first of these faults and those that follow it in the same file. Answers how many they are. So many faults stand before them.
+fn push_file<'s>(
+    alloc: Global,
+    out: &mut String,
+    page: &'s Page<'s>,
+    snapshot: &'s Snapshot,
+    every: &'s [Told],
     faults: &[Told],
     before: usize,
     is_first: bool,
@@ -305,48 +390,27 @@ fn push_file(
     ensures added { IfOk result (λ count. AddsLines page.now.look page.now.scope.package.now page.now.given.now snapshot.now.sources is_first (take count faults.now) (string_bytes out.old) (string_bytes out.new)) }
 {
     let first = faults[0];
-    let Some((path, source)) = source_in(snapshot, first.fault) else {
+    let Some((package, source)) = source_in(snapshot, first.fault) else {
         unreachable!()
     };
-    let behind = below(alloc, folder_of(page.scope.package, path), source.name())?;
-    let file = file_text(alloc, page.look.format, page.given, behind.as_str())?;
+    let inside = below(alloc, folder_of(page.scope.package, package), source.name())?;
+    let file = file_text(alloc, page.look.format, page.given, inside.as_str())?;
     let text = source.text();
-    let mut lines = LineCounter::new(text);
-    push_fault(
-        alloc,
-        out,
+    let messages = match messages_of(alloc, snapshot, faults, first.fault, before, text.len()) {
+        Ok(messages) => messages,
+        Err(error) => return Err(error),
+    };
+    let sheet = Sheet {
         page,
         snapshot,
         every,
-        path,
-        file.as_str(),
+        package,
+        file: file.as_str(),
         text,
-        &mut lines,
-        first,
         before,
-        is_first,
-    )?;
-    for place in 1..faults.len() {
-        let told = faults[place];
-        if !is_beside(told.fault, first.fault) {
-            return Ok(place);
-        }
-        push_fault(
-            alloc,
-            out,
-            page,
-            snapshot,
-            every,
-            path,
-            file.as_str(),
-            text,
-            &mut lines,
-            told,
-            before.saturating_add(place),
-            false,
-        )?;
-    }
-    Ok(faults.len())
+        messages,
+    };
+    push_run(alloc, out, &sheet, faults, is_first)
 }
 
 // Adds faults.
@@ -438,7 +502,7 @@ fn push_full(out: &mut String, shown: usize) -> Result<(), AllocError>
     }
     push(
         out,
-        "The first 300 faults are told in full, of the others what their rules mean\n",
+        "Only the first faults are told in full, of the others what their rules mean\n",
     )
 }
 
@@ -449,7 +513,7 @@ fn hidden_of(faults: usize, shown: usize) -> usize
     faults.saturating_sub(shown)
 }
 
-// Adds the lines behind the faults: how many there are in how many packages, and how many of them are not shown.
+// Adds the lines after the faults: how many there are in how many packages, and how many of them are not shown.
 fn push_count(
     alloc: Global,
     out: &mut String,
@@ -467,7 +531,7 @@ fn push_count(
     push(out, "\n")
 }
 
-// Adds what stands behind the faults.
+// Adds what stands after the faults.
 fn push_end(
     alloc: Global,
     out: &mut String,

@@ -55,8 +55,8 @@ fn without_blanks(bytes: &[u8]) -> &[u8] {
     rest
 }
 
-// What stands behind a word at an offset of a text.
-fn behind_word<'t>(text: &'t str, offset: usize, word: &str) -> &'t [u8] {
+// What stands after a word at an offset of a text.
+fn after_word<'t>(text: &'t str, offset: usize, word: &str) -> &'t [u8] {
     match text.as_bytes().get(offset.saturating_add(word.len())..) {
         Some(rest) => without_blanks(rest),
         None => "".as_bytes(),
@@ -107,9 +107,9 @@ fn is_equals(bytes: &[u8]) -> bool {
     }
 }
 
-// Whether the name at an offset is given a value there and not used: `=` stands behind it, and no `*` before it.
+// Whether the name at an offset is given a value there and not used: `=` stands after it, and no `*` before it.
 fn is_set(text: &str, offset: usize, name: &str) -> bool {
-    is_equals(behind_word(text, offset, name)) && !ends_with(front_of(text, offset), b'*')
+    is_equals(after_word(text, offset, name)) && !ends_with(front_of(text, offset), b'*')
 }
 
 // Whether a byte may stand in a name.
@@ -134,9 +134,9 @@ fn without_name(bytes: &[u8]) -> &[u8] {
     rest
 }
 
-// Whether a short declaration has its names up to here: `:=` stands behind them.
-fn is_short(behind: &[u8]) -> bool {
-    let mut rest = behind;
+// Whether a short declaration has its names up to here: `:=` stands after them.
+fn is_short(after: &[u8]) -> bool {
+    let mut rest = after;
     for _ in 0..NAMES {
         if rest.starts_with(b":=".as_slice()) {
             return true;
@@ -166,7 +166,7 @@ fn is_after_var(front: &[u8]) -> bool {
 
 // Whether the local at an offset is a variable that is declared in a body: no parameter, no result and no constant.
 fn is_variable(text: &str, offset: usize, name: &str) -> bool {
-    is_after_var(front_of(text, offset)) || is_short(behind_word(text, offset, name))
+    is_after_var(front_of(text, offset)) || is_short(after_word(text, offset, name))
 }
 
 // Whether one of some occurrences uses a name. Each that is looked at takes a step, and where there is none left the name counts as used.
@@ -191,7 +191,7 @@ fn is_unused(text: &str, offset: usize, answers: &[Answer], steps: &mut usize) -
     }
     let first = answers.partition_point(|answer| answer.offset <= offset);
     match answers.get(first..) {
-        Some(behind) => !is_used(text, name, behind, steps),
+        Some(after) => !is_used(text, name, after, steps),
         None => false,
     }
 }
@@ -246,8 +246,8 @@ fn add_part(
     Ok(())
 }
 
-/// The variables that functions in a scope declare, and that no occurrence behind them uses, in order of package, file and place; at most 100. What is
-/// declared by a list of `var`, and what has the name of something behind it in its file, is passed over.
+/// The variables that functions in a scope declare, and that no occurrence after them uses, in order of package, file and place; at most 100. What is
+/// declared by a list of `var`, and what has the name of something after it in its file, is passed over.
 ///
 /// # Errors
 ///

@@ -1,4 +1,4 @@
-//! The words that stand behind the place and the rule of a fault, in each form.
+//! The words that stand after the place and the rule of a fault, in each form.
 
 use crate::excerpts::excerpt_of;
 use crate::looks::Look;
@@ -7,14 +7,14 @@ use crate::painting::{BLUE, GREEN, paint, unpaint};
 use crate::scopes::{Scope, source_of};
 use crate::selecting::{Told, follows};
 use crate::spots::{Spot, file_shown, word_at};
+use go_diagnostic_core::{LineKind, Message};
 use go_explain_core::meaning;
 use go_folder_core::{Format, push_command, push_json, push_shown};
-use go_message_core::{LineKind, Message};
 use go_snap_core::PlacedFault;
 use go_snap_core::graph_core::Workspace;
 use std::alloc::{AllocError, Global};
 
-/// What is said of a fault behind its place and its rule.
+/// What is said of a fault after its place and its rule.
 #[derive(Drop)]
 pub(crate) struct Words {
     /// What stands in the same line.
@@ -51,7 +51,7 @@ fn headline<'a>(spot: &Spot<'_>, message: Option<&'a Message>) -> &'a str {
     }
 }
 
-// A line below that of a fault, behind its first blank.
+// A line below that of a fault, after its first blank.
 fn below_text(
     alloc: Global,
     has_color: bool,
@@ -153,7 +153,7 @@ fn push_members(
         if (line.kind == LineKind::Help) == are_helps {
             push(out, separator)?;
             separator = ",";
-            push_member(out, line.kind, line.fits, line.text.as_str())?;
+            push_member(out, line.kind, line.fits(), line.text.as_str())?;
         }
     }
     Ok(())
@@ -244,7 +244,7 @@ fn json_words(
     Ok(line)
 }
 
-// What stands behind the place of a command of GitHub's workflows.
+// What stands after the place of a command of GitHub's workflows.
 fn github_words(
     alloc: Global,
     spot: &Spot<'_>,
@@ -284,7 +284,7 @@ fn column_of(spot: &Spot<'_>) -> usize {
     }
 }
 
-// What stands behind the place of a result of SARIF.
+// What stands after the place of a result of SARIF.
 fn sarif_words(
     alloc: Global,
     spot: &Spot<'_>,
@@ -316,7 +316,7 @@ fn sarif_words(
     Ok(line)
 }
 
-/// What is said of a fault behind its place and its rule: what its message says, or else what its rule means.
+/// What is said of a fault after its place and its rule: what its message says, or else what its rule means.
 ///
 /// # Errors
 ///

@@ -4,5 +4,6 @@ use Rattle.govisd_folders.proofs.telling.push_fault.Goals as goal
 
 pub returns-clause-added : goal.returns-clause-added
 returns-clause-added c =
-    fault_added c.push_form.result c.args.page.now.look c.args.«package».now c.args.file.now c.args.lines.now c.args.is_first c.follows.result c.args.told c.position_of-at.result (string_bytes c.args.out.now) (string_bytes c.push_form.new.out)
+    let sheet = c.args.sheet.now in
+    fault_added c.push_form.result sheet.page.now.look sheet.package.now sheet.file.now c.args.lines.now c.args.is_first c.follows.result c.args.told c.position_of-at.result (string_bytes c.args.out.now) (string_bytes c.push_form.new.out)
     c.position_of-at.ensures.place c.follows.ensures c.push_form.ensures

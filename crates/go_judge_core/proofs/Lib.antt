@@ -1,0 +1,4 @@
+pub mod Each
+pub mod Noted
+pub mod Opened
+pub mod Rules

@@ -1,0 +1,7 @@
+use Rattle.std.proofs.Common.{ap}
+use Rattle.go_snap_core.specs.part_core.Parts.{ContentOf}
+use Rattle.go_judge_core.specs.Places.{scene_with}
+use Rattle.go_judge_core.proofs.checked.scene_of.Goals as goal
+
+pub returns : goal.returns
+returns c = ap (λ (x : ContentOf). scene_with x.blocks c.args.checked.now.known) c.content.ensures.value

@@ -1,0 +1,10 @@
+use Rattle.std.proofs.Common.{ap, ◌∙◌}
+use Rattle.go_env_core.specs.Scenes.{scene_shown}
+use Rattle.go_judge_core.proofs.judging.breaks_in.Goals as goal
+
+pub returns : goal.returns
+returns c = λ holds. (
+  c.stand-here.result,
+  record { number = c.stand-here.ensures.file; scene = ap scene_shown c.stand-here.ensures.scene ∙ c.scene_of-scene.ensures },
+  c.in_ok-holds.ensures holds,
+)

@@ -1,0 +1,4 @@
+pub mod Breaking
+pub mod Misfits
+pub mod Places
+pub mod Written
