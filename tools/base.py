@@ -273,7 +273,7 @@ class Base:
         fails = lambda it: self.failed.get(it.name) == now[it.name]
         held = (rtlib.text_of(f"{LOGS}/{os.environ.get('BASE_HELD', 'held')}") or "").split()
         ready = [it for it in left if it.name not in running and it.name not in held and not fails(it) and all(dep.name in proved for dep in it.below())]
-        most = max([behind[it.name] for it in left if not fails(it)], default=0)
+        most = max([behind[it.name] for it in left if not fails(it) and it.name not in held], default=0)
         lanes = int(rtlib.text_of(f"{LOGS}/lanes") or self.lanes)
         for crate in sorted(ready, key=lambda it: -behind[it.name])[: max(lanes - len(running), 0)]:
             is_first = behind[crate.name] >= 0.95 * most
