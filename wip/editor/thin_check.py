@@ -2,30 +2,18 @@
 
 TREE is a work tree whose base has run (tools/base.py; its log is .git/base/log). Crates that are proved there go by --extern, those that are not by --lib:
 from THIN=FOLDER, where `thin.py TREE FOLDER CRATE ..` has put a copy with holes for proofs, and else from the tree. A function that then `depends on a hole`
-of a library alone is as good as proved. Over many thin copies a check takes 5 minutes and 8 GB before it begins: it pays where a few libraries lack.
+of a library alone has no open goal of its own. Over many thin copies a check takes 5 minutes and 8 GB before it begins: it pays where a few libraries lack.
 """
 import os
 import subprocess
 import sys
 
 TREE, CRATE = os.path.abspath(sys.argv[1]), sys.argv[2]
-KIT = os.path.realpath(subprocess.run(["rt", "doc"], stdout=subprocess.PIPE, text=True, check=True).stdout.strip() + "/..")
 THIN = os.environ.get("THIN", "/nowhere")
-USES = {}
-with open(f"{TREE}/crates.txt", encoding="utf-8") as file:
-    for line in file:
-        if line.strip() and not line.startswith("#"):
-            name, _, rest = line.partition(":")
-            USES[name.split()[0]] = rest.split()
+sys.path.insert(0, f"{TREE}/tools")
+from quick_build import KIT, below, lists
 
-
-def below(crate, found):
-    for it in USES[crate]:
-        if it in USES and it not in found:
-            below(it, found)
-            found.append(it)
-    return found
-
+USES = lists()
 
 with open(f"{TREE}/.git/base/log", encoding="utf-8") as log:
     PROVED = {line.split()[1] for line in log if " ok " in line}
@@ -35,7 +23,7 @@ def is_proved(crate):
     return crate in PROVED and all(is_proved(it) for it in USES[crate] if it in USES)
 
 
-under = below(CRATE, [])
+under = below(CRATE, USES, [])
 root = "main.rt" if os.path.exists(f"{TREE}/crates/{CRATE}/src/main.rt") else "lib.rt"
 words = ["rattle", "check", "--crate-name", CRATE, f"src/{root}", "--extern", f"std={KIT}/rlibs/std.rlib", "-L", f"dependency={KIT}/rlibs"]
 for it in sorted({it for crate in [CRATE, *under] for it in USES[crate] if it not in USES}):
