@@ -7,15 +7,12 @@
     python3 tools/base.py status           the crates that are proved as they stand
 
 It calls the kit's own `rt` for each step of the gate, and keeps what passes where `rt ci` keeps it: a gate on this machine takes it from there. Of a kit that
-keeps nothing (rattle-kit-13b) the libraries that pass are kept for this script alone, in ~/.cache/govisd/base, so that a new work tree on the same machine
-has them. It gives no verdict: `rt ci` is the judge. Crates on the longest chain get three jobs and a better priority. Logs lie in .git/base, with the
-processor seconds of each crate in .git/base/seconds, for tools/gate.py; a crate that is named in .git/base/held is not begun, while somebody works on it.
+keeps nothing (rattle-kit-13b) the libraries that pass are kept by tools/kept.py, and tools/ci.py takes them from there. It gives no verdict: the gate is the
+judge. Large crates on the longest chain get two or three jobs, and all of them a better priority. Logs lie in .git/base, with the processor seconds of each
+crate in .git/base/seconds, for tools/gate.py; a crate that is named in .git/base/held is not begun, while somebody works on it.
 """
 import concurrent.futures
 import contextlib
-import hashlib
-import importlib.machinery
-import importlib.util
 import json
 import os
 import re
@@ -25,8 +22,10 @@ import sys
 import threading
 import time
 
+sys.path.insert(0, os.path.dirname(os.path.abspath(__file__)))
+from kept import KEEPS, Store, below, rt, rtlib, stamp_of
+
 ROOT = os.path.dirname(os.path.dirname(os.path.abspath(__file__)))
-KIT = os.path.realpath(subprocess.run(["rt", "doc"], stdout=subprocess.PIPE, text=True, check=True).stdout.strip() + "/..")
 # In a work tree of git's `.git` is a file.
 LOGS = subprocess.run(["git", "-C", ROOT, "rev-parse", "--absolute-git-dir"], stdout=subprocess.PIPE, text=True, check=True).stdout.strip() + "/base"
 
@@ -58,28 +57,7 @@ class Pool(concurrent.futures.ThreadPoolExecutor):
         return super().submit(run)
 
 
-def load():
-    loader = importlib.machinery.SourceFileLoader("rt", f"{KIT}/bin/rt")
-    made = importlib.util.module_from_spec(importlib.util.spec_from_loader("rt", loader))
-    sys.modules["rt"] = made
-    loader.exec_module(made)
-    return made
-
-
-sys.dont_write_bytecode = True
-rt = load()
-rtlib = rt.rtlib
 rtlib.ThreadPoolExecutor = Pool
-
-
-def below(crate):
-    """The libraries below a crate, each once and behind those that it uses."""
-    if "libraries" not in crate.__dict__:
-        found = {}
-        for dep in crate.deps:
-            found.update({it.name: it for it in [*dep.below(), dep]})
-        crate.__dict__["libraries"] = [*found.values()]
-    return crate.__dict__["libraries"]
 
 
 def crates():
@@ -90,27 +68,10 @@ def crates():
     return {it.name: it for it in sorted(rtlib.crates_below(f"{ROOT}/crates"), key=lambda it: len(it.below()))}
 
 
-# Whether the kit keeps what passes.
-KEEPS = hasattr(rt, "Kept")
-
-
 def stamps(there):
     """Of each crate the sum of its sources and of those below it."""
     seen = {}
     return {name: rt.stamp_of(crate, seen) if KEEPS else stamp_of(crate, seen) for name, crate in there.items()}
-
-
-def stamp_of(crate, seen):
-    """The sum of a crate's sources and of those below it, found once for each crate."""
-    if crate.name not in seen:
-        found = hashlib.sha256(repr(crate.said).encode())
-        for file in rtlib.files_of(crate.folder):
-            with open(file, "rb") as it:
-                found.update(file.removeprefix(crate.folder).encode() + it.read())
-        for dep in crate.deps:
-            found.update(stamp_of(dep, seen).encode())
-        seen[crate.name] = found.hexdigest()
-    return seen[crate.name]
 
 
 def seconds():
@@ -173,33 +134,8 @@ class Proof:
         return True
 
 
-class MarkedProof:
-    """The same by a kit that keeps nothing: a library that is built has a mark beside it with the sum of what it was made from, and stands under that sum
-    in a folder of this script, as links to the same files."""
-
-    STORE, MOST = os.path.expanduser("~/.cache/govisd/base"), 200
-
-    def __init__(self, crate, stamp):
-        self.crate, self.stamp, self.mark = crate, stamp, f"{crate.folder}/out/rlib/built"
-        self.kept = f"{self.STORE}/{crate.name}-{stamp[:32]}"
-
-    def is_there(self):
-        return not self.crate.is_program and os.path.isdir(self.crate.rlib) and rtlib.text_of(self.mark) == self.stamp
-
-    def is_given(self):
-        """Whether the library was kept: it is put into out/."""
-        if self.crate.is_program or rtlib.text_of(f"{self.kept}/built") != self.stamp:
-            return False
-        os.utime(self.kept)
-        linked(self.kept, os.path.dirname(self.mark))
-        return True
-
-    def keep(self):
-        """Keeps the library, and drops those that were not used for the longest time."""
-        linked(os.path.dirname(self.mark), self.kept)
-        kept = sorted((it.path for it in os.scandir(self.STORE)), key=os.path.getmtime)
-        for path in kept[: -self.MOST]:
-            shutil.rmtree(path, ignore_errors=True)
+class MarkedProof(Store):
+    """The same by a kit that keeps nothing: what passes stands in the folder that tools/kept.py has."""
 
     def run(self, jobs):
         os.makedirs(f"{self.crate.folder}/out", exist_ok=True)
@@ -212,26 +148,15 @@ class MarkedProof:
         os.makedirs(os.path.dirname(self.mark))
         is_proved = not self.crate.prove(["build", *self.crate.words(flags, keeps=False), "--statements", "-o", self.crate.rlib])
         if is_proved and stamp_of(crates()[self.crate.name], {}) == self.stamp:
-            with open(self.mark, "w", encoding="utf-8") as file:
-                file.write(self.stamp)
-            with contextlib.suppress(OSError):
-                self.keep()
+            self.keep()
         return is_proved
-
-
-def linked(folder, to):
-    """Puts links to a folder's files into another, in place of what is there."""
-    for path in (to, f"{to}.new"):
-        shutil.rmtree(path, ignore_errors=True)
-    os.makedirs(os.path.dirname(to), exist_ok=True)
-    shutil.copytree(folder, f"{to}.new", copy_function=os.link)
-    os.rename(f"{to}.new", to)
 
 
 class Base:
     def __init__(self, lanes, wanted=None):
         self.lanes, self.wanted, self.took, self.sums, self.stamps = lanes, wanted, seconds(), {}, {}
         self.running, self.failed, self.proved, self.lock = {}, {}, {}, threading.Lock()
+        self.ended = threading.Event()
 
     def behind(self, there):
         """Of each crate the seconds of the longest chain that begins with it."""
@@ -251,6 +176,7 @@ class Base:
         with self.lock:
             del self.running[crate.name]
             (self.proved if is_proved else self.failed)[crate.name] = stamp
+        self.ended.set()
         taken = sum(TAKEN.seconds)
         if is_proved and taken > 5:
             with open(f"{LOGS}/seconds", "a", encoding="utf-8") as file:
@@ -277,18 +203,22 @@ class Base:
         lanes = int(rtlib.text_of(f"{LOGS}/lanes") or self.lanes)
         for crate in sorted(ready, key=lambda it: -behind[it.name])[: max(lanes - len(running), 0)]:
             is_first = behind[crate.name] >= 0.95 * most
-            given = crate, now[crate.name], 3 if is_first and self.took.get(crate.name, 0) > 40 else 1, -16 if is_first else -8
+            given = crate, now[crate.name], self.jobs(crate) if is_first else 1, -16 if is_first else -8
             self.running[crate.name] = now[crate.name]
             threading.Thread(target=self.prove, args=given, daemon=True).start()
             print(f"{time.strftime('%H:%M:%S')} {crate.name} begins", flush=True)
         self.count = f"{len(proved)} of {len(there)} crates are proved"
         return bool(left)
 
+    def jobs(self, crate):
+        """How many jobs a crate of the longest chain gets: each job after the first takes some 40 % of a processor's time more than one alone would,
+        so small crates get one."""
+        return 1 + (self.took.get(crate.name, 0) > 100) + (self.took.get(crate.name, 0) > 300)
+
     def changes(self):
         """Waits until a crate has ended, or a while."""
-        was, until = len(self.running), time.time() + 60
-        while len(self.running) == was and time.time() < until:
-            time.sleep(1)
+        self.ended.wait(60)
+        self.ended.clear()
 
 
 def everything(lanes="4"):
@@ -367,4 +297,5 @@ def main(words):
     sys.exit(verbs[words[0]](*words[1:]) or 0)
 
 
-main(sys.argv[1:])
+if __name__ == "__main__":
+    main(sys.argv[1:])

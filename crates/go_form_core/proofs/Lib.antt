@@ -1,0 +1,4 @@
+mod Firsts
+mod Forming
+mod Named
+mod Read

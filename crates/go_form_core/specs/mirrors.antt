@@ -1,0 +1,2 @@
+-- Definitions that follow the code, for its proof.
+pub mod Listing

@@ -1,0 +1,4 @@
+pub mod Adding
+pub mod Listed
+pub mod Owning
+pub mod Standing

@@ -1,0 +1,2 @@
+-- Definitions that follow the code step by step, for its proof. No statement that a caller rests on needs them.
+pub mod Lines

@@ -1,0 +1,13 @@
+//! What a file declares outside functions, with the fields and methods that its types write, and where each declaration stands.
+//!
+//! The Go specification, "Declarations and scope", "Struct types", "Interface types".
+#![tactic(auto)]
+
+mod items;
+mod laws;
+mod members;
+mod tops;
+
+pub use items::{Entry, EntryKind};
+pub use laws::{names_are_declared, names_stand_within};
+pub use tops::entries;

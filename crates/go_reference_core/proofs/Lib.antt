@@ -1,0 +1,4 @@
+mod Added
+mod Found
+mod Joined
+mod Sameness

@@ -1,0 +1,5 @@
+mod Counted
+mod Kept
+mod Moved
+mod Paired
+mod Retold
