@@ -2,11 +2,12 @@
 """Runs the merge gate, `rt ci`, with whatever kit is there: python3 tools/ci.py
 
 A kit that keeps what passes (rattle-kit-13f) is called as it is. rattle-kit-13b keeps nothing, and reads the sources of a library once for each path of
-crates.txt that leads to it, which takes four hours here. For such a kit the same `rt ci` runs in this process, with two changes:
+crates.txt that leads to it, which takes four hours here. For such a kit the same `rt ci` runs in this process, with three changes:
 
 - for the sum of a library's sources each library below it is read once;
 - a library that was proved on this machine from the same sources, by the same call (of tools/base.py, or of this script), is taken from where it was kept,
-  and one that is proved now is kept there. Each that is taken is named.
+  and one that is proved now is kept there. Each that is taken is named;
+- a check is reckoned to need 3 GB, which is what the largest take, and not the 10 GB of the kit's own reckoning, so that no processor stands idle.
 
 What is proved and refused, the wrong bodies, the programs and what they print are the kit's own. Without ~/.cache/govisd/base all is proved from nothing.
 """
@@ -51,6 +52,8 @@ def main():
     if KEEPS:
         os.execvp("rt", ["rt", "ci"])
     rt.Crate.below, rt.Crate.stamp, rt.Crate.build_rlib = below, stamp, build_rlib
+    rt.need = lambda crate: 3_000_000_000
+    os.environ.pop("RT_JOBS", None)
     sys.exit(rt.main(["ci"]))
 
 
