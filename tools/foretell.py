@@ -1,17 +1,14 @@
 #!/usr/bin/env python3
-"""Foretells how long a gate takes that keeps nothing: python3 tools/foretell.py [ROOT] [LANES] [SPEED]
+"""Foretells how long a gate takes from nothing: python3 tools/foretell.py [ROOT] [LANES] [SPEED]
 
-From the seconds of the table in docs/GATE.md, the files that the toolchain reads at the end of each path of crates.txt (rattle-kit-13b: 90 microseconds a
-file, twice a library, in one thread) and the order in which `rt ci` begins its tasks. It proves and runs nothing. It tells the processor minutes of all checks,
-those of reading, the minutes of the run, and the longest chain of crates with what each on it takes. SPEED divides the seconds of the table.
+From the seconds of the table in docs/GATE.md and the order in which `rt ci` begins its tasks, each with one job. It proves and runs nothing. It tells the
+processor minutes of all checks, the minutes of the run, and the longest chain of crates with what each on it takes. SPEED divides the seconds of the table.
+A crate that the table has no seconds of counts as 60.
 """
 import heapq
 import os
 import re
 import sys
-
-A_FILE, READINGS = 90e-6, 2
-
 
 def text_of(path):
     with open(path, encoding="utf-8") as file:
@@ -28,34 +25,23 @@ class Gate:
         self.lists = {name: [it for it in found if it in lists] for name, found in lists.items()}
         table = re.findall(r"\| `(\w+)` \| [\d,]+ / [\d,]+ / [\d,]+ \| (\d+) \|", text_of(f"{root}/docs/GATE.md"))
         self.seconds = {name: int(found) / speed for name, found in table}
-        self.files, self.lines, self.edits, self.is_program = {}, {}, {}, {}
+        self.lines, self.edits = {}, {}
         for name in lists:
             self.look_at(name, f"{root}/crates/{name}")
-        self.read, self.under, self.ends = {}, {}, {}
+        self.under, self.ends = {}, {}
 
     def look_at(self, name, folder):
         paths = [f"{at}/{it}" for part in ("src", "specs", "proofs") for at, _, found in os.walk(f"{folder}/{part}") for it in found]
-        self.files[name] = sum(it.endswith((".rt", ".antt")) for it in paths)
         self.lines[name] = sum(text_of(it).count("\n") for it in paths if it.endswith(".rt"))
         self.edits[name] = sum(it.endswith(".edit") for it in os.listdir(f"{folder}/must-fail")) if os.path.isdir(f"{folder}/must-fail") else 0
-        self.is_program[name] = os.path.isfile(f"{folder}/src/main.rt")
-
-    def reads(self, name):
-        """How many files are read to find the sum of a crate's sources."""
-        if name not in self.read:
-            self.read[name] = self.files[name] + sum(self.reads(it) for it in self.lists[name])
-        return self.read[name]
 
     def below(self, name):
         if name not in self.under:
             self.under[name] = {*self.lists[name]}.union(*[self.below(it) for it in self.lists[name]])
         return self.under[name]
 
-    def reading(self, name):
-        return 0 if self.is_program[name] else self.reads(name) * A_FILE * READINGS
-
     def proof(self, name):
-        return self.seconds.get(name, 60) + self.reading(name)
+        return self.seconds.get(name, 60)
 
     def tasks(self):
         """Each task with what it waits for, the lines that it counts for, and its seconds."""
@@ -100,8 +86,7 @@ def main(words):
     root, lanes, speed = (words + [".", "4", "1"][len(words) :])[:3]
     gate = Gate(root, float(speed))
     chain = [*gate.chain()]
-    checks, reading = sum(gate.seconds.get(it, 60) for it in gate.lists), sum(map(gate.reading, gate.lists))
-    print(f"{checks / 60:.0f} processor minutes of checks, {reading / 60:.0f} of reading; {gate.minutes(int(lanes)):.0f} minutes with {lanes} lanes")
+    print(f"{sum(map(gate.proof, gate.lists)) / 60:.0f} processor minutes of checks; {gate.minutes(int(lanes)):.0f} minutes with {lanes} lanes")
     print(f"the longest chain, {gate.end(chain[0])[0] / 60:.0f} minutes: " + ", ".join(f"{it} {gate.proof(it):.0f}" for it in reversed(chain)))
 
 
