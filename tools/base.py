@@ -2,13 +2,14 @@
 """Proves the crates of the repository as the gate does, side by side, for whoever works on it: python3 tools/base.py all [LANES]
 
     python3 tools/base.py all [LANES]      every crate whose sources changed, those with the longest chain behind them first; goes on as files change
+    python3 tools/base.py libraries [LANES]  every library whose sources changed, once: tools/ci.py calls it
     python3 tools/base.py program NAME     the libraries below a program, and then the program; `./govisd --build` calls it
     python3 tools/base.py check NAME ..    `rt check` of a crate over what is built so, with rattle's flags, as --only F and --allow-holes
     python3 tools/base.py status           the crates that are proved as they stand
 
 It calls the kit's own `rt` for each step of the gate, and keeps what passes where `rt ci` keeps it: a gate on this machine takes it from there. Of a kit that
 keeps nothing (rattle-kit-13b) the libraries that pass are kept by tools/kept.py, and tools/ci.py takes them from there. It gives no verdict: the gate is the
-judge. Large crates on the longest chain get two or three jobs, and all of them a better priority. Logs lie in .git/base, with the processor seconds of each
+judge. One large crate of the longest chain at a time has three jobs, and all of that chain have a better priority. Logs lie in .git/base, with the processor seconds of each
 crate in .git/base/seconds, for tools/gate.py; a crate that is named in .git/base/held is not begun, while somebody works on it.
 """
 import concurrent.futures
@@ -153,10 +154,11 @@ class MarkedProof(Store):
 
 
 class Base:
-    def __init__(self, lanes, wanted=None):
+    def __init__(self, lanes, wanted=None, libraries=False):
+        self.libraries = libraries
         self.lanes, self.wanted, self.took, self.sums, self.stamps = lanes, wanted, seconds(), {}, {}
         self.running, self.failed, self.proved, self.lock = {}, {}, {}, threading.Lock()
-        self.ended = threading.Event()
+        self.ended, self.wide = threading.Event(), set()
 
     def behind(self, there):
         """Of each crate the seconds of the longest chain that begins with it."""
@@ -187,6 +189,8 @@ class Base:
         there = crates()
         if self.wanted:
             there = {it.name: it for it in [*there[self.wanted].below(), there[self.wanted]]}
+        if self.libraries:
+            there = {name: it for name, it in there.items() if not it.is_program}
         now = stamps(there)
         if now != self.stamps:
             # what `rt` holds is of the texts that stood there before
@@ -203,17 +207,20 @@ class Base:
         lanes = int(rtlib.text_of(f"{LOGS}/lanes") or self.lanes)
         for crate in sorted(ready, key=lambda it: -behind[it.name])[: max(lanes - len(running), 0)]:
             is_first = behind[crate.name] >= 0.95 * most
-            given = crate, now[crate.name], self.jobs(crate) if is_first else 1, -16 if is_first else -8
+            given = crate, now[crate.name], self.jobs(crate, is_first), -16 if is_first else -8
             self.running[crate.name] = now[crate.name]
             threading.Thread(target=self.prove, args=given, daemon=True).start()
             print(f"{time.strftime('%H:%M:%S')} {crate.name} begins", flush=True)
         self.count = f"{len(proved)} of {len(there)} crates are proved"
         return bool(left)
 
-    def jobs(self, crate):
-        """How many jobs a crate of the longest chain gets: each job after the first takes some 40 % of a processor's time more than one alone would,
-        so small crates get one."""
-        return 1 + (self.took.get(crate.name, 0) > 100) + (self.took.get(crate.name, 0) > 300)
+    def jobs(self, crate, is_first):
+        """How many jobs a crate gets. A second and a third cost 40 % more of the processors for the same work, so one crate has them at a time: a large
+        one of the longest chain."""
+        if not is_first or self.took.get(crate.name, 0) <= 60 or self.wide.intersection(self.running):
+            return 1
+        self.wide = {crate.name}
+        return 3
 
     def changes(self):
         """Waits until a crate has ended, or a while."""
@@ -237,6 +244,16 @@ def everything(lanes="4"):
             print("all crates are proved", flush=True)
         had_work = has_work
         base.changes()
+
+
+def libraries(lanes="4"):
+    """Proves each library once that is not kept, and ends where nothing can go on: what fails is left to the gate."""
+    os.makedirs(LOGS, exist_ok=True)
+    rtlib.guarded()
+    base = Base(int(lanes), libraries=True)
+    while base.step() and (base.running or base.ended.is_set()):
+        base.changes()
+    return 0
 
 
 def program(name, lanes="4"):
@@ -291,7 +308,7 @@ def status():
 
 def main(words):
     os.chdir(ROOT)
-    verbs = {"all": everything, "program": program, "check": check, "status": status}
+    verbs = {"all": everything, "libraries": libraries, "program": program, "check": check, "status": status}
     if not words or words[0] not in verbs:
         sys.exit(__doc__)
     sys.exit(verbs[words[0]](*words[1:]) or 0)

@@ -9,13 +9,18 @@ crates.txt that leads to it, which takes four hours here. For such a kit the sam
   and one that is proved now is kept there. Each that is taken is named;
 - a check is reckoned to need 3 GB, which is what the largest take, and not the 10 GB of the kit's own reckoning, so that no processor stands idle.
 
+Before it tools/base.py proves the libraries, since it gives the longest chain of crates more than one processor; `rt ci` then takes them. A library that
+fails there is proved again by `rt ci`, which tells why.
+
 What is proved and refused, the wrong bodies, the programs and what they print are the kit's own. Without ~/.cache/govisd/base all is proved from nothing.
 """
 import os
+import subprocess
 import sys
 import threading
 
-sys.path.insert(0, os.path.dirname(os.path.abspath(__file__)))
+HERE = os.path.dirname(os.path.abspath(__file__))
+sys.path.insert(0, HERE)
 from kept import KEEPS, Store, below, rt, rtlib, stamp_of
 
 # `rt ci` puts its own class in the place of the kit's.
@@ -51,6 +56,7 @@ def build_rlib(crate, flags, anew):
 def main():
     if KEEPS:
         os.execvp("rt", ["rt", "ci"])
+    subprocess.run([sys.executable, f"{HERE}/base.py", "libraries", str(len(os.sched_getaffinity(0)))], check=False)
     rt.Crate.below, rt.Crate.stamp, rt.Crate.build_rlib = below, stamp, build_rlib
     rt.need = lambda crate: 3_000_000_000
     os.environ.pop("RT_JOBS", None)
