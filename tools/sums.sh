@@ -1,14 +1,14 @@
 #!/bin/sh
-# The sum of the sources that the program is made from: the crates of govisd in crates.txt, with their lists, and their files.
-# tools/sums.sh [ROOT]
+# The sum of the sources that a program is made from, `govisd` or `govisd_lsp`: its crates in crates.txt, with their lists, and their files.
+# tools/sums.sh PROGRAM [ROOT]
 set -eu
-cd "${1:-$(dirname -- "$0")/..}"
+cd "${2:-$(dirname -- "$0")/..}"
 export LC_ALL=C
-crates=$(awk -F: '
+crates=$(awk -F: -v program="$1" '
     { sub(/#.*/, "") }
     NF > 1 { split($1, head, " "); name[++count] = head[1]; uses[head[1]] = $2 }
     END {
-        wanted["govisd"]
+        wanted[program]
         for (i = count; i > 0; i--)
             if (name[i] in wanted)
                 for (j = split(uses[name[i]], used, " "); j > 0; j--) wanted[used[j]]

@@ -1,9 +1,9 @@
 #!/usr/bin/env python3
-"""Tries a program as a person would, without the toolchain: python3 tools/test_program.py PROGRAM
+"""Tries the programs as a person would, without the toolchain: python3 tools/test_program.py PROGRAM EDITOR
 
-`./govisd --test` calls it with the program that `./govisd` starts. It runs the examples of examples/README.md, modules with a small mistake each, small
-programs, the example of each rule, and stored sessions with one and with eight workers, and compares what comes with what is written there. It takes a minute
-at most, and ends with status 0 where all is as it must be. That says nothing of the proofs: `rt ci` makes those.
+`./govisd --test` calls it with the two programs that `./govisd` starts, the second of them the editor's server. It runs the examples of examples/README.md, modules with a small mistake each, small
+programs, the example of each rule, stored sessions with one and with eight workers, and those of an editor, and compares what comes with what is written
+there. It takes a minute or two, and ends with status 0 where all is as it must be. That says nothing of the proofs: `rt ci` makes those.
 """
 import os
 import re
@@ -22,12 +22,18 @@ EXAMPLES = [
     ("primes", ["run", "examples/primes"], None, 0),
 ]
 
-# Each table with the line that its script ends with where all is well.
+# Each table with its script, and the line that the script ends with where all is well.
 TABLES = [
     ("modules with a small mistake", "bench/messages.py", r"^(\d+) modules: .* 0 differ from the table$"),
     ("small programs that are run", "bench/run_cases.py", r"^(\d+) passed, 0 failed$"),
     ("examples of rules", "bench/explained.py", r"^(\d+) rules, .* 0 wrong$"),
     ("scripts of sessions", "bench/script.sh", r"^(\d+) scripts, 0 differ$"),
+]
+
+# The same of the editor's server.
+EDITOR_TABLES = [
+    ("messages to an editor", "bench/editor/stored.py", r"^(\d+) messages to editors, 0 sessions differ$"),
+    ("cases of the editor's server", "bench/editor/check.py", r"^(\d+) cases, 0 do not hold$"),
 ]
 
 
@@ -62,18 +68,26 @@ def table_holds(program, script, last):
     return int(found[1])
 
 
-def main():
-    if len(sys.argv) != 2:
-        sys.exit(__doc__)
-    program, passed, failed = os.path.abspath(sys.argv[1]), 0, 0
-    for example in EXAMPLES:
-        holds = example_holds(program, *example)
-        passed, failed = passed + holds, failed + (not holds)
-    print(f"examples: {passed} of {len(EXAMPLES)} print what examples/README.md says", flush=True)
-    for name, script, last in TABLES:
+def tables_hold(program, tables):
+    """How many cases of some tables hold, and how many tables do not; each is told of in a line."""
+    passed, failed = 0, 0
+    for name, script, last in tables:
         count = table_holds(program, script, last)
         passed, failed = passed + count, failed + (not count)
         print(f"{name}: {f'all {count} as they must be' if count else 'NOT as they must be'}", flush=True)
+    return passed, failed
+
+
+def main():
+    if len(sys.argv) != 3:
+        sys.exit(__doc__)
+    program, editor = map(os.path.abspath, sys.argv[1:])
+    passed = sum(example_holds(program, *example) for example in EXAMPLES)
+    failed = len(EXAMPLES) - passed
+    print(f"examples: {passed} of {len(EXAMPLES)} print what examples/README.md says", flush=True)
+    for server, tables in ((program, TABLES), (editor, EDITOR_TABLES)):
+        good, bad = tables_hold(server, tables)
+        passed, failed = passed + good, failed + bad
     print(f"{passed} passed, {failed} failed")
     return 1 if failed else 0
 

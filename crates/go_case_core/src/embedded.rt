@@ -16,7 +16,7 @@ const MOST: usize = 32;
 
 /// Where a member is declared.
 #[derive(Clone, Copy)]
-pub(crate) enum Owner<'t> {
+pub enum Owner<'t> {
     /// In the package of a path.
     Package(&'t ImportPath),
     /// In the universe: the method of `error`.
@@ -25,7 +25,7 @@ pub(crate) enum Owner<'t> {
 
 impl<'t> Owner<'t> {
     /// The path of the package; none of the universe.
-    pub(crate) fn path(self) -> Option<&'t ImportPath> {
+    pub fn path(self) -> Option<&'t ImportPath> {
         match self {
             Owner::Package(path) => Some(path),
             Owner::Universe => None,
@@ -43,12 +43,13 @@ impl<'t> Owner<'t> {
 
 /// A member that a type has itself or by embedded fields.
 #[derive(Drop)]
-pub(crate) struct Way<'t> {
+pub struct Way<'t> {
     /// The names of the embedded fields that lead there and its own, with dots between them.
-    pub(crate) path: String,
-    pub(crate) owner: Owner<'t>,
+    pub path: String,
+    /// Where it is declared.
+    pub owner: Owner<'t>,
     /// Whether each of these fields is seen in the package that asks.
-    pub(crate) is_open: bool,
+    pub is_open: bool,
 }
 
 // A type that embedded fields lead to.
@@ -63,13 +64,13 @@ struct Step<'t> {
 
 /// An embedded field of a struct type, with its type.
 #[derive(Clone, Copy)]
-pub(crate) struct Embedded<'t> {
-    pub(crate) field: &'t Field,
-    pub(crate) term: &'t TypeTerm,
+pub struct Embedded<'t> {
+    pub field: &'t Field,
+    pub term: &'t TypeTerm,
 }
 
 /// What a pointer type points to; any other type itself.
-pub(crate) fn target_of(term: &TypeTerm) -> &TypeTerm {
+pub fn target_of(term: &TypeTerm) -> &TypeTerm {
     match term {
         TypeTerm::Pointer(target) => &**target,
         TypeTerm::NoType => term,
@@ -82,7 +83,7 @@ pub(crate) fn target_of(term: &TypeTerm) -> &TypeTerm {
 }
 
 /// Whether a defined type has a method of a name that is declared with a receiver.
-pub(crate) fn has_method(table: &TypeTable, term: &TypeTerm, name: &str) -> bool {
+pub fn has_method(table: &TypeTable, term: &TypeTerm, name: &str) -> bool {
     match term {
         TypeTerm::Defined(key) => match table.locate(key) {
             Some(located) => {
@@ -309,7 +310,7 @@ fn first_level<'t>(alloc: Global, term: &'t TypeTerm) -> Result<Vec<Step<'t>>, A
 /// # Errors
 ///
 /// `AllocError` where memory is wanting.
-pub(crate) fn shallowest<'t>(
+pub fn shallowest<'t>(
     alloc: Global,
     table: &'t TypeTable,
     term: &'t TypeTerm,
@@ -332,7 +333,7 @@ pub(crate) fn shallowest<'t>(
 /// The first embedded field of a struct type whose type, without its star, has a member of a name itself that is seen in the package of a path; none where none has.
 ///
 /// The Go specification, "Struct types".
-pub(crate) fn embedded_with<'t>(
+pub fn embedded_with<'t>(
     table: &'t TypeTable,
     parts: StructParts<'t>,
     name: &str,
@@ -353,7 +354,7 @@ pub(crate) fn embedded_with<'t>(
 /// type.
 ///
 /// The Go specification, "Selectors".
-pub(crate) fn deep_pointer<'t>(table: &'t TypeTable, term: &'t TypeTerm) -> Option<&'static str> {
+pub fn deep_pointer<'t>(table: &'t TypeTable, term: &'t TypeTerm) -> Option<&'static str> {
     match table.underlying(term) {
         TypeTerm::Pointer(target) => match table.underlying(&**target) {
             TypeTerm::Pointer(_) => Some("a pointer to a pointer"),

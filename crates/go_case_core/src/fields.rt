@@ -65,7 +65,7 @@ impl<'t> StructParts<'t> {
     /// Whether a field of a name is seen in the package of a path.
     ///
     /// The Go specification, "Exported identifiers".
-    pub(crate) fn shows(self, name: &str, from: &ImportPath) -> bool {
+    pub fn shows(self, name: &str, from: &ImportPath) -> bool {
         is_exported(name) || self.path.is_same(from)
     }
 
@@ -94,7 +94,7 @@ impl<'t> StructParts<'t> {
     /// # Errors
     ///
     /// `AllocError` where memory is wanting.
-    pub(crate) fn names(self, alloc: Global) -> Result<String, AllocError> {
+    pub fn names(self, alloc: Global) -> Result<String, AllocError> {
         let mut text = String::new(alloc);
         let mut number: usize = 0;
         for field in self.fields {
@@ -113,7 +113,7 @@ impl<'t> StructParts<'t> {
 /// # Errors
 ///
 /// `AllocError` where memory is wanting.
-pub(crate) fn add_hidden_field(
+pub fn add_hidden_field(
     alloc: Global,
     case: &Case<'_>,
     parts: StructParts<'_>,

@@ -1,24 +1,45 @@
-//! A fault of a checked file with what stands there, what is told of its values and its types, and what is said of selectors and composite literals.
+//! A fault of a checked file with what stands there, and what is told of its values and its types: what sentences about it are made of.
 #![tactic(auto)]
 
 mod case;
 mod embedded;
 mod fields;
+mod fitting;
 mod headers;
 mod lists;
-mod literals;
-mod members;
 mod missing;
 mod telling;
 
 pub use case::Case;
-pub use fields::{StructParts, add_difference, parts_of};
+pub use embedded::{
+    Embedded, Owner, Way, deep_pointer, embedded_with, has_method, shallowest, target_of,
+};
+pub use fields::{StructParts, add_difference, add_hidden_field, parts_of};
+pub use fitting::{add_why, why_fixed};
 pub use headers::{Header, header_of, results_written};
 pub use lists::{Misfit, Values, misfit_in, values_of};
-pub use literals::of_literal;
-pub use members::of_selector;
 pub use missing::add_missing;
 pub use telling::{
-    counted, is_nil, is_of, is_value, params_of, type_of, type_told, types_told, values_told,
-    with_article,
+    article_of, counted, is_nil, is_value, params_of, type_of, type_told, types_told, under_told,
+    values_told,
 };
+
+/// What the crates above name of `go_diagnostic_core`.
+pub mod diagnostic_core {
+    pub use go_diagnostic_core::{
+        LineKind, Message, ScannedFile, Words, add_names, add_near, digits, kind_text, own_decl,
+        package_of_name, place_here, shown,
+    };
+}
+
+/// What the crates above name of `go_judge_core`.
+pub mod judge_core {
+    pub use go_judge_core::{
+        CheckedFile, Extent, Judged, Piece, TypeText, exprs_of, inside, operand_type,
+    };
+}
+
+/// What the crates above name of `go_snap_core`.
+pub mod snap_core {
+    pub use go_snap_core::{PlacedFault, Snapshot};
+}

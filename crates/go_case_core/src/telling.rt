@@ -25,7 +25,7 @@ pub fn type_told(alloc: Global, case: &Case<'_>, term: &TypeTerm) -> Result<Stri
 /// # Errors
 ///
 /// `AllocError` where memory is wanting.
-pub(crate) fn under_told<'t>(
+pub fn under_told<'t>(
     alloc: Global,
     case: &'t Case<'_>,
     term: &'t TypeTerm,
@@ -71,22 +71,15 @@ fn article_before(first: char) -> &'static str {
     }
 }
 
-// The article in front of a type.
-fn article(name: &str) -> &'static str {
+/// The article in front of a type, with a blank after it: that of `a string`. `nil` has none.
+pub fn article_of(name: &str) -> &'static str {
+    if name == "nil" {
+        return "";
+    }
     match name.chars().next() {
         Some(c) => article_before(c),
         None => "a ",
     }
-}
-
-/// A type with its article, as `a string`; `nil` has none.
-///
-/// # Errors
-///
-/// `AllocError` where memory is wanting.
-pub fn with_article(alloc: Global, name: &str) -> Result<String, AllocError> {
-    let before = if name == "nil" { "" } else { article(name) };
-    Words::new(alloc).and(before).and(name).text()
 }
 
 /// What something is, in a sentence: `x is a string`.
@@ -94,12 +87,12 @@ pub fn with_article(alloc: Global, name: &str) -> Result<String, AllocError> {
 /// # Errors
 ///
 /// `AllocError` where memory is wanting.
-pub fn is_of(alloc: Global, written: &str, name: &str) -> Result<String, AllocError> {
-    let what = with_article(alloc, name)?;
+pub(crate) fn is_of(alloc: Global, written: &str, name: &str) -> Result<String, AllocError> {
     Words::new(alloc)
         .and(written)
         .and(" is ")
-        .and(what.as_str())
+        .and(article_of(name))
+        .and(name)
         .text()
 }
 
@@ -124,13 +117,14 @@ pub fn is_value(
 ///
 /// `AllocError` where memory is wanting.
 pub fn counted(alloc: Global, number: usize, one: &str) -> Result<String, AllocError> {
-    let mut text = digits(alloc, number)?;
-    text.push_str(" ")?;
-    text.push_str(one)?;
-    if number != 1 {
-        text.push_str("s")?;
-    }
-    Ok(text)
+    let written = digits(alloc, number)?;
+    let ending = if number == 1 { "" } else { "s" };
+    Words::new(alloc)
+        .and(written.as_str())
+        .and(" ")
+        .and(one)
+        .and(ending)
+        .text()
 }
 
 /// How many values there are, in words.

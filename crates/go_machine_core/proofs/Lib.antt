@@ -1,4 +1,5 @@
 mod Taking
+mod Tops
 mod Stepping
 mod Growing
 mod Bits

@@ -113,13 +113,13 @@ fn binary(state: &mut State, operator: Operation) -> Result<Option<End>, AllocEr
     let Some(upper) = state.frame.stack.pop() else {
         return Ok(Some(End::Stuck));
     };
-    let Some(lower) = state.frame.stack.pop() else {
+    let Some(lower) = state.frame.stack.top() else {
         return Ok(Some(End::Stuck));
     };
     let Some(word) = operate(operator, lower, upper) else {
         return Ok(Some(End::Panicked(PanicValue::DivideByZero)));
     };
-    state.frame.stack.push(word)?;
+    state.frame.stack.replace_top(word);
     state.frame.place += 1;
     Ok(None)
 }

@@ -1,14 +1,6 @@
 //! What is said of one fault of a snapshot, with types: what has no such member, which argument does not fit, what there is and what is wanted.
 #![tactic(auto)]
 
-mod assigned;
-mod calls;
-mod constants;
-mod fitting;
-mod operators;
-mod own;
 mod saying;
-mod statements;
-mod types;
 
 pub use saying::{FileMessages, is_of_types, message_below};

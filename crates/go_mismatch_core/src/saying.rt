@@ -1,16 +1,14 @@
 //! What is said of a fault.
 
-use crate::calls::of_call;
-use crate::constants::{of_constant, of_unsupported};
-use crate::operators::of_operands;
-use crate::statements::of_statement;
-use crate::types::of_type;
-use go_case_core::{Case, of_literal, of_selector};
-use go_diagnostic_core::{Message, ScannedFile};
-use go_judge_core::{CheckedFile, Piece};
+use go_members_told::case_core::Case;
+use go_members_told::diagnostic_core::{Message, ScannedFile};
+use go_members_told::judge_core::{CheckedFile, Piece};
+use go_members_told::snap_core::{PlacedFault, Snapshot};
+use go_members_told::{of_literal, of_selector};
 use go_message_core::message_in;
-use go_snap_core::{PlacedFault, Snapshot};
+use go_operators_told::{of_constant, of_operands, of_type, of_unsupported};
 use go_text_core::Rule;
+use go_values_told::{of_call, of_statement};
 use std::alloc::{AllocError, Global};
 
 /// Whether what is said of a rule is made of what expressions denote: of the rules of selectors (S), literals (F), calls (C), forms that are not supported (X), and types

@@ -11,7 +11,8 @@ use Rattle.go_term_core.specs.tree_core.declared.occurrence.Occ.{Occ}
 use Rattle.go_answer_core.specs.block_core.Blocks.{BlocksModel}
 use Rattle.go_answer_core.specs.block_core.Naming.{specs_in, specs_of}
 use Rattle.go_used_core.specs.Used.{FileUse, blank_place, used_by, used_places}
-use Rattle.go_used_core.specs.mirrors.Steps.{some_used}
+use Rattle.go_used_core.specs.mirrors.Steps.{some_used, with_places}
+use Rattle.go_used_core.proofs.Places.{places_append}
 
 -- the imports with the name `_`
 
@@ -50,18 +51,18 @@ module _ (b : BlocksModel) (file : ℕ) where
   split (x ∷ os) [] (suc n) o at = none_used (drop n os) ∙ sym (none_used (drop (suc n) os))
   split (x ∷ os) (u ∷ us) (suc n) o at = split os us n o at
 
-  pub some_both : (o : Occ) (x y p q : Option FileUse) (now new : List ℕ) → new ≡ now ++ some_used b file o x y → x ≡ p → y ≡ q → new ≡ now ++ some_used b file o p q
-  some_both o x y p q now new e h k = e ∙ (ap (λ z. now ++ some_used b file o z y) h ∙ ap (λ z. now ++ some_used b file o p z) k)
+  pub some_both : (o : Occ) (x y p q : Option FileUse) (now new : List ℕ) → new ≡ with_places now (some_used b file o x y) → x ≡ p → y ≡ q → new ≡ with_places now (some_used b file o p q)
+  some_both o x y p q now new e h k = e ∙ (ap (λ z. with_places now (some_used b file o z y)) h ∙ ap (λ z. with_places now (some_used b file o p z)) k)
 
   pub used_step : (os : List Occ) (us : List FileUse) (n : ℕ) (o : Occ) (now new all : List ℕ) → n < length os → o ≡ get_or os n o
-      → new ≡ now ++ some_used b file o (slice_get us n) (slice_get us (n + 1))
-      → now ++ used_places b file (drop n os) (drop n us) ≡ all
-      → new ++ used_places b file (drop (n + 1) os) (drop (n + 1) us) ≡ all
+      → new ≡ with_places now (some_used b file o (slice_get us n) (slice_get us (n + 1)))
+      → with_places now (used_places b file (drop n os) (drop n us)) ≡ all
+      → with_places new (used_places b file (drop (n + 1) os) (drop (n + 1) us)) ≡ all
   used_step os us n o now new all lt is added before =
       let next : suc n ≡ n + 1 = omega arith in
       let here = some_used b file o (slice_get us n) (slice_get us (n + 1)) in
       let there : slice_get os n ≡ Some o = slice_get_read os (length os) n o refl lt is in
       let whole : used_places b file (drop n os) (drop n us) ≡ here ++ used_places b file (drop (n + 1) os) (drop (n + 1) us) = subst (λ (m : ℕ). used_places b file (drop n os) (drop n us) ≡ some_used b file o (slice_get us n) (slice_get us m) ++ used_places b file (drop m os) (drop m us)) next (split os us n o there) in
-      ap (λ l. l ++ used_places b file (drop (n + 1) os) (drop (n + 1) us)) added
-      ∙ (append_assoc now here (used_places b file (drop (n + 1) os) (drop (n + 1) us))
-      ∙ (ap (λ l. now ++ l) (sym whole) ∙ before))
+      ap (λ l. with_places l (used_places b file (drop (n + 1) os) (drop (n + 1) us))) added
+      ∙ (sym (places_append now here (used_places b file (drop (n + 1) os) (drop (n + 1) us)))
+      ∙ (ap (with_places now) (sym whole) ∙ before))

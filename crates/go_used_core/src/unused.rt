@@ -1,11 +1,12 @@
 //! Imports that are not used.
-ghost use Rattle.std.specs.Prelude.{◌≡◌, ◌++◌, ◌||◌, ℕ, IfErr, IfOk, OnOk, map, nat_eq};
-ghost use Rattle.std.specs.List.{flat_map, list_any};
+ghost use Rattle.std.specs.Prelude.{◌≡◌, ◌++◌, IfErr, OnOk, map, nat_eq};
+ghost use Rattle.std.specs.List.{flat_map};
 ghost use Rattle.std.specs.HashSet.{contains};
 ghost use Rattle.go_tree_nodes.specs.Shapes.{file_of, import_of, shape_import_spec, shape_import_specs};
+ghost use Rattle.go_term_core.specs.tree_core.Occurrences.{file_occs};
 ghost use Rattle.go_answer_core.specs.block_core.Naming.{specs_in, specs_of};
-ghost use Rattle.go_used_core.specs.Used.{blank_place, is_blank_name, judged_import, refused_use, without_unused};
-ghost use Rattle.go_used_core.specs.mirrors.Steps.{judged_by};
+ghost use Rattle.go_used_core.specs.Used.{blank_place, blank_places, is_blank_name, judged_import, refused_use, used_places, without_unused};
+ghost use Rattle.go_used_core.specs.mirrors.Steps.{judged_by, with_places};
 
 use crate::used::{add_used_places, is_import};
 use go_answer_core::Answer;
@@ -14,8 +15,8 @@ use go_answer_core::denote_core::Outcome;
 use go_term_core::tree_core::occurrences;
 use go_text_core::Rule;
 use go_tree_nodes::{File, ImportDecl, ImportName, ImportSpec, ImportSpecs};
+use indexmap::IndexSet;
 use std::alloc::{AllocError, Global};
-use std::collections::HashSet;
 
 // Whether an import is written with the name `_`.
 fn is_blank_name(name: &ImportName) -> bool
@@ -29,18 +30,18 @@ fn is_blank_name(name: &ImportName) -> bool
 }
 
 // Adds the place of an import that is written with the name `_`.
-fn add_if_blank(places: &mut Vec<usize>, spec: &ImportSpec) -> Result<(), AllocError>
-    ensures { OnOk result (places.new.items ≡ places.old.items ++ blank_place (shape_import_spec spec.now)) }
+fn add_if_blank(places: &mut IndexSet<usize>, spec: &ImportSpec) -> Result<(), AllocError>
+    ensures { OnOk result (places.new.keys ≡ with_places places.old.keys (blank_place (shape_import_spec spec.now))) }
 {
     if is_blank_name(&spec.name) {
-        places.push(spec.path.span.start as usize)?;
+        places.insert(spec.path.span.start as usize)?;
     }
     Ok(())
 }
 
 // Adds the places of those imports of a declaration that are written with the name `_`.
-fn add_blanks(places: &mut Vec<usize>, specs: &ImportSpecs) -> Result<(), AllocError>
-    ensures { OnOk result (places.new.items ≡ places.old.items ++ flat_map blank_place (specs_in (shape_import_specs specs.now))) }
+fn add_blanks(places: &mut IndexSet<usize>, specs: &ImportSpecs) -> Result<(), AllocError>
+    ensures { OnOk result (places.new.keys ≡ with_places places.old.keys (flat_map blank_place (specs_in (shape_import_specs specs.now)))) }
 {
     match specs {
         ImportSpecs::One(spec) => add_if_blank(places, spec),
@@ -53,15 +54,14 @@ fn add_blanks(places: &mut Vec<usize>, specs: &ImportSpecs) -> Result<(), AllocE
     }
 }
 
-// The places of the imports that are written with the name `_`.
-fn blank_places(alloc: Global, imports: &Vec<ImportDecl>) -> Result<Vec<usize>, AllocError>
-    ensures { IfOk result (λ places. places.items ≡ flat_map blank_place (specs_of (map import_of imports.now.items))) }
+// Adds the places of the imports that are written with the name `_`.
+fn add_all_blanks(places: &mut IndexSet<usize>, imports: &Vec<ImportDecl>) -> Result<(), AllocError>
+    ensures { OnOk result (places.new.keys ≡ with_places places.old.keys (flat_map blank_place (specs_of (map import_of imports.now.items)))) }
 {
-    let mut places = Vec::new(alloc);
     for import in imports {
-        add_blanks(&mut places, &import.specs)?;
+        add_blanks(places, &import.specs)?;
     }
-    Ok(places)
+    Ok(())
 }
 
 // Refuses an import that breaks no other rule.
@@ -76,29 +76,8 @@ fn refuse(answer: &mut Answer)
     answer.outcome = Outcome::Refused(Rule::I7);
 }
 
-// Adds a place to others.
-fn add_place(places: &mut HashSet<usize>, place: usize) -> Result<(), AllocError>
-    ensures { OnOk result ((at : ℕ) → contains nat_eq places.new at ≡ (contains nat_eq places.old at || nat_eq at place)) }
-{
-    match places.insert(place) {
-        Ok(_) => Ok(()),
-        Err(_) => Err(AllocError),
-    }
-}
-
-// These places, each once.
-fn place_set(alloc: Global, places: &[usize]) -> Result<HashSet<usize>, AllocError>
-    ensures { IfOk result (λ set. (at : ℕ) → contains nat_eq set at ≡ list_any (nat_eq at) places.now) }
-{
-    let mut set = HashSet::new(alloc);
-    for place in places {
-        add_place(&mut set, *place)?;
-    }
-    Ok(set)
-}
-
 // Refuses an import whose place is none of these.
-fn judge(places: &HashSet<usize>, answer: &mut Answer)
+fn judge(places: &IndexSet<usize>, answer: &mut Answer)
     ensures { answer.new ≡ judged_by (contains nat_eq places.now) answer.old }
 {
     if is_import(answer.role) && !places.contains(&answer.offset) {
@@ -107,14 +86,30 @@ fn judge(places: &HashSet<usize>, answer: &mut Answer)
 }
 
 // Refuses the imports whose places are none of these.
-fn judge_all(alloc: Global, places: &[usize], answers: &mut [Answer]) -> Result<(), AllocError>
-    ensures value { OnOk result (answers.new ≡ map (judged_import places.now) answers.old) }
+fn judge_all(places: &IndexSet<usize>, answers: &mut [Answer])
+    ensures { answers.new ≡ map (judged_import places.now.keys) answers.old }
+{
+    for answer in answers.iter_mut() {
+        judge(places, answer);
+    }
+}
+
+// Refuses the imports of a file that are not used, but for those at these places. Then these have the places of the others too.
+fn judge_unused(
+    alloc: Global,
+    places: &mut IndexSet<usize>,
+    blocks: &Blocks,
+    file: usize,
+    tree: &File,
+    answers: &mut [Answer],
+) -> Result<(), AllocError>
+    ensures value { OnOk result (answers.new ≡ map (judged_import (with_places places.old.keys (blank_places (file_of tree.now) ++ used_places blocks.now file (file_occs (file_of tree.now)) answers.old))) answers.old) }
     ensures kept { IfErr result (λ _. answers.new ≡ answers.old) }
 {
-    let set = place_set(alloc, places)?;
-    for answer in answers.iter_mut() {
-        judge(&set, answer);
-    }
+    add_all_blanks(places, &tree.imports)?;
+    let occs = occurrences(alloc, tree)?;
+    add_used_places(places, blocks, file, &occs, answers)?;
+    judge_all(places, answers);
     Ok(())
 }
 
@@ -138,8 +133,6 @@ pub fn refuse_unused(
     ensures value { OnOk result (answers.new ≡ without_unused blocks.now file (file_of tree.now) answers.old) }
     ensures kept { IfErr result (λ _. answers.new ≡ answers.old) }
 {
-    let mut places = blank_places(alloc, &tree.imports)?;
-    let occs = occurrences(alloc, tree)?;
-    add_used_places(&mut places, blocks, file, &occs, answers)?;
-    judge_all(alloc, &places, answers)
+    let mut places = IndexSet::new(alloc);
+    judge_unused(alloc, &mut places, blocks, file, tree, answers)
 }

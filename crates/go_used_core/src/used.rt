@@ -1,10 +1,10 @@
 //! Which imports of a file are used.
-ghost use Rattle.std.specs.Prelude.{◌≡◌, ◌++◌, IfOk, OnOk, None, Some, option_copied, slice_get};
+ghost use Rattle.std.specs.Prelude.{◌≡◌, IfOk, OnOk, None, Some, option_copied, slice_get};
 ghost use Rattle.std.specs.Option.{option_to_list};
 ghost use Rattle.go_answer_core.specs.block_core.Blocks.{file_binding};
 ghost use Rattle.go_answer_core.specs.handle_core.Declarations.{site_shown};
 ghost use Rattle.go_used_core.specs.Used.{has_next, is_declared, is_exported, is_import, is_name_role, is_package_outcome, is_package_decl, is_qualifier, is_target_outcome, is_target_decl, is_target_place, used_by, used_if, used_places, uses_binding};
-ghost use Rattle.go_used_core.specs.mirrors.Steps.{some_used};
+ghost use Rattle.go_used_core.specs.mirrors.Steps.{some_used, with_places};
 
 use go_answer_core::Answer;
 use go_answer_core::block_core::{Binding, Blocks, Target};
@@ -14,6 +14,7 @@ use go_answer_core::handle_core::DeclSite;
 use go_path_core::ImportPath;
 use go_term_core::MemberPlace;
 use go_term_core::tree_core::{Occ, Role};
+use indexmap::IndexSet;
 use std::alloc::{AllocError, Global};
 
 // Whether a package is declared at a site.
@@ -206,21 +207,21 @@ fn used_by(
     }
 }
 
-// Adds the place of the import that an occurrence uses, if it uses one. Without what it has there is none.
+// Adds the place of the import that an occurrence uses, if it uses one and the place is not there. Without what it has there is none.
 fn add_used(
-    places: &mut Vec<usize>,
+    places: &mut IndexSet<usize>,
     blocks: &Blocks,
     file: usize,
     occ: &Occ,
     answer: Option<&Answer>,
     next: Option<&Answer>,
 ) -> Result<(), AllocError>
-    ensures { OnOk result (places.new.items ≡ places.old.items ++ some_used blocks.now file occ.now (option_copied answer.entry) (option_copied next.entry)) }
+    ensures { OnOk result (places.new.keys ≡ with_places places.old.keys (some_used blocks.now file occ.now (option_copied answer.entry) (option_copied next.entry))) }
 {
     match answer {
         Some(answer) => {
             if let Some(place) = used_by(blocks, file, occ, answer, next) {
-                places.push(place)?;
+                places.insert(place)?;
             }
             Ok(())
         }
@@ -235,15 +236,15 @@ fn answer_at(answers: &[Answer], number: usize) -> Option<&Answer>
     answers.get(number)
 }
 
-/// Adds the places of the imports of the file of a number that its occurrences use, in the order of these.
+/// Adds the places of the imports of the file of a number that its occurrences use, each once, in the order of first use.
 pub(crate) fn add_used_places(
-    places: &mut Vec<usize>,
+    places: &mut IndexSet<usize>,
     blocks: &Blocks,
     file: usize,
     occs: &[Occ],
     answers: &[Answer],
 ) -> Result<(), AllocError>
-    ensures { OnOk result (places.new.items ≡ places.old.items ++ used_places blocks.now file occs.now answers.now) }
+    ensures { OnOk result (places.new.keys ≡ with_places places.old.keys (used_places blocks.now file occs.now answers.now)) }
 {
     for (number, occ) in occs.iter().enumerate() {
         let answer = answer_at(answers, number);

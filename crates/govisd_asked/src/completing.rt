@@ -148,13 +148,12 @@ fn found_at(
     Ok(Attempts { found, kinds })
 }
 
-// Whether a name begins with what is written of it, letters large or small.
-fn begins_with(name: &str, written: &[u8]) -> bool {
-    let bytes = name.as_bytes();
-    if bytes.len() < written.len() {
+/// Whether the bytes of a name begin with what is written of it, letters large or small.
+pub(crate) fn begins_with(name: &[u8], written: &[u8]) -> bool {
+    if name.len() < written.len() {
         return false;
     }
-    let (front, _) = bytes.split_at(written.len());
+    let (front, _) = name.split_at(written.len());
     front.eq_ignore_ascii_case(written)
 }
 
@@ -225,7 +224,7 @@ fn items_of(
 ) -> Result<Vec<Value>, AllocError> {
     let mut items = Vec::new(session.alloc);
     for (name, form) in &tries.found {
-        if begins_with(name.as_str(), written) {
+        if begins_with(name.as_bytes(), written) {
             items.push(item_of(session, at, tries, half, name.as_str(), *form)?)?;
         }
     }
@@ -349,7 +348,8 @@ fn add_packages(
     };
     let most = items.len().saturating_add(MOST_PACKAGES);
     for entry in &listing.importable {
-        let fits = begins_with(entry.name(), written) && !found.contains_key(entry.name());
+        let fits = begins_with(entry.name().as_bytes(), written)
+            && !found.contains_key(entry.name());
         if fits && items.len() < most {
             add_entry(session, items, at, text, entry)?;
         }
@@ -357,9 +357,13 @@ fn add_packages(
     Ok(())
 }
 
-// The items for a half name.
-fn completed(session: &Session, at: &AskedPlace, text: &str) -> Result<Vec<Value>, AllocError> {
-    let half = half_name(text, at.offset);
+// The items for a half name. Where no name fits, as in a comment, no package is offered.
+fn completed(
+    session: &Session,
+    at: &AskedPlace,
+    text: &str,
+    half: HalfName,
+) -> Result<Vec<Value>, AllocError> {
     let tries = found_at(session, at, text, half)?;
     let written = written_of(text, half, at.offset);
     let mut items = items_of(session, at, &tries, half, written)?;
@@ -369,14 +373,15 @@ fn completed(session: &Session, at: &AskedPlace, text: &str) -> Result<Vec<Value
                 add_importable(session, &mut items, at, text, name)?;
             }
         }
-    } else if !written.is_empty() {
+    } else if !written.is_empty() && !tries.found.is_empty() {
         add_packages(session, &mut items, at, text, &tries.found, written)?;
     }
     Ok(items)
 }
 
-/// The names that may be written at a place of an open file: those that fit there in one of the forms that are tried, packages that could be imported, and behind
-/// the name of one of these those that it exports, with the edit that imports it.
+/// The names that may be written at a place of an open file: those that fit there in one of the forms that are tried, packages that could be imported, and after
+/// the name of one of these those that it exports, with the edit that imports it. Packages come once a letter is written, so before it the list is told as one
+/// that is not complete.
 ///
 /// # Errors
 ///
@@ -386,6 +391,8 @@ pub fn completion(session: &Session, at: &AskedPlace) -> Result<Value, AllocErro
     let Some(text) = shown_text(session, at) else {
         return Ok(Value::Null);
     };
-    let items = Value::Array(completed(session, at, text)?);
-    json!(in alloc; {"isIncomplete": false, "items": items})
+    let half = half_name(text, at.offset);
+    let has_more = !half.is_behind_dot && written_of(text, half, at.offset).is_empty();
+    let items = Value::Array(completed(session, at, text, half)?);
+    json!(in alloc; {"isIncomplete": has_more, "items": items})
 }

@@ -1,5 +1,6 @@
 //! The declarations of a file, and those of all packages.
 
+use crate::completing::begins_with;
 use go_outline_core::{Entry, EntryKind, entries};
 use go_path_core::ImportPath;
 use go_snap_core::graph_core::SourceFile;
@@ -158,6 +159,18 @@ fn information(
     json!(in alloc; {"location": location, "name": text, "kind": kind, "containerName": container})
 }
 
+// Whether a name has a text in it, letters large or small.
+fn has_text(name: &str, text: &str) -> bool {
+    let name = name.as_bytes();
+    for at in 0..name.len().saturating_add(1) {
+        let (_, rest) = name.split_at(at.min(name.len()));
+        if begins_with(rest, text.as_bytes()) {
+            return true;
+        }
+    }
+    false
+}
+
 // Adds the declared names of a file that have a text.
 fn add_matching<'s>(
     session: &'s Session,
@@ -171,7 +184,7 @@ fn add_matching<'s>(
     };
     let names = declared_names(session, tree)?;
     for name in &names {
-        if all.len() < MOST && name_of(name).contains(query) {
+        if all.len() < MOST && has_text(name_of(name), query) {
             let file = told_file(session, package, source)?;
             all.push(information(session, &file, package, name)?)?;
         }
@@ -192,7 +205,7 @@ fn add_part<'s>(
     Ok(())
 }
 
-/// The declarations of all packages outside functions whose names have a text: 256 at most.
+/// The declarations of all packages outside functions whose names have a text, letters large or small: 256 at most.
 ///
 /// # Errors
 ///

@@ -1,9 +1,4 @@
-mod FindingLemmas
-mod FileNames
-mod FolderLemmas
 mod LineLemmas
-mod PuttingLemmas
-mod ReadingLemmas
 mod ReportLemmas
 mod SelectingLemmas
 mod TellingLemmas

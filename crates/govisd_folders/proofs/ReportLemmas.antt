@@ -10,7 +10,8 @@ use Rattle.go_snap_core.specs.declared.fault.PlacedFault.{PlacedFault}
 use Rattle.go_cause_core.specs.Causes.{AreCauses}
 use Rattle.go_cause_core.specs.Names.{AreRepeated}
 use Rattle.govisd_folders.specs.Checks.{SnapshotIsTold, WorkspaceIsChecked}
-use Rattle.govisd_folders.specs.Scopes.{ScopeModel, follows, joined_by, packages_in, shown_in, told_by, told_in}
+use Rattle.govisd_disk.specs.Scopes.{ScopeModel, packages_in}
+use Rattle.govisd_folders.specs.Selecting.{follows, joined_by, shown_in, told_by, told_in}
 use Rattle.govisd_folders.specs.Telling.{AddsBeside, AddsFault, AddsForm, AddsLines, AddsReport, AreTold, IsReport, LiesTold, ending_text, head_text, shows_all}
 use Rattle.go_cause_core.specs.declared.cause.Cause.{Cause}
 use Rattle.govisd_folders.specs.declared.checking.CheckAnswer.{CheckAnswer}

@@ -13,19 +13,12 @@ use Rattle.go_snap_core.specs.graph_core.Workspaces.{PackageModel}
 use Rattle.go_snap_core.specs.declared.fault.PlacedFault.{PlacedFault}
 use Rattle.go_snap_core.specs.Faults.{LiesIn}
 use Rattle.go_snap_core.specs.graph_core.Sources.{SourceModel}
-use Rattle.govisd_folders.specs.Scopes.{ScopeModel, has_fault, is_shown, shown_in, source_at, told_by, told_if, told_in}
+use Rattle.govisd_disk.specs.Scopes.{ScopeModel, has_fault, source_at}
+use Rattle.govisd_folders.specs.Selecting.{is_shown, shown_in, told_by, told_if, told_in}
 use Rattle.govisd_folders.specs.Telling.{AddsFault, AddsLines, AddsOne, AreLines, IsFault, IsFolderOf, IsLine, LiesTold, file_text}
 use Rattle.go_cause_core.specs.declared.cause.Cause.{Cause}
 use Rattle.govisd_folders.specs.declared.looks.Look.{Look}
 use Rattle.govisd_folders.specs.declared.selecting.Told.{Told}
-
--- what is made of an answer, by what the answer is
-
-pub none_from : {A B : Type 0} (g : A → B) (o : Option A) (x : Option B) → option_map g o ≡ x → o ≡ None → x ≡ None
-none_from g o x is none = sym is ∙ ap (option_map g) none
-
-pub some_from : {A B : Type 0} (g : A → B) (o : Option A) (x : Option B) (a : A) → option_map g o ≡ x → o ≡ Some a → x ≡ Some (g a)
-some_from g o x a is some = sym is ∙ ap (option_map g) some
 
 -- a fault that lies in a file is found there
 source_there : (ps : List PackageModel) (f : PlacedFault) (h : LiesIn ps f) → source_at ps f ≡ Some (h.of_package.0, h.source)

@@ -10,8 +10,8 @@ use Rattle.go_snap_core.specs.Snapshots.{IsSnapshot}
 use Rattle.govisd_folders.specs.declared.checking.CheckAnswer.{CheckAnswer}
 use Rattle.govisd_folders.specs.declared.looks.Look.{Look}
 use Rattle.govisd_folders.specs.declared.telling.Report.{Report}
-use Rattle.govisd_folders.specs.Finds.{ReadModel, Refused, Found, IsReadOf}
-use Rattle.govisd_folders.specs.Scopes.{ScopeModel}
+use Rattle.govisd_disk.specs.Finds.{ReadModel, Refused, Found, IsReadOf}
+use Rattle.govisd_disk.specs.Scopes.{ScopeModel}
 use Rattle.govisd_folders.specs.Telling.{AreTold}
 
 -- 0 where there is no fault and nothing was left out, and else 1

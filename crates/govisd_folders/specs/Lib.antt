@@ -1,9 +1,5 @@
 pub mod Checks
-pub mod Finds
-pub mod Notes
-pub mod Puts
-pub mod Reads
-pub mod Scopes
+pub mod Selecting
 pub mod Telling
 pub mod emit_core
 pub mod part_core

@@ -2,17 +2,14 @@
 ghost use Rattle.std.specs.Prelude.{◌≡◌, List, ℕ, IfOk, option_map, string_bytes};
 ghost use Rattle.go_snap_core.specs.Snapshots.{IsSnapshot};
 ghost use Rattle.govisd_folders.specs.Checks.{IsAnswerOfCheck, IsAnswerOn, SnapshotIsTold, WorkspaceIsChecked, notes_status, status_of};
-ghost use Rattle.govisd_folders.specs.Finds.{read_shown};
+ghost use Rattle.govisd_disk.specs.Finds.{read_shown};
 
-use crate::finding::{FoundPackages, ReadFolder, read_folder};
 use crate::looks::{Look, look_of};
-use crate::notes::push;
-use crate::progress::Progress;
-use crate::scopes::Scope;
 use crate::telling::{Page, Report, told};
 use go_folder_core::{Order, named_folder};
 use go_snap_core::graph_core::Workspace;
 use go_snap_core::{Snapshot, compile};
+use govisd_disk::{FoundPackages, Progress, ReadFolder, Scope, push, read_folder};
 use std::alloc::{AllocError, Global};
 
 /// What came of the check of a folder, or of a run of its program.

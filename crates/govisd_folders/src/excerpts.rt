@@ -1,9 +1,9 @@
 //! Lines of the source below a message.
 
-use crate::notes::{push, push_number};
 use crate::painting::{RED, paint, unpaint};
 use crate::spots::{Spot, word_at};
 use go_folder_core::push_shown;
+use govisd_disk::{push, push_number};
 use std::alloc::{AllocError, Global};
 use unicode_width::UnicodeWidthChar;
 
@@ -107,37 +107,34 @@ pub(crate) struct Excerpt {
     pub(crate) marks: String,
 }
 
-// The line of the source, after its number.
-fn source_line(
+// Adds the line of the source, after its number.
+fn push_line(
     alloc: Global,
+    line: &mut String,
     number: usize,
     front: &str,
     rest: &str,
-) -> Result<String, AllocError> {
-    let mut line = String::new(alloc);
-    push_number(alloc, &mut line, number)?;
-    push(&mut line, " | ")?;
-    push_source(alloc, &mut line, front)?;
-    push_source(alloc, &mut line, rest)?;
-    Ok(line)
+) -> Result<(), AllocError> {
+    push_number(alloc, line, number)?;
+    push(line, " | ")?;
+    push_source(alloc, line, front)?;
+    push_source(alloc, line, rest)
 }
 
-// Carets below what is marked of the line of a number.
-fn marks_line(
-    alloc: Global,
+// Adds carets below what is marked of the line of a number.
+fn push_marks(
+    marks: &mut String,
     number: usize,
     has_color: bool,
     front: &str,
     marked: &str,
-) -> Result<String, AllocError> {
-    let mut marks = String::new(alloc);
-    push_times(&mut marks, " ", digits(number))?;
-    push(&mut marks, " | ")?;
-    push_times(&mut marks, " ", width_in(front))?;
-    paint(&mut marks, has_color, RED)?;
-    push_times(&mut marks, "^", width_in(marked).max(1))?;
-    unpaint(&mut marks, has_color)?;
-    Ok(marks)
+) -> Result<(), AllocError> {
+    push_times(marks, " ", digits(number))?;
+    push(marks, " | ")?;
+    push_times(marks, " ", width_in(front))?;
+    paint(marks, has_color, RED)?;
+    push_times(marks, "^", width_in(marked).max(1))?;
+    unpaint(marks, has_color)
 }
 
 /// The line of the source in which a fault lies, or what stands there around the fault, and below it carets below what stands at its place.
@@ -157,8 +154,9 @@ pub(crate) fn excerpt_of(
     let rest = first_line(part(spot.text, spot.offset, after));
     let word = first_line(word_at(spot.text, spot.offset));
     let marked = if word.len() > rest.len() { rest } else { word };
-    Ok(Excerpt {
-        line: source_line(alloc, spot.at.line, front, rest)?,
-        marks: marks_line(alloc, spot.at.line, has_color, front, marked)?,
-    })
+    let mut line = String::new(alloc);
+    push_line(alloc, &mut line, spot.at.line, front, rest)?;
+    let mut marks = String::new(alloc);
+    push_marks(&mut marks, spot.at.line, has_color, front, marked)?;
+    Ok(Excerpt { line, marks })
 }

@@ -4,16 +4,9 @@
 
 mod checking;
 mod excerpts;
-mod finding;
 mod lines;
 mod looks;
-mod notes;
 mod painting;
-mod progress;
-mod putting;
-mod reading;
-mod roots;
-mod scopes;
 mod selecting;
 mod spots;
 mod telling;
@@ -21,13 +14,12 @@ mod unused;
 mod words;
 
 pub use checking::{CheckAnswer, check_folder};
-pub use finding::{FoundPackages, ReadFolder, read_folder};
 pub use go_folder_core::{Color, Format, Order, Style};
+pub use govisd_disk::{
+    FoundPackages, Progress, ReadFolder, Scope, is_inside, name_or_quotes, note, note_rule,
+    path_of, push, read_folder,
+};
 pub use looks::{Look, PLAIN};
-pub use notes::{name_or_quotes, note, note_rule, push};
-pub use progress::Progress;
-pub use putting::path_of;
-pub use scopes::{Scope, is_inside};
 pub use telling::{Page, Report, told};
 
 /// What the crates above name of `go_snap_core`.

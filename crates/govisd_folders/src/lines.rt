@@ -2,12 +2,12 @@
 ghost use Rattle.std.specs.Prelude.{◌≡◌, ◌++◌, IfOk, OnOk, IsTrue, true, is_some, string_bytes};
 ghost use Rattle.govisd_folders.specs.Telling.{AddsBelow, AddsBeside, AddsForm, AddsLine as AddsOneLine, AddsNote, AddsNotes, AddsText, AddsWords, comma_text, github_front, IsInLine, json_front, level_text, line_front, painted_front, plain_front, position_text, result_text, sarif_front};
 
-use crate::notes::{push, push_number};
 use crate::unused::Beside;
 use crate::words::Words;
 use go_explain_core::meaning;
 use go_folder_core::{Format, Position};
 use go_text_core::Rule;
+use govisd_disk::{push, push_number};
 use std::alloc::{AllocError, Global};
 
 /// The first line of a text, without its end.

@@ -1,6 +1,6 @@
 //! Colours of a terminal.
 
-use crate::notes::push;
+use govisd_disk::push;
 use std::alloc::AllocError;
 
 /// For the place of a fault.

@@ -1,12 +1,12 @@
 //! Which faults are told.
 ghost use Rattle.std.specs.Prelude.{◌≡◌, ◌++◌, IfOk, OnOk};
-ghost use Rattle.govisd_folders.specs.Scopes.{follows, follows_by, is_shown, joined_by, joined_cause, root_elsewhere, root_of, shown_in, told_by, told_if, told_in};
+ghost use Rattle.govisd_folders.specs.Selecting.{follows, follows_by, is_shown, joined_by, joined_cause, root_elsewhere, root_of, shown_in, told_by, told_if, told_in};
 
-use crate::scopes::{Scope, has_fault};
 use go_cause_core::Cause;
 use go_snap_core::PlacedFault;
 use go_snap_core::graph_core::Workspace;
 use go_text_core::Rule;
+use govisd_disk::{Scope, has_fault};
 use std::alloc::{AllocError, Global};
 
 /// A fault, with the one that it follows from, if it follows from one; a name that is not declared, at another place than the first of its package, with

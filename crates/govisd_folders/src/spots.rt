@@ -1,14 +1,11 @@
 //! The place of a fault, as it is written.
-ghost use Rattle.std.specs.Prelude.{◌≡◌, ◌<◌, List, ℕ, length};
-ghost use Rattle.go_folder_core.specs.Folders.{joined_path};
 
 use crate::lines::push_place;
-use crate::notes::push;
-use crate::scopes::{Scope, is_below, source_of};
 use go_folder_core::{Position, below, position_of};
 use go_snap_core::PlacedFault;
 use go_snap_core::graph_core::Workspace;
 use go_text_core::Rule;
+use govisd_disk::{Scope, folder_of, is_below, push, source_of};
 use std::alloc::{AllocError, Global};
 
 /// The place of a fault, as it is written.
@@ -19,19 +16,6 @@ pub(crate) struct Spot<'a> {
     pub(crate) at: Position,
     pub(crate) offset: usize,
     pub(crate) rule: Rule,
-}
-
-/// The path of a package's folder from that of another package, where it lies there or below it.
-pub(crate) fn folder_of<'a>(module_path: &str, package: &'a str) -> &'a str
-    ensures { (folder : List ℕ) → 0 < length module_path.now → «package».now ≡ joined_path module_path.now folder → result.now ≡ folder }
-{
-    match package.strip_prefix(module_path) {
-        Some(behind) => match behind.strip_prefix('/') {
-            Some(folder) => folder,
-            None => "",
-        },
-        None => "",
-    }
 }
 
 /// The path of a file, from the folder of a scope where it lies there or below it, and else with the path of its package.

@@ -3,16 +3,14 @@ ghost use Rattle.std.specs.Prelude.{◌≡◌, ◌++◌, ◌-◌, ◌<◌, ◌�
 ghost use Rattle.go_folder_core.specs.Folders.{joined_path};
 ghost use Rattle.go_snap_core.specs.Faults.{LiesIn};
 ghost use Rattle.go_snap_core.specs.Snapshots.{IsSnapshot};
-ghost use Rattle.govisd_folders.specs.Scopes.{packages_in, shown_in, source_at, told_by, told_in};
+ghost use Rattle.govisd_disk.specs.Scopes.{packages_in, source_at};
+ghost use Rattle.govisd_folders.specs.Selecting.{shown_in, told_by, told_in};
 ghost use Rattle.govisd_folders.specs.Telling.{AddsFault, AddsLines, AddsReport, AreTold, IsPlacedIn, IsReport, LiesTold, count_text, ending_text, faults_text, file_text, full_text, head_text, hidden_text, packages_text, several_text, shows_all, told_at};
 
 use crate::lines::{push_beside, push_form};
 use crate::looks::Look;
-use crate::notes::{push, push_number};
-use crate::reading::STAND_IN;
-use crate::scopes::{Scope, packages_in, source_of};
 use crate::selecting::{Told, follows, joined_by, shown_in, told_by, told_in};
-use crate::spots::{Spot, folder_of, push_fault_place, push_fault_spot};
+use crate::spots::{Spot, push_fault_place, push_fault_spot};
 use crate::unused::{Beside, unused_in};
 use crate::words::{Words, words_of};
 use go_cause_core::{Cause, causes, repeated_names};
@@ -22,6 +20,7 @@ use go_mismatch_core::{FileMessages, is_of_types, message_below};
 use go_snap_core::graph_core::SourceFile;
 use go_snap_core::{PlacedFault, Snapshot, faults_lie_in_files};
 use go_text_core::Rule;
+use govisd_disk::{STAND_IN, Scope, folder_of, packages_in, push, push_number, source_of};
 use std::alloc::{AllocError, Global};
 
 /// Of how many faults the message is told; of others, what the rule means.

@@ -1,6 +1,5 @@
 //! Variables of functions that nothing uses. The Go specification leaves it to compilers whether they are refused, and `go build` refuses them.
 
-use crate::scopes::{Scope, has_file};
 use crate::spots::{file_shown, word_at};
 use go_folder_core::{LineCounter, Position};
 use go_snap_core::Snapshot;
@@ -8,6 +7,8 @@ use go_snap_core::answer_core::Answer;
 use go_snap_core::graph_core::SourceFile;
 use go_snap_core::package_core::FileAnswers;
 use go_snap_core::part_core::Part;
+use go_text_core::add;
+use govisd_disk::{Scope, has_file};
 use std::alloc::{AllocError, Global};
 
 /// At most so many variables are told of.
@@ -219,11 +220,9 @@ fn add_file(
         let offset = local.offset;
         if found.len() < MOST && is_unused(text, offset, made.answers.as_slice(), &mut steps) {
             let at = lines.position_of(offset);
-            found.push(Beside {
-                file: file_shown(alloc, scope, path, source.name())?,
-                at,
-                words: words_of(alloc, word_at(text, offset))?,
-            })?;
+            let file = file_shown(alloc, scope, path, source.name())?;
+            let words = words_of(alloc, word_at(text, offset))?;
+            add(found, Beside { file, at, words })?;
         }
     }
     Ok(())

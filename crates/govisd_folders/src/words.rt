@@ -1,10 +1,8 @@
 //! The words that stand after the place and the rule of a fault, in each form.
 
-use crate::excerpts::excerpt_of;
+use crate::excerpts::{Excerpt, excerpt_of};
 use crate::looks::Look;
-use crate::notes::{push, push_number};
 use crate::painting::{BLUE, GREEN, paint, unpaint};
-use crate::scopes::{Scope, source_of};
 use crate::selecting::{Told, follows};
 use crate::spots::{Spot, file_shown, word_at};
 use go_diagnostic_core::{LineKind, Message};
@@ -12,6 +10,8 @@ use go_explain_core::meaning;
 use go_folder_core::{Format, push_command, push_json, push_shown};
 use go_snap_core::PlacedFault;
 use go_snap_core::graph_core::Workspace;
+use go_text_core::add;
+use govisd_disk::{Scope, push, push_number, source_of};
 use std::alloc::{AllocError, Global};
 
 /// What is said of a fault after its place and its rule.
@@ -43,12 +43,57 @@ fn kind_color(kind: LineKind) -> &'static str {
     }
 }
 
+// Adds a piece, between two others.
+fn push_between(
+    out: &mut String,
+    before: &str,
+    piece: &str,
+    after: &str,
+) -> Result<(), AllocError> {
+    push(out, before)?;
+    push(out, piece)?;
+    push(out, after)
+}
+
+// Adds a number after a piece.
+fn push_count(
+    alloc: Global,
+    out: &mut String,
+    before: &str,
+    number: usize,
+) -> Result<(), AllocError> {
+    push(out, before)?;
+    push_number(alloc, out, number)
+}
+
+// Adds a text as JSON has it, after a piece.
+fn push_quoted(out: &mut String, before: &str, text: &str) -> Result<(), AllocError> {
+    push(out, before)?;
+    push_json(out, text)
+}
+
 // What a fault is called: by its message, or by what its rule means.
 fn headline<'a>(spot: &Spot<'_>, message: Option<&'a Message>) -> &'a str {
     match message {
         Some(message) => message.headline.as_str(),
         None => meaning(spot.rule),
     }
+}
+
+// Adds a line below that of a fault, after its first blank.
+fn push_said(
+    line: &mut String,
+    has_color: bool,
+    kind: LineKind,
+    text: &str,
+) -> Result<(), AllocError> {
+    push(line, "   ")?;
+    paint(line, has_color, kind_color(kind))?;
+    push(line, kind_word(kind))?;
+    push(line, ":")?;
+    unpaint(line, has_color)?;
+    push(line, " ")?;
+    push_shown(line, text)
 }
 
 // A line below that of a fault, after its first blank.
@@ -58,14 +103,39 @@ fn below_text(
     kind: LineKind,
     text: &str,
 ) -> Result<String, AllocError> {
-    let mut line = String::from_str(alloc, "   ")?;
-    paint(&mut line, has_color, kind_color(kind))?;
-    push(&mut line, kind_word(kind))?;
-    push(&mut line, ":")?;
-    unpaint(&mut line, has_color)?;
-    push(&mut line, " ")?;
-    push_shown(&mut line, text)?;
+    let mut line = String::new(alloc);
+    push_said(&mut line, has_color, kind, text)?;
     Ok(line)
+}
+
+// Adds the line of the source in which a fault lies, and marks below it.
+fn add_excerpt(
+    alloc: Global,
+    has_color: bool,
+    spot: &Spot<'_>,
+    below: &mut Vec<String>,
+) -> Result<(), AllocError> {
+    let Excerpt { line, marks } = excerpt_of(alloc, has_color, spot)?;
+    add(below, line)?;
+    add(below, marks)
+}
+
+// Adds the line of the source where that is shown, and the lines of a message.
+fn add_below(
+    alloc: Global,
+    look: Look,
+    spot: &Spot<'_>,
+    message: &Message,
+    below: &mut Vec<String>,
+) -> Result<(), AllocError> {
+    if look.source {
+        add_excerpt(alloc, look.color, spot, below)?;
+    }
+    for said in &message.lines {
+        let line = below_text(alloc, look.color, said.kind, said.text.as_str())?;
+        add(below, line)?;
+    }
+    Ok(())
 }
 
 // The words of a text: the message, the line of the source where that is shown, and the lines of the message.
@@ -78,16 +148,8 @@ fn text_words(
     let mut line = String::new(alloc);
     push_shown(&mut line, headline(spot, message))?;
     let mut below = Vec::new(alloc);
-    let Some(message) = message else {
-        return Ok(Words { line, below });
-    };
-    if look.source {
-        let shown = excerpt_of(alloc, look.color, spot)?;
-        below.push(shown.line)?;
-        below.push(shown.marks)?;
-    }
-    for said in &message.lines {
-        below.push(below_text(alloc, look.color, said.kind, said.text.as_str())?)?;
+    if let Some(message) = message {
+        add_below(alloc, look, spot, message, &mut below)?;
     }
     Ok(Words { line, below })
 }
@@ -108,13 +170,9 @@ fn push_root(
         return push(out, "null");
     };
     let file = file_shown(alloc, scope, package, source.name())?;
-    push(out, "{\"file\":\"")?;
-    push(out, file.as_str())?;
-    push(out, "\",\"offset\":")?;
+    push_between(out, "{\"file\":\"", file.as_str(), "\",\"offset\":")?;
     push_number(alloc, out, root.offset)?;
-    push(out, ",\"rule\":\"")?;
-    push(out, root.rule.number())?;
-    push(out, "\"}")
+    push_between(out, ",\"rule\":\"", root.rule.number(), "\"}")
 }
 
 // Adds a line of a message that helps, or another one.
@@ -128,14 +186,9 @@ fn push_member(out: &mut String, kind: LineKind, fits: bool, text: &str) -> Resu
                 "{\"fits\":false"
             },
         )?,
-        _ => {
-            push(out, "{\"kind\":\"")?;
-            push(out, kind_word(kind))?;
-            push(out, "\"")?;
-        }
+        _ => push_between(out, "{\"kind\":\"", kind_word(kind), "\"")?,
     }
-    push(out, ",\"text\":\"")?;
-    push_json(out, text)?;
+    push_quoted(out, ",\"text\":\"", text)?;
     push(out, "\"}")
 }
 
@@ -180,9 +233,7 @@ fn push_kind(
         return Ok(false);
     };
     push(out, separator)?;
-    push(out, "\"")?;
-    push(out, kind_word(kind))?;
-    push(out, "\":\"")?;
+    push_between(out, "\"", kind_word(kind), "\":\"")?;
     push_json(out, text)?;
     push(out, "\"")?;
     Ok(true)
@@ -200,70 +251,78 @@ fn push_types(out: &mut String, message: Option<&Message>) -> Result<(), AllocEr
 
 // Adds where what a fault is of lies.
 fn push_at(alloc: Global, out: &mut String, spot: &Spot<'_>, end: usize) -> Result<(), AllocError> {
-    push(out, ",\"at\":{\"column\":")?;
-    push_number(alloc, out, spot.at.column)?;
-    push(out, ",\"end\":")?;
-    push_number(alloc, out, end)?;
-    push(out, ",\"line\":")?;
-    push_number(alloc, out, spot.at.line)?;
-    push(out, ",\"offset\":")?;
-    push_number(alloc, out, spot.offset)?;
+    push_count(alloc, out, ",\"at\":{\"column\":", spot.at.column)?;
+    push_count(alloc, out, ",\"end\":", end)?;
+    push_count(alloc, out, ",\"line\":", spot.at.line)?;
+    push_count(alloc, out, ",\"offset\":", spot.offset)?;
     push(out, "}")
 }
 
-// The further members of an object.
-fn json_words(
+// How much a fault counts.
+fn severity(told: Told) -> &'static str {
+    if follows(told) {
+        return "note";
+    }
+    "error"
+}
+
+// Adds the members that say what a fault is.
+fn push_saying(
+    out: &mut String,
+    spot: &Spot<'_>,
+    name: &str,
+    told: Told,
+    message: Option<&Message>,
+) -> Result<(), AllocError> {
+    push(out, ",\"helps\":[")?;
+    push_members(out, message, true)?;
+    push_quoted(out, "],\"message\":\"", headline(spot, message))?;
+    push_quoted(out, "\",\"name\":\"", name)?;
+    push(out, "\",\"notes\":[")?;
+    push_members(out, message, false)?;
+    push_between(out, "],\"severity\":\"", severity(told), "\"")?;
+    push_types(out, message)
+}
+
+// Adds the further members of an object.
+fn push_object_words(
     alloc: Global,
+    out: &mut String,
     scope: &Scope<'_>,
     workspace: &Workspace,
     spot: &Spot<'_>,
     told: Told,
     message: Option<&Message>,
-) -> Result<String, AllocError> {
+) -> Result<(), AllocError> {
     let name = word_at(spot.text, spot.offset);
     let end = spot.offset.saturating_add(name.len());
-    let mut line = String::new(alloc);
-    push_at(alloc, &mut line, spot, end)?;
+    push_at(alloc, out, spot, end)?;
     let root = if follows(told) { told.root } else { None };
-    push_root(alloc, &mut line, scope, workspace, root)?;
-    push(&mut line, ",\"end\":")?;
-    push_number(alloc, &mut line, end)?;
-    push(&mut line, ",\"helps\":[")?;
-    push_members(&mut line, message, true)?;
-    push(&mut line, "],\"message\":\"")?;
-    push_json(&mut line, headline(spot, message))?;
-    push(&mut line, "\",\"name\":\"")?;
-    push_json(&mut line, name)?;
-    push(&mut line, "\",\"notes\":[")?;
-    push_members(&mut line, message, false)?;
-    push(&mut line, "],\"severity\":\"")?;
-    push(&mut line, if follows(told) { "note" } else { "error" })?;
-    push(&mut line, "\"")?;
-    push_types(&mut line, message)?;
-    push(&mut line, "}")?;
-    Ok(line)
+    push_root(alloc, out, scope, workspace, root)?;
+    push_count(alloc, out, ",\"end\":", end)?;
+    push_saying(out, spot, name, told, message)?;
+    push(out, "}")
 }
 
-// What stands after the place of a command of GitHub's workflows.
-fn github_words(
+// Adds what stands after the place of a command of GitHub's workflows.
+fn push_command_words(
     alloc: Global,
+    out: &mut String,
     spot: &Spot<'_>,
     message: Option<&Message>,
-) -> Result<String, AllocError> {
+) -> Result<(), AllocError> {
     let name = word_at(spot.text, spot.offset);
-    let mut line = String::from_str(alloc, ",endColumn=")?;
-    push_number(alloc, &mut line, spot.at.column.saturating_add(name.len()))?;
-    push(&mut line, "::")?;
-    push_command(&mut line, headline(spot, message))?;
+    let end = spot.at.column.saturating_add(name.len());
+    push_count(alloc, out, ",endColumn=", end)?;
+    push(out, "::")?;
+    push_command(out, headline(spot, message))?;
     if let Some(message) = message {
         for said in &message.lines {
-            push(&mut line, "%0A")?;
-            push(&mut line, kind_word(said.kind))?;
-            push(&mut line, ": ")?;
-            push_command(&mut line, said.text.as_str())?;
+            push_between(out, "%0A", kind_word(said.kind), ": ")?;
+            push_command(out, said.text.as_str())?;
         }
     }
-    Ok(line)
+    Ok(())
 }
 
 /// The bytes of a line in front of a place that are counted as characters at most.
@@ -284,36 +343,50 @@ fn column_of(spot: &Spot<'_>) -> usize {
     }
 }
 
-// What stands after the place of a result of SARIF.
-fn sarif_words(
+// Adds what stands after the place of a result of SARIF.
+fn push_result_words(
     alloc: Global,
+    out: &mut String,
     spot: &Spot<'_>,
     message: Option<&Message>,
-) -> Result<String, AllocError> {
+) -> Result<(), AllocError> {
     let name = word_at(spot.text, spot.offset);
     let column = column_of(spot);
-    let mut line = String::from_str(alloc, ",\"byteLength\":")?;
-    push_number(alloc, &mut line, name.len())?;
-    push(&mut line, ",\"startColumn\":")?;
-    push_number(alloc, &mut line, column)?;
-    push(&mut line, ",\"endColumn\":")?;
-    push_number(
-        alloc,
-        &mut line,
-        column.saturating_add(name.chars().count()),
+    let end = column.saturating_add(name.chars().count());
+    push_count(alloc, out, ",\"byteLength\":", name.len())?;
+    push_count(alloc, out, ",\"startColumn\":", column)?;
+    push_count(alloc, out, ",\"endColumn\":", end)?;
+    push_quoted(
+        out,
+        "}}}],\"message\":{\"text\":\"",
+        headline(spot, message),
     )?;
-    push(&mut line, "}}}],\"message\":{\"text\":\"")?;
-    push_json(&mut line, headline(spot, message))?;
     if let Some(message) = message {
         for said in &message.lines {
-            push(&mut line, "\\n")?;
-            push(&mut line, kind_word(said.kind))?;
-            push(&mut line, ": ")?;
-            push_json(&mut line, said.text.as_str())?;
+            push_between(out, "\\n", kind_word(said.kind), ": ")?;
+            push_json(out, said.text.as_str())?;
         }
     }
-    push(&mut line, "\"}}")?;
-    Ok(line)
+    push(out, "\"}}")
+}
+
+// Adds what stands in the same line after the place of a fault, in a form that a tool reads.
+fn push_form_words(
+    alloc: Global,
+    out: &mut String,
+    format: Format,
+    scope: &Scope<'_>,
+    workspace: &Workspace,
+    spot: &Spot<'_>,
+    told: Told,
+    message: Option<&Message>,
+) -> Result<(), AllocError> {
+    match format {
+        Format::Text => Ok(()),
+        Format::Json => push_object_words(alloc, out, scope, workspace, spot, told, message),
+        Format::Github => push_command_words(alloc, out, spot, message),
+        Format::Sarif => push_result_words(alloc, out, spot, message),
+    }
 }
 
 /// What is said of a fault after its place and its rule: what its message says, or else what its rule means.
@@ -330,12 +403,20 @@ pub(crate) fn words_of(
     told: Told,
     message: Option<&Message>,
 ) -> Result<Words, AllocError> {
-    let line = match look.format {
-        Format::Text => return text_words(alloc, look, spot, message),
-        Format::Json => json_words(alloc, scope, workspace, spot, told, message)?,
-        Format::Github => github_words(alloc, spot, message)?,
-        Format::Sarif => sarif_words(alloc, spot, message)?,
-    };
+    if let Format::Text = look.format {
+        return text_words(alloc, look, spot, message);
+    }
+    let mut line = String::new(alloc);
+    push_form_words(
+        alloc,
+        &mut line,
+        look.format,
+        scope,
+        workspace,
+        spot,
+        told,
+        message,
+    )?;
     Ok(Words {
         line,
         below: Vec::new(alloc),

@@ -16,9 +16,9 @@ use Rattle.govisd_folders.specs.part_core.Parts.{PartModel}
 use Rattle.govisd_folders.specs.part_core.Slots.{somes}
 use Rattle.govisd_folders.specs.snap_core.Snapshots.{IsSnapshot, SnapshotModel}
 use Rattle.govisd_folders.specs.declared.checking.CheckAnswer.{CheckAnswer}
-use Rattle.govisd_folders.specs.Finds.{ReadModel, IsReadOf}
-use Rattle.govisd_folders.specs.Notes.{name_or_quotes, note_line}
-use Rattle.govisd_folders.specs.Scopes.{ScopeModel}
+use Rattle.govisd_disk.specs.Finds.{ReadModel, IsReadOf}
+use Rattle.govisd_disk.specs.Notes.{name_or_quotes, note_line}
+use Rattle.govisd_disk.specs.Scopes.{ScopeModel}
 use Rattle.govisd_runs.specs.Choices.{main_line, several_text}
 use Rattle.govisd_runs.specs.Outcomes.{NothingRan}
 use Rattle.govisd_runs.specs.Answers.{AnswersSnapshot, IsAnswerOfRun, IsRunOn, TellsFaults, WorkspaceIsRun, is_clean}

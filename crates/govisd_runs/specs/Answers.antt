@@ -8,8 +8,8 @@ use Rattle.govisd_folders.specs.part_core.Parts.{PartModel}
 use Rattle.govisd_folders.specs.part_core.Slots.{somes}
 use Rattle.govisd_folders.specs.snap_core.Snapshots.{IsSnapshot}
 use Rattle.govisd_folders.specs.declared.checking.CheckAnswer.{CheckAnswer}
-use Rattle.govisd_folders.specs.Finds.{ReadModel, Refused, Found, IsReadOf}
-use Rattle.govisd_folders.specs.Scopes.{ScopeModel}
+use Rattle.govisd_disk.specs.Finds.{ReadModel, Refused, Found, IsReadOf}
+use Rattle.govisd_disk.specs.Scopes.{ScopeModel}
 use Rattle.govisd_folders.specs.Telling.{AreTold}
 use Rattle.govisd_folders.specs.declared.looks.Look.{Look}
 use Rattle.govisd_folders.specs.declared.telling.Report.{Report}

@@ -3,9 +3,9 @@ use Rattle.std.specs.Prelude.{◌&&◌, ℕ, Bool, true, false, List, [], ◌∷
 use Rattle.std.specs.List.{flat_map}
 use Rattle.std.specs.Str.{bytes_eq}
 use Rattle.go_object_core.specs.Objects.{ObjectOf}
-use Rattle.govisd_folders.specs.Finds.{refused_line}
-use Rattle.govisd_folders.specs.Notes.{note_line}
-use Rattle.govisd_folders.specs.Scopes.{ScopeModel, is_inside}
+use Rattle.govisd_disk.specs.Finds.{refused_line}
+use Rattle.govisd_disk.specs.Notes.{note_line}
+use Rattle.govisd_disk.specs.Scopes.{ScopeModel, is_inside}
 
 abbrev pub path_if : Bool → List ℕ → List (List ℕ)
 path_if true path = path ∷ []

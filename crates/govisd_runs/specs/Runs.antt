@@ -11,9 +11,9 @@ use Rattle.go_run_core.specs.declared.outcome.Run.{Run}
 use Rattle.go_launch_core.specs.Located.{place_declared}
 use Rattle.go_site_core.specs.Sites.{site_text}
 use Rattle.govisd_folders.specs.declared.checking.CheckAnswer.{CheckAnswer}
-use Rattle.govisd_folders.specs.Finds.{refused_line}
-use Rattle.govisd_folders.specs.Notes.{name_or_quotes, refusal_line}
-use Rattle.govisd_folders.specs.Scopes.{ScopeModel}
+use Rattle.govisd_disk.specs.Finds.{refused_line}
+use Rattle.govisd_disk.specs.Notes.{name_or_quotes, refusal_line}
+use Rattle.govisd_disk.specs.Scopes.{ScopeModel}
 use Rattle.govisd_runs.specs.Outcomes.{NothingRan, TellsRun}
 use Rattle.govisd_runs.specs.Choices.{main_paths, several_text}
 

@@ -1,7 +1,7 @@
 //! What is answered of a run.
 ghost use Rattle.std.specs.Prelude.{◌≡◌, ◌++◌, IfOk, OnOk, string_bytes};
-ghost use Rattle.govisd_folders.specs.Finds.{refused_line};
-ghost use Rattle.govisd_folders.specs.Notes.{refusal_line};
+ghost use Rattle.govisd_disk.specs.Finds.{refused_line};
+ghost use Rattle.govisd_disk.specs.Notes.{refusal_line};
 ghost use Rattle.govisd_runs.specs.Outcomes.{HasRun, NothingRan, TellsRun, panic_text, value_text};
 
 use go_launch_core::{PanicValue, Run};

@@ -2,7 +2,7 @@
 ghost use Rattle.std.specs.Prelude.{◌≡◌, ◌++◌, IfOk, OnOk, codes, map, string_bytes};
 ghost use Rattle.std.specs.List.{flat_map};
 ghost use Rattle.go_object_core.specs.Objects.{object_shown};
-ghost use Rattle.govisd_folders.specs.Finds.{refused_line};
+ghost use Rattle.govisd_disk.specs.Finds.{refused_line};
 ghost use Rattle.govisd_runs.specs.Outcomes.{NothingRan};
 ghost use Rattle.govisd_runs.specs.Choices.{is_main, main_line, main_paths, path_if, several_text};
 

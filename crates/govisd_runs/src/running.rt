@@ -1,7 +1,7 @@
 //! From a folder to what its program comes to.
 ghost use Rattle.std.specs.Prelude.{◌≡◌, ◌++◌, IfOk, option_map, string_bytes};
 ghost use Rattle.govisd_folders.specs.snap_core.Snapshots.{IsSnapshot};
-ghost use Rattle.govisd_folders.specs.Finds.{read_shown};
+ghost use Rattle.govisd_disk.specs.Finds.{read_shown};
 ghost use Rattle.govisd_runs.specs.Answers.{AnswersSnapshot, IsAnswerOfRun, IsRunOn, TellsFaults, WorkspaceIsRun, is_clean};
 
 use crate::answers::nothing_ran;

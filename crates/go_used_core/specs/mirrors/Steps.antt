@@ -1,10 +1,19 @@
 -- Steps of the loops.
-use Rattle.std.specs.Prelude.{ℕ, Bool, ◌&&◌, not, if◌then◌else◌, List, [], ◌∷◌, ◌++◌, Option, Some, None}
+use Rattle.std.specs.Prelude.{ℕ, Bool, nat_eq, ◌&&◌, not, if◌then◌else◌, List, [], ◌∷◌, ◌++◌, Option, Some, None}
+use Rattle.std.specs.List.{fold, list_any}
 use Rattle.go_term_core.specs.tree_core.declared.occurrence.Occ.{Occ}
 use Rattle.go_answer_core.specs.block_core.Blocks.{BlocksModel}
 use Rattle.go_answer_core.specs.denote_core.declared.things.Outcome.TheVariants as outcomes
 use Rattle.go_answer_core.specs.local_core.declared.Fault.{Fault}
 use Rattle.go_used_core.specs.Used.{TheOutcome, FileUse, is_import, refused_use, used_by}
+
+-- places, each once, and one more behind them
+abbrev pub with_place : List ℕ → ℕ → List ℕ
+with_place places at = if list_any (nat_eq at) places then places else places ++ at ∷ []
+
+-- places, each once, and more behind them
+abbrev pub with_places : List ℕ → List ℕ → List ℕ
+with_places places more = fold with_place places more
 
 -- the place of the import that an occurrence uses, if it has something
 abbrev pub some_used : BlocksModel → ℕ → Occ → Option FileUse → Option FileUse → List ℕ

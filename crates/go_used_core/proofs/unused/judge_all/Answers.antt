@@ -1,4 +1,4 @@
-use Rattle.std.proofs.Common.{nat_eq, sym, ap, set, ◌∙◌}
+use Rattle.std.proofs.Common.{nat_eq, refl, sym, ap, set, ◌∙◌}
 use Rattle.std.proofs.lemmas.List.Edits.{map_over_more}
 use Rattle.std.specs.HashSet.{contains}
 use Rattle.go_used_core.specs.Used.{judged_import}
@@ -9,8 +9,8 @@ use Rattle.go_used_core.proofs.unused.judge_all.Goals as goal
 pub loop-answer-preserved : goal.loop-answer-preserved
 loop-answer-preserved c =
     let places = c.args.places.now in
-    let stands = contains nat_eq c.in_ok-set.set in
+    let stands = contains nat_eq places in
     let n = c.loop-answer.answer-index in
-    let judged = c.judge.ensures ∙ (ap (judged_by stands) (sym c.answer-item.is) ∙ judged_alike stands places c.in_ok-set.ensures c.answer-item.result) in
+    let judged = c.judge.ensures ∙ (ap (judged_by stands) (sym c.answer-item.is) ∙ judged_alike stands places.keys (λ at. refl) c.answer-item.result) in
     ap (set c.loop-answer.answers n) judged
-    ∙ map_over_more (judged_import places) c.args.answers.now c.loop-answer.answers n c.answer-item.result c.loop-answer-test.true c.loop-answer.invariant c.answer-item.is
+    ∙ map_over_more (judged_import places.keys) c.args.answers.now c.loop-answer.answers n c.answer-item.result c.loop-answer-test.true c.loop-answer.invariant c.answer-item.is

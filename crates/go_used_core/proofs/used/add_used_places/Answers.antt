@@ -6,6 +6,6 @@ loop-number-preserved c =
     let b = c.args.blocks.now in
     let file = c.args.file in
     let o = c.index-occs-number.result in
-    used_step b file c.args.occs.now c.args.answers.now c.loop-number.number o c.loop-number.places.items _ _ c.loop-number-test.true c.index-occs-number.is
-    (some_both b file o _ _ _ _ c.loop-number.places.items _ c.in_ok-add_used.ensures c.answer_at-answer.ensures c.answer_at-next.ensures)
+    used_step b file c.args.occs.now c.args.answers.now c.loop-number.number o c.loop-number.places.keys _ _ c.loop-number-test.true c.index-occs-number.is
+    (some_both b file o _ _ _ _ c.loop-number.places.keys _ c.in_ok-add_used.ensures c.answer_at-answer.ensures c.answer_at-next.ensures)
     c.loop-number.invariant

@@ -1,5 +1,5 @@
 use Rattle.std.proofs.lemmas.Result.{IfOk-weaker}
-use Rattle.govisd_folders.specs.Finds.{read_shown}
+use Rattle.govisd_disk.specs.Finds.{read_shown}
 use Rattle.govisd_folders.proofs.checking.check_read.Goals as goal
 
 pub returns : goal.returns

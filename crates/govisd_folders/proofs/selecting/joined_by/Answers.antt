@@ -1,6 +1,6 @@
 use Rattle.std.proofs.Common.{◌++◌, ◌∷◌, [], ◌∙◌, ap, inl, inr}
 use Rattle.std.proofs.lemmas.Slice.Zip.{Zip-more, either_empty_from_Zip}
-use Rattle.govisd_folders.specs.Scopes.{joined_by}
+use Rattle.govisd_folders.specs.Selecting.{joined_by}
 use Rattle.govisd_folders.proofs.SelectingLemmas.{causes_ended, joined_step, names_ended}
 use Rattle.govisd_folders.proofs.selecting.joined_by.Goals as goal
 

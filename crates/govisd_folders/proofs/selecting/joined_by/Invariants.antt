@@ -1,5 +1,5 @@
 use Rattle.std.proofs.Common.{◌≡◌, ◌++◌}
-use Rattle.govisd_folders.specs.Scopes.{joined_by}
+use Rattle.govisd_folders.specs.Selecting.{joined_by}
 use Rattle.govisd_folders.proofs.selecting.joined_by.Given as goal
 
 abbrev pub invariant-loop-cause : goal.invariant-loop-cause

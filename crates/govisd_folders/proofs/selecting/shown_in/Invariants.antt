@@ -1,5 +1,5 @@
 use Rattle.std.proofs.Common.{◌≡◌, ◌++◌, drop}
-use Rattle.govisd_folders.specs.Scopes.{shown_in}
+use Rattle.govisd_folders.specs.Selecting.{shown_in}
 use Rattle.govisd_folders.proofs.selecting.shown_in.Given as goal
 
 abbrev pub invariant-loop-fault : goal.invariant-loop-fault

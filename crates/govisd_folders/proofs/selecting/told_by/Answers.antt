@@ -1,6 +1,6 @@
 use Rattle.std.proofs.Common.{◌++◌, ◌∷◌, [], ◌∙◌, ap, inl, inr}
 use Rattle.std.proofs.lemmas.Slice.Zip.{Zip-more, either_empty_from_Zip}
-use Rattle.govisd_folders.specs.Scopes.{told_by, told_of}
+use Rattle.govisd_folders.specs.Selecting.{told_by, told_of}
 use Rattle.govisd_folders.proofs.SelectingLemmas.{no_causes, no_faults, told_step}
 use Rattle.govisd_folders.proofs.selecting.told_by.Goals as goal
 

@@ -1,5 +1,5 @@
 use Rattle.std.proofs.Common.{◌≡◌, ◌++◌}
-use Rattle.govisd_folders.specs.Scopes.{told_by}
+use Rattle.govisd_folders.specs.Selecting.{told_by}
 use Rattle.govisd_folders.proofs.selecting.told_by.Given as goal
 
 abbrev pub invariant-loop-fault : goal.invariant-loop-fault

@@ -1,5 +1,5 @@
 use Rattle.std.proofs.Common.{◌≡◌, ◌++◌, drop}
-use Rattle.govisd_folders.specs.Scopes.{told_in}
+use Rattle.govisd_folders.specs.Selecting.{told_in}
 use Rattle.govisd_folders.proofs.selecting.told_in.Given as goal
 
 abbrev pub invariant-loop-fault : goal.invariant-loop-fault

@@ -1,6 +1,6 @@
 use Rattle.std.proofs.Common.{Vec}
 use Rattle.std.specs.Global.{Global}
-use Rattle.govisd_folders.specs.Scopes.{ScopeModel}
+use Rattle.govisd_disk.specs.Scopes.{ScopeModel}
 use Rattle.govisd_folders.specs.declared.selecting.Told.{Told}
 use Rattle.govisd_folders.proofs.ReportLemmas.{told_of_all}
 use Rattle.govisd_folders.proofs.telling.faults_of.Goals as goal

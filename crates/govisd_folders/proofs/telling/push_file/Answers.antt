@@ -1,7 +1,7 @@
 use Rattle.std.proofs.Common.{◌∙◌, ap}
 use Rattle.go_folder_core.specs.Folders.{joined_path}
 use Rattle.govisd_folders.specs.Telling.{file_text}
-use Rattle.govisd_folders.proofs.TellingLemmas.{some_from}
+use Rattle.govisd_disk.proofs.ScopeLemmas.{some_from}
 use Rattle.govisd_folders.proofs.telling.push_file.Goals as goal
 
 pub push_run-requires-clause-lies : goal.push_run-requires-clause-lies

@@ -1,5 +1,6 @@
 use Rattle.std.proofs.Common.{◌≡◌, ◌∙◌, ap, ap₂}
-use Rattle.govisd_folders.specs.Scopes.{ScopeModel, joined_by, told_by, told_in}
+use Rattle.govisd_disk.specs.Scopes.{ScopeModel}
+use Rattle.govisd_folders.specs.Selecting.{joined_by, told_by, told_in}
 use Rattle.govisd_folders.proofs.ReportLemmas.{lie_told, told_ended}
 use Rattle.govisd_folders.proofs.telling.told.Goals as goal
 

@@ -2,7 +2,7 @@ use Rattle.std.proofs.Common.{◌++◌, List, ℕ, subst}
 use Rattle.std.specs.Prelude.{string_bytes}
 use Rattle.std.proofs.lemmas.Result.{IfOk-weaker}
 use Rattle.go_text_core.specs.declared.rule.Rule.TheVariants.{J2}
-use Rattle.govisd_folders.specs.Notes.{refusal_line}
+use Rattle.govisd_disk.specs.Notes.{refusal_line}
 use Rattle.govisd_runs.specs.Outcomes.{NothingRan}
 use Rattle.govisd_runs.proofs.blame.refuse_beyond.Goals as goal
 

@@ -1,6 +1,6 @@
 use Rattle.std.proofs.Common.{map, subst}
 use Rattle.go_object_core.specs.Objects.{object_shown}
-use Rattle.govisd_folders.specs.Puts.{IsPathOf}
+use Rattle.govisd_disk.specs.Puts.{IsPathOf}
 use Rattle.govisd_runs.proofs.RunLemmas.{path_named}
 use Rattle.govisd_runs.proofs.packages.run_named.Goals as goal
 

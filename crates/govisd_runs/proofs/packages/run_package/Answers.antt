@@ -2,8 +2,8 @@ use Rattle.std.proofs.Common.{◌++◌, List, ℕ, map, subst}
 use Rattle.std.proofs.lemmas.Result.{IfOk-weaker}
 use Rattle.go_text_core.specs.declared.rule.Rule.TheVariants.{J1}
 use Rattle.go_object_core.specs.Objects.{object_shown}
-use Rattle.govisd_folders.specs.Finds.{refused_line}
-use Rattle.govisd_folders.specs.Notes.{refusal_line}
+use Rattle.govisd_disk.specs.Finds.{refused_line}
+use Rattle.govisd_disk.specs.Notes.{refusal_line}
 use Rattle.govisd_runs.specs.Outcomes.{NothingRan}
 use Rattle.govisd_runs.specs.Runs.{ItHasNoMain, ItIsBeyond, ItIsStuck, ItRan, program_at}
 use Rattle.govisd_runs.proofs.RunLemmas.{beyond_of, cannot_run, no_main_of, stuck_of}

@@ -1,5 +1,5 @@
 use Rattle.std.specs.Prelude.{option_map}
-use Rattle.govisd_folders.specs.Finds.{read_shown}
+use Rattle.govisd_disk.specs.Finds.{read_shown}
 use Rattle.govisd_runs.proofs.RunLemmas.{of_read}
 use Rattle.govisd_runs.proofs.running.run_read.Goals as goal
 

@@ -1,0 +1,28 @@
+//! What is said of selectors, and of composite literals and their keys.
+#![tactic(auto)]
+
+mod literals;
+mod members;
+
+pub use literals::of_literal;
+pub use members::of_selector;
+
+/// What the crates above name of `go_case_core`.
+pub mod case_core {
+    pub use go_case_core::Case;
+}
+
+/// What the crates above name of `go_diagnostic_core`.
+pub mod diagnostic_core {
+    pub use go_case_core::diagnostic_core::{Message, ScannedFile};
+}
+
+/// What the crates above name of `go_judge_core`.
+pub mod judge_core {
+    pub use go_case_core::judge_core::{CheckedFile, Piece};
+}
+
+/// What the crates above name of `go_snap_core`.
+pub mod snap_core {
+    pub use go_case_core::snap_core::{PlacedFault, Snapshot};
+}

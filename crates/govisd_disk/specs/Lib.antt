@@ -1,0 +1,5 @@
+pub mod Finds
+pub mod Notes
+pub mod Puts
+pub mod Reads
+pub mod Scopes

@@ -1,0 +1,11 @@
+//! What an editor is told without being asked, and what it may change: faults, quick fixes, renames.
+#![tactic(auto)]
+
+mod fixing;
+mod publishing;
+mod related;
+mod renaming;
+
+pub use fixing::code_actions;
+pub use publishing::publish;
+pub use renaming::{prepare_rename, rename};
