@@ -1,5 +1,5 @@
 #!/usr/bin/env python3
-"""Measures `govisd_cases counts` beside go/parser with go/types on workspaces that a whole check finds no fault in (checked.py), prints a table and checks the
+"""Measures `test_cases counts` beside go/parser with go/types on workspaces that a whole check finds no fault in (checked.py), prints a table and checks the
 bounds and the counts."""
 import argparse
 import os
@@ -61,7 +61,7 @@ class Sample:
         """What both programs should have said."""
         counts = self.govisd.counts()
         if len(self.govisd.said) > 1 or counts["packages"] < 1 or counts["refused"] or counts["faults"]:
-            yield f"{self.name}: govisd_cases says {', '.join(self.govisd.said)}"
+            yield f"{self.name}: test_cases says {', '.join(self.govisd.said)}"
         if not self.peer:
             return
         other = self.peer.counts()
@@ -69,7 +69,7 @@ class Sample:
             yield f"{self.name}: go/types has {other['errors']} errors, and {other['packages']} packages"
         # each call is an occurrence besides
         if counts["occurrences"] < other["identifiers"]:
-            yield f"{self.name}: govisd_cases has {counts['occurrences']} occurrences, go/types {other['identifiers']} identifiers"
+            yield f"{self.name}: test_cases has {counts['occurrences']} occurrences, go/types {other['identifiers']} identifiers"
 
 
 def judged(found, aim, bound, said, missed, wrong):

@@ -1,5 +1,5 @@
 #!/usr/bin/env python3
-"""Measures `govisd_cases sources`, and the Go peer, on workspaces of many packages whose trees are all held at once, prints
+"""Measures `test_cases sources`, and the Go peer, on workspaces of many packages whose trees are all held at once, prints
 a table, and checks the bounds and the counts."""
 import argparse
 import os

@@ -1,5 +1,5 @@
 #!/usr/bin/env python3
-"""Measures `govisd resolve` or `govisd_cases parse`, and the Go peer, on the benchmark files, prints a table and
+"""Measures `govisd resolve` or `test_cases parse`, and the Go peer, on the benchmark files, prints a table and
 checks the bounds."""
 import argparse
 import os

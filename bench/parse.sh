@@ -1,9 +1,9 @@
 #!/bin/sh
-# Measures the parser beside go/scanner and go/parser: `govisd_cases parse` on files of 1 MB over the whole grammar, and
-# `govisd_cases sources` on workspaces of up to 4,096 packages, whose trees are all held at once. Checks that the times and the
+# Measures the parser beside go/scanner and go/parser: `test_cases parse` on files of 1 MB over the whole grammar, and
+# `test_cases sources` on workspaces of up to 4,096 packages, whose trees are all held at once. Checks that the times and the
 # memory are within bounds. README.md beside this file says what is measured.
 #
-#     bench/parse.sh                     the program crates/govisd_cases/out/govisd_cases
+#     bench/parse.sh                     the program crates/test_cases/out/test_cases
 #     GOVISD_CASES=FILE bench/parse.sh   another program
 #
 # Status 0 where all bounds hold, 1 where not, 2 where something could not be measured.

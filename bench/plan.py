@@ -1,5 +1,5 @@
 #!/usr/bin/env python3
-"""Measures `govisd_cases plan` and `govisd_cases sources` on the archives of workspaces.py, and `go list -deps` on the
+"""Measures `test_cases plan` and `test_cases sources` on the archives of workspaces.py, and `go list -deps` on the
 modules, prints a table, and checks the bounds and the counts."""
 import argparse
 import os

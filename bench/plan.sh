@@ -2,7 +2,7 @@
 # Measures what planning the imports of up to 4,096 packages takes, beside `go list -deps`, and checks that the time, the
 # memory and the counts are right. README.md beside this file says what is measured.
 #
-#     bench/plan.sh                     the program crates/govisd_cases/out/govisd_cases
+#     bench/plan.sh                     the program crates/test_cases/out/test_cases
 #     GOVISD_CASES=FILE bench/plan.sh   another program
 #     WITHOUT_GO=1 bench/plan.sh        without go list, which takes longer than all else
 #

@@ -26,7 +26,7 @@ def scripts():
     """The lines of each script, with its name."""
     for file in sorted(os.listdir(f"{BENCH}/scripts")):
         name = file.removesuffix(".replies")
-        with open(f"{BENCH}/../crates/govisd_cases/data/script_{name}.txt", "rb") as lines:
+        with open(f"{BENCH}/../crates/test_cases/data/script_{name}.txt", "rb") as lines:
             yield name, lines.read().split(b"\n")
     for name, make in made_scripts.MADE.items():
         yield name, [line.encode() for line in make().requests]

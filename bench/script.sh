@@ -1,6 +1,6 @@
 #!/bin/sh
 # Serves scripts of sessions and compares their replies and exit statuses, with one worker and with eight: bench/script.sh [PROGRAM [NAME]..]
-# The scripts are those of the gate, crates/govisd_cases/data/script_NAME.txt with the replies bench/scripts/NAME.replies, and those that made_scripts.py makes;
+# The scripts are those of the gate, crates/test_cases/data/script_NAME.txt with the replies bench/scripts/NAME.replies, and those that made_scripts.py makes;
 # with names it is these of the latter alone (history: as many events as a daemon takes). Their replies were worked out from docs/RULES.md and
 # docs/DAEMON.md. A script whose last reply is V1 ends with status 1, and others with 0.
 set -eu
@@ -13,7 +13,7 @@ if [ $# -eq 0 ]; then
     for replies in bench/scripts/*.replies; do
         name=$(basename "$replies" .replies)
         cp "$replies" "$work"
-        cp "crates/govisd_cases/data/script_$name.txt" "$work/$name.txt"
+        cp "crates/test_cases/data/script_$name.txt" "$work/$name.txt"
     done
 fi
 python3 bench/made_scripts.py "$work" "$@"

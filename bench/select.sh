@@ -2,7 +2,7 @@
 # Measures what selectors take, and what building the types of a workspace takes, beside go/types in the same run, and checks the bounds and
 # the counts. README.md beside this file says what is measured.
 #
-#     bench/select.sh                        the program crates/govisd_cases/out/govisd_cases
+#     bench/select.sh                        the program crates/test_cases/out/test_cases
 #     GOVISD_CASES=FILE bench/select.sh   another program
 #
 # Status 0 where all bounds hold, 1 where not, 2 where nothing could be measured.

@@ -1,5 +1,5 @@
 #!/usr/bin/env python3
-"""Measures `govisd_cases first` beside go/types on workspaces of types that embed one another: what one look-up takes (ten times the same
+"""Measures `test_cases first` beside go/types on workspaces of types that embed one another: what one look-up takes (ten times the same
 look-ups, less once), and what the snapshot takes, types among it (less the look-ups)."""
 import argparse
 import os

@@ -1,14 +1,17 @@
 #!/usr/bin/env python3
-"""Foretells how long a gate takes from nothing: python3 tools/foretell.py [ROOT] [LANES] [SPEED]
+"""Foretells how long a gate takes that keeps nothing: python3 tools/foretell.py [ROOT] [LANES] [SPEED]
 
-From the seconds of the table in docs/GATE.md and the order in which `rt ci` begins its tasks, each with one job. It proves and runs nothing. It tells the
-processor minutes of all checks, the minutes of the run, and the longest chain of crates with what each on it takes. SPEED divides the seconds of the table.
-A crate that the table has no seconds of counts as 60.
+From the seconds of the table in docs/GATE.md, the paths of crates.txt (rattle-kit-13f goes down each some sixteen times a crate, a microsecond each time, and
+reads each source once) and the order in which `rt ci` begins its tasks. It proves and runs nothing. It tells the processor minutes of all checks, those of
+the paths, the minutes of the run, and the longest chain of crates with what each on it takes. SPEED divides the seconds of the table.
 """
 import heapq
 import os
 import re
 import sys
+
+A_PATH = 15e-6
+
 
 def text_of(path):
     with open(path, encoding="utf-8") as file:
@@ -28,20 +31,29 @@ class Gate:
         self.lines, self.edits = {}, {}
         for name in lists:
             self.look_at(name, f"{root}/crates/{name}")
-        self.under, self.ends = {}, {}
+        self.read, self.under, self.ends = {}, {}, {}
 
     def look_at(self, name, folder):
         paths = [f"{at}/{it}" for part in ("src", "specs", "proofs") for at, _, found in os.walk(f"{folder}/{part}") for it in found]
         self.lines[name] = sum(text_of(it).count("\n") for it in paths if it.endswith(".rt"))
         self.edits[name] = sum(it.endswith(".edit") for it in os.listdir(f"{folder}/must-fail")) if os.path.isdir(f"{folder}/must-fail") else 0
 
+    def paths(self, name):
+        """How many paths of crates.txt begin with a crate."""
+        if name not in self.read:
+            self.read[name] = 1 + sum(self.paths(it) for it in self.lists[name])
+        return self.read[name]
+
     def below(self, name):
         if name not in self.under:
             self.under[name] = {*self.lists[name]}.union(*[self.below(it) for it in self.lists[name]])
         return self.under[name]
 
+    def reading(self, name):
+        return self.paths(name) * A_PATH
+
     def proof(self, name):
-        return self.seconds.get(name, 60)
+        return self.seconds.get(name, 60) + self.reading(name)
 
     def tasks(self):
         """Each task with what it waits for, the lines that it counts for, and its seconds."""
@@ -86,7 +98,8 @@ def main(words):
     root, lanes, speed = (words + [".", "4", "1"][len(words) :])[:3]
     gate = Gate(root, float(speed))
     chain = [*gate.chain()]
-    print(f"{sum(map(gate.proof, gate.lists)) / 60:.0f} processor minutes of checks; {gate.minutes(int(lanes)):.0f} minutes with {lanes} lanes")
+    checks, reading = sum(gate.seconds.get(it, 60) for it in gate.lists), sum(map(gate.reading, gate.lists))
+    print(f"{checks / 60:.0f} processor minutes of checks, {reading / 60:.1f} of paths; {gate.minutes(int(lanes)):.0f} minutes with {lanes} lanes")
     print(f"the longest chain, {gate.end(chain[0])[0] / 60:.0f} minutes: " + ", ".join(f"{it} {gate.proof(it):.0f}" for it in reversed(chain)))
 
 

@@ -1,8 +1,8 @@
 #!/usr/bin/env python3
-"""Makes docs/CRATES.md from the pages of the crates, and finds what the documents name that is not there: python3 tools/proved.py [--check]
+"""Finds what the documents name that is not there: python3 tools/proved.py [--check]
 
-docs/CRATES.md has of each crate of crates.txt, in order, the first sentence of crates/NAME/README.md. With --check nothing is written, and the status is
-1 where docs/CRATES.md is another, where a crate has no page, or where a document names a file, a definition or a call that is not there. It takes a second.
+It writes nothing, with --check or without. The status is 1 where a crate has no page, or where a document names a file, a definition or a call that is not
+there. It takes a second.
 """
 import os
 import re
@@ -24,18 +24,10 @@ def crates():
     return [it.partition(":")[0].split()[0] for it in lines if it.strip() and not it.startswith("#")]
 
 
-def page_of(crate):
-    """The first paragraph of the page of a crate, in one line; none where there is no page."""
+def has_page(crate):
+    """Whether a crate has a page that begins with its name."""
     path = f"crates/{crate}/README.md"
-    if not os.path.exists(f"{ROOT}/{path}"):
-        return None
-    parts = text_of(path).split("\n\n")
-    return " ".join(parts[1].split()) if len(parts) > 1 and parts[0].startswith("# ") else None
-
-
-def proved(names, pages):
-    head = "# What each crate answers\n\nFrom the bottom up. `crates/NAME/README.md` has what is proved of it. This page is made by `tools/proved.py`.\n"
-    return head + "\n| Crate | Answers |\n|---|---|\n" + "".join(f"| [`{it}`](../crates/{it}/README.md) | {pages[it]} |\n" for it in names if pages[it])
+    return os.path.exists(f"{ROOT}/{path}") and text_of(path).startswith(f"# {crate}\n")
 
 
 def words_there(names):
@@ -75,15 +67,7 @@ def missing(document, words):
 
 def main():
     names = crates()
-    pages = {it: page_of(it) for it in names}
-    faults = [f"crates/{it}/README.md: no page" for it in names if not pages[it]]
-    page = proved(names, pages)
-    if "--check" in sys.argv[1:]:
-        if not os.path.exists(f"{ROOT}/docs/CRATES.md") or text_of("docs/CRATES.md") != page:
-            faults.append("docs/CRATES.md: run tools/proved.py")
-    else:
-        with open(f"{ROOT}/docs/CRATES.md", "w", encoding="utf-8") as file:
-            file.write(page)
+    faults = [f"crates/{it}/README.md: no page" for it in names if not has_page(it)]
     words = words_there(names)
     for document in DOCUMENTS:
         faults += missing(document, words)

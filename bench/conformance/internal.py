@@ -1,5 +1,5 @@
 #!/usr/bin/env python3
-"""Compares which imports `govisd_cases packages` refuses by I3 with those that `go list` refuses as the use of an
+"""Compares which imports `test_cases packages` refuses by I3 with those that `go list` refuses as the use of an
 internal package. The same pairs each time, of importer and imported package."""
 import argparse
 import json
@@ -131,12 +131,12 @@ class Pair:
         return f'package p\n\nimport _ "{self.imported}"\n'
 
     def place(self):
-        """The place of the import as govisd_cases tells it: the offset is that of the string."""
+        """The place of the import as test_cases tells it: the offset is that of the string."""
         offset = self.text().index('"')
         return f"{self.importer}/{FILE}:{offset}"
 
     def wanted(self):
-        """What govisd_cases must answer, if the go command says what it says."""
+        """What test_cases must answer, if the go command says what it says."""
         if self.theirs == "refused":
             return "I3"
         return "I4" if self.importer == self.imported else self.imported
@@ -283,12 +283,12 @@ def ask_go(given, folder, tree):
 
 
 def ask_govisd(given, folder, tree):
-    """Sets what govisd_cases answers for the import of each pair."""
+    """Sets what test_cases answers for the import of each pair."""
     lines = said_by([given.probe, "packages", archive(folder)]).splitlines()
     imports = [line.split(" ") for line in lines if line.startswith("import ")]
     answers = {words[1]: words[2] for words in imports if len(words) == 3}
     if len(imports) != len(answers) or set(answers) != {pair.place() for pair in tree.pairs}:
-        sys.stderr.write(f"internal.py: {archive(folder)}: govisd_cases answers for other imports than there are\n")
+        sys.stderr.write(f"internal.py: {archive(folder)}: test_cases answers for other imports than there are\n")
         sys.exit(2)
     for pair in tree.pairs:
         pair.ours = answers[pair.place()]
@@ -310,7 +310,7 @@ def report(pairs):
         print(f"left out, {reason}: {sum(pair.left_out == reason for pair in pairs)}")
     differing = [pair for pair in compared if pair.differs()]
     for pair in differing:
-        print(f"differs: {pair.importer} imports {pair.imported}: go list: {pair.theirs}; govisd_cases: {pair.ours}")
+        print(f"differs: {pair.importer} imports {pair.imported}: go list: {pair.theirs}; test_cases: {pair.ours}")
     return len(compared), len(differing)
 
 

@@ -2,7 +2,7 @@
 # Compares what stands in whole packages by govisd and by go/types: generated packages of the whole grammar, correct ones, ones with one error put in,
 # and ones that are changed at one place. PACKAGES.md in this folder says what is compared.
 #
-#     bench/conformance/packages.sh                        the program crates/govisd_cases/out/govisd_cases
+#     bench/conformance/packages.sh                        the program crates/test_cases/out/test_cases
 #     GOVISD_CASES=FILE bench/conformance/packages.sh   another program
 #     PACKAGES=400 bench/conformance/packages.sh           so many workspaces in place of 4,000
 #

@@ -4,7 +4,7 @@
 #     bench/conformance/scan.sh              every .go file of Debian's package golang-1.19-src
 #     bench/conformance/scan.sh FILE.go ..   these files
 #
-# GOVISD_CASES names another program than crates/govisd_cases/out/govisd_cases. Status 0 where the two agree but for
+# GOVISD_CASES names another program than crates/test_cases/out/test_cases. Status 0 where the two agree but for
 # the forms that are named, 1 where not, 2 where not all could be compared.
 set -uo pipefail
 

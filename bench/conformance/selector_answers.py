@@ -1,5 +1,5 @@
 #!/usr/bin/env python3
-"""Compares what selectors denote by `govisd_cases select` and by go/types' LookupFieldOrMethod, over generated workspaces of types that embed
+"""Compares what selectors denote by `test_cases select` and by go/types' LookupFieldOrMethod, over generated workspaces of types that embed
 one another. The same workspaces each time."""
 import argparse
 import os

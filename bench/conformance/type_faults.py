@@ -1,5 +1,5 @@
 #!/usr/bin/env python3
-"""Compares the faults of types by `govisd_cases ask` with the errors of go/types, over generated workspaces of type declarations with methods."""
+"""Compares the faults of types by `test_cases ask` with the errors of go/types, over generated workspaces of type declarations with methods."""
 import argparse
 import os
 import re

@@ -1,7 +1,7 @@
 #!/bin/sh
 # Compares the worked archives with govisd and with go/types: the answers stand in them as comments. PACKAGES.md in this folder says what is compared.
 #
-#     bench/conformance/worked.sh                        the program crates/govisd_cases/out/govisd_cases
+#     bench/conformance/worked.sh                        the program crates/test_cases/out/test_cases
 #     GOVISD_CASES=FILE bench/conformance/worked.sh   another program
 #
 # Status 0 where nothing differs but in the ways that are named, 1 where something does, 2 where not all could be compared.
@@ -11,7 +11,7 @@ bench=$(dirname -- "$(dirname -- "$(readlink -f -- "$0")")")
 . "$bench/cases.sh"
 peer=$("$bench/go_peer.sh" conformance/gopackages) || exit 2
 folder=$out/worked
-data=$bench/../crates/govisd_cases/data
+data=$bench/../crates/test_cases/data
 rm -rf "$folder" && mkdir -p "$folder/few" || exit 2
 "$peer" table "$folder" && "$peer" table "$folder/few" || exit 2
 python3 -B "$bench/conformance/operands.py" "$folder" && python3 -B "$bench/conformance/operands.py" few "$folder/few" || exit 2

@@ -115,6 +115,11 @@ def definitions(client, root):
     holds("members of a type", found and [it["name"] for it in found[0]["children"]] == ["Width", "Height"], found)
     found = client.ask("workspace/symbol", {"query": "Box"})
     holds("symbols of all packages", len(found or []) == 11, found)
+    now = text + "\n// tick has ``` and ```` in its comment.\nfunc tick() {\n}\n"
+    client.change(main, 2, now)
+    found = client.at("hover", main, *place(now, "tick() {"))
+    holds("a block of a hover ends where its text does", "\n`````go\n// tick has ``` and ```` in its comment.\n`````\n" in said(found), found)
+    client.change(main, 3, text)
 
 
 def faults(client, root):
@@ -158,6 +163,8 @@ def broken(client, root):
         holds(f"references beside {line!r}", found and len(found) == 2, found)
         told = client.told(main)
         holds(f"one fault with {line!r}", len(told) == 1, told)
+        headline = told[0]["message"].split("\n")[0] if told else ""
+        holds(f"it says what was met with {line!r}", ("unexpected " in headline or "no end" in headline) and told[0]["code"] + ": " in told[0]["message"], told)
     client.change(main, version, text)
     holds("mended", client.told(main) == [], client.diagnostics)
 
@@ -190,6 +197,20 @@ def completions(client, root):
         if line == "\tp4.":
             edit = [it for it in found["items"] if it["label"] == "Make"][0].get("additionalTextEdits")
             holds("a package that is not imported comes with the import", edit and "ex.com/m/p4" in edit[0]["newText"], edit)
+            holds("in the parentheses of the others", edit and edit[0]["range"]["start"] == dict(zip(("line", "character"), place(text, "import (", 8))), edit)
+    for line, back in (("\t// p4.", 0), ("\t// p4. A sentence. pr", 0), ('\tprintln("p4.")', 2), ("\tprintln(`pr`)", 2), ("\t/* p4. */", 3), ("\t/* it's q. */", 3)):
+        now = text.replace("\tprintln(size(r))", line)
+        client.change(main, version, now)
+        version += 1
+        found = client.at("completion", main, row, len(line) - back)
+        holds(f"nothing is offered in {line!r}", found == {"isIncomplete": False, "items": []}, found)
+    for line, wanted in (("\t// All of it.\n\tp", {"p0", "p9", "p4", "println"}), ("\t/* it's a\n\tblock. */\n\tr.A", {"Area"}), ("\tprintln(6 / r.", {"Width"}), ('\tprintln("\\"", r.', {"Width"})):
+        now = text.replace("\tprintln(size(r))", line)
+        client.change(main, version, now)
+        version += 1
+        found = client.at("completion", main, row + line.count("\n"), len(line.rsplit("\n", 1)[-1]))
+        names = {it["label"] for it in found["items"]}
+        holds(f"completion of {line!r}", wanted <= names, sorted(names))
     client.change(main, version, text)
 
 
@@ -216,11 +237,15 @@ def fixes(client, root):
             client.change(main, version, "\n".join(lines))
             holds(f"the fix {action['title']} leaves fewer faults", len(client.told(main)) < before, (action, client.told(main)))
             client.change(main, version, now)
+    for only, wanted in ((["source.organizeImports"], False), (["quickfix"], True), ([""], True)):
+        found = client.ask("textDocument/codeAction", {"textDocument": {"uri": uri_of(main)}, "range": {"start": spot, "end": spot}, "context": {"diagnostics": [], "only": only}})
+        holds(f"fixes where the kinds {only} are wanted", bool(found) == wanted, found)
     client.change(main, 650, text)
 
 
 def tokens(client, root):
-    main, text = f"{root}/main.go", main_text(11)
+    main, text = f"{root}/main.go", main_text(11).replace("\tq := p0", "\tconst k = 2\n\tprintln(k)\n\tq := p0")
+    client.change(main, 670, text)
     found = client.ask("textDocument/semanticTokens/full", {"textDocument": {"uri": uri_of(main)}})["data"]
     line = character = 0
     seen = {}
@@ -230,6 +255,9 @@ def tokens(client, root):
         seen.setdefault(word, set()).add((found[at + 3], found[at + 4]))
     holds("a function and its declaration", {(5, 0), (5, 1)} <= seen.get("size", set()), seen.get("size"))
     holds("a method, a field, a package, a predeclared function", seen.get("Area") == {(6, 0)} and seen.get("Width") == {(4, 0)} and (0, 0) in seen.get("p9", set()) and seen.get("println") == {(5, 4)}, seen)
+    holds("a parameter where it is declared and where it is used", seen.get("s") == {(2, 1), (2, 0)}, seen.get("s"))
+    holds("a constant of a function and a variable of it", seen.get("k") == {(3, 3), (3, 2)} and seen.get("r") == {(3, 1), (3, 0)}, (seen.get("k"), seen.get("r")))
+    client.change(main, 671, main_text(11))
 
 
 def work(server, root):
@@ -272,6 +300,15 @@ def folders(server, root):
         client.note("workspace/didChangeWatchedFiles", {"changes": [{"uri": uri_of(f"{root}/go.mod"), "type": 2}]})
         told = client.told(f"{root}/main.go")
         holds(f"the module is {path} once its go.mod says so", len(told) == faults, told)
+    half = "package p1\n\ntype Box1 struct {\n\tWide int\n\tHigh int\n}\n\nfunc F1(b Box1) int {\n\treturn b.Wide + b.High\n}\n"
+    client.open(f"{root}/p1/p1.go")
+    client.change(f"{root}/p1/p1.go", 2, half)
+    client.change(f"{root}/p1/p1.go", 3, half.replace("\tHigh int\n", "\tHigh int\n\tLow struct {\n"))
+    before = client.told(f"{root}/p1/p1.go")
+    client.note("workspace/didChangeWatchedFiles", {"changes": [{"uri": uri_of(f"{root}/go.mod"), "type": 2}]})
+    told = client.told(f"{root}/p1/p1.go")
+    holds("a text that does not parse has its fault alone once the go.mod is read again", [it["code"] for it in told] == ["P1"] and told == before, (before, told))
+    client.note("textDocument/didClose", {"textDocument": {"uri": uri_of(f"{root}/p1/p1.go")}})
     lib = f"{root}/p2/p2.go"
     with open(lib, "rb") as file:
         kept = file.read()
@@ -320,7 +357,11 @@ def signatures(client, root):
     row = text[: text.index("\tprintln(size(r))")].count("\n")
     found = client.at("signatureHelp", main, row, len("\tp9.Make(3, "))
     holds("the signature of what is called", found and found["signatures"][0]["label"].startswith("func Make(w, h int)") and found["activeParameter"] == 1, found)
-    client.change(main, 201, text)
+    for line, back in (('\tp9.Make(3, "a, (b', 0), ('\tp9.Make(3, "a, (b", 5)', 6), ("\tp9.Make(3, /* a, (b */ 5)", 6), ("\tp9.Make(3, `a, (", 0), ("\tp9.Make(/* , */ 3, ", 0)):
+        client.change(main, 201, text.replace("\tprintln(size(r))", line))
+        found = client.at("signatureHelp", main, row, len(line) - back)
+        holds(f"the signature in {line!r}", found and found["signatures"][0]["label"].startswith("func Make(w, h int)") and found["activeParameter"] == 1, found)
+    client.change(main, 202, text)
 
 
 def units(text, offset):
@@ -348,6 +389,49 @@ def edits(client, root):
             offset = text.index("r := p9")
             holds("the text after edits of parts", found and found[0]["range"] == {"start": units(text, offset), "end": units(text, offset + 1)}, (text, found))
     client.change(main, 500, main_text(11))
+
+
+def beside(server, root):
+    """Faults of files that are not open: each is told once, as long as it is as it was."""
+    write_module(root, 4)
+    for number in range(4):
+        with open(f"{root}/p{number}/more.go", "w", encoding="utf-8") as file:
+            file.write(f'package p{number}\n\nimport "fmt"\n\nfunc Show() {{\n\tfmt.Println({number})\n}}\n')
+    client = begun(server, root)
+    main, text = f"{root}/main.go", main_text(4)
+    others = [uri_of(f"{root}/p{number}/more.go") for number in range(4)]
+    rules = lambda: [[it["code"] for it in client.diagnostics.get(uri, {"diagnostics": []})["diagnostics"]] for uri in others]
+    client.open(main)
+    holds("files that are not open have their faults", client.told(main) == [] and rules() == [["I2"]] * 4, client.diagnostics)
+    client.diagnostics.clear()
+    client.change(main, 2, text.replace("println(size(r))", "println(size(r), 1)"))
+    client.told(main)
+    holds("a key tells of the open file alone", list(client.diagnostics) == [uri_of(main)], list(client.diagnostics))
+    more = f"{root}/p2/more.go"
+    client.open(more)
+    client.told(more)
+    holds("a file that is opened has its version", client.diagnostics[uri_of(more)].get("version") == 1, client.diagnostics)
+    client.note("textDocument/didClose", {"textDocument": {"uri": uri_of(more)}})
+    client.told(more)
+    holds("and none once it is closed", "version" not in client.diagnostics[uri_of(more)] and rules()[2] == ["I2"], client.diagnostics)
+    client.diagnostics.clear()
+    with open(more, "w", encoding="utf-8") as file:
+        file.write('package p2\n\n\nimport "fmt"\n\nfunc Show() {\n\tfmt.Println(2)\n}\n')
+    client.note("workspace/didChangeWatchedFiles", {"changes": [{"uri": uri_of(more), "type": 2}]})
+    told = client.told(more)
+    holds("a file of the folder that changed has its faults anew", [it["range"]["start"]["line"] for it in told] == [3] and list(client.diagnostics) == [uri_of(more)], client.diagnostics)
+    os.makedirs(f"{root}/a")
+    with open(f"{root}/a/a.go", "w", encoding="utf-8") as file:
+        file.write('package a\n\nimport "fmt"\n\nfunc Show() {\n\tfmt.Println(2)\n}\n')
+    client.diagnostics.clear()
+    client.note("workspace/didChangeWatchedFiles", {"changes": [{"uri": uri_of(f"{root}/a/a.go"), "type": 1}]})
+    told = client.told(f"{root}/a/a.go")
+    holds("so has one of a new package, and no other one", [it["code"] for it in told] == ["I2"] and list(client.diagnostics) == [uri_of(f"{root}/a/a.go")], client.diagnostics)
+    with open(f"{root}/p3/more.go", "w", encoding="utf-8") as file:
+        file.write("package p3\n")
+    client.note("workspace/didChangeWatchedFiles", {"changes": [{"uri": uri_of(f"{root}/p3/more.go"), "type": 2}]})
+    holds("what is mended is told", client.told(f"{root}/p3/more.go") == [] and others[3] in client.diagnostics, client.diagnostics)
+    client.end()
 
 
 def storm(server, root):
@@ -390,6 +474,7 @@ def main():
         edits(client, root)
         holds("the end is 0", client.end() == 0)
         storm(server, root)
+        beside(server, f"{folder}/beside")
         work(server, f"{folder}/work")
         folders(server, f"{folder}/alone")
     print(f"{len(TRIED)} cases, {len(BAD)} do not hold")

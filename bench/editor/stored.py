@@ -1,7 +1,7 @@
 #!/usr/bin/env python3
 """Stored sessions of an editor, served by a program: python3 bench/editor/stored.py [SERVER WORD ..]    (./govisd lsp)
 
-The messages are those that the gate serves, crates/govisd_lsp_cases/data/editor*.txt, with what goes out for each file in crates/govisd_lsp_cases/stdout. The names of
+The messages are those that the gate serves, crates/test_lsp/data/editor*.txt, with what goes out for each file in crates/test_lsp/stdout. The names of
 files begin with a folder of its own here, into which the module is copied. Each session comes in one piece and byte by byte.
 """
 import os
@@ -14,7 +14,7 @@ import tempfile
 sys.path.insert(0, os.path.dirname(os.path.abspath(__file__)))
 from client import uri_of
 
-CASES = os.path.join(os.path.dirname(os.path.abspath(__file__)), "../../crates/govisd_lsp_cases")
+CASES = os.path.join(os.path.dirname(os.path.abspath(__file__)), "../../crates/test_lsp")
 
 
 def sessions():

@@ -1,8 +1,8 @@
 // Gofront reads one Go file on standard input and tells by go/types what each identifier that is used
 // denotes: the peer of `govisd resolve`, in its format as far as go/types answers. With the argument `parse` it
-// only parses the file, by go/parser: the peer of `govisd_cases parse`. With `sources FILE` it parses all files of an
-// archive, holds their trees, and counts them: the peer of `govisd_cases sources`. With `check FILE` it parses and checks
-// the packages of an archive, and counts what it finds: the peer of `govisd_cases counts` (checked.go). With `errors FILE` it
+// only parses the file, by go/parser: the peer of `test_cases parse`. With `sources FILE` it parses all files of an
+// archive, holds their trees, and counts them: the peer of `test_cases sources`. With `check FILE` it parses and checks
+// the packages of an archive, and counts what it finds: the peer of `test_cases counts` (checked.go). With `errors FILE` it
 // tells each error of an archive with its place, a line each: the peer of `govisd check` (checked.go).
 //
 // Each line is OFFSET ROLE TEXT ANSWER. ROLE is type or value. ANSWER is universe.NAME,

@@ -140,6 +140,13 @@ def do(crate):
         if os.path.isdir(f'{src}/{part}'): shutil.copytree(f'{src}/{part}',f'{dst}/{part}')
     n=0
     cycles={}
+    home={}
+    for at,_,files in os.walk(f'{src}/src'):
+        for f in files:
+            if f.endswith('.rt'):
+                rel=os.path.relpath(f'{at}/{f}',f'{src}/src')
+                for m in re.finditer(r'(?m)^(?:pub(?:\([a-z ]+\))? )?(?:struct|enum) (\w+)',open(f'{at}/{f}',encoding='utf-8').read()):
+                    home.setdefault(m[1],module_of(rel))
     for at,_,files in os.walk(f'{src}/src'):
         for f in files:
             if not f.endswith('.rt'): continue
@@ -151,7 +158,7 @@ def do(crate):
             os.makedirs(os.path.dirname(f'{dst}/src/{rel}'),exist_ok=True)
             open(f'{dst}/src/{rel}','w',encoding='utf-8').write(t)
             for ctx,name,*_ in found:
-                path=[*module_of(rel),*ctx,name]
+                path=[*(home[ctx[0]] if len(ctx)==1 and ctx[0] in home else module_of(rel)),*ctx,name]
                 d=f'{dst}/proofs/'+'/'.join(path)
                 if os.path.isdir(d):
                     for x in('Answers','Invariants'):

@@ -10,7 +10,7 @@ import (
 	"strings"
 )
 
-// An answer is what govisd_cases says of a workspace.
+// An answer is what test_cases says of a workspace.
 type answer struct {
 	uses     map[place]use
 	refused  map[place][]string // the rules of outcomes and faults
@@ -400,7 +400,7 @@ func (t *tally) compareValues(j *judgement, a *answer, inPackage func(place) boo
 		case j.outer[at]:
 			t.note("a constant has no value", where(at))
 		default:
-			t.add("constants of functions and initialisers that govisd_cases does not show")
+			t.add("constants of functions and initialisers that test_cases does not show")
 		}
 	}
 	for at := range a.consts {

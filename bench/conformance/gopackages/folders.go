@@ -61,7 +61,7 @@ type told struct {
 	Line, Column, Offset         int
 }
 
-// ask writes archives as folders, checks each by `govisd check FOLDER --module PATH --json`, and writes the answers in the format of govisd_cases, with
+// ask writes archives as folders, checks each by `govisd check FOLDER --module PATH --json`, and writes the answers in the format of test_cases, with
 // all that is refused as faults.
 func ask(program, folder string, files []string, out io.Writer) {
 	for _, file := range files {

@@ -449,7 +449,7 @@ func valueText(value constant.Value) string {
 	return value.ExactString()
 }
 
-// quote shows a text as govisd_cases does: a byte from a space to `~` stands for itself, but \xHH for a quotation mark, a backslash and any other byte.
+// quote shows a text as test_cases does: a byte from a space to `~` stands for itself, but \xHH for a quotation mark, a backslash and any other byte.
 func quote(text string) string {
 	var out strings.Builder
 	out.WriteByte('"')

@@ -1,13 +1,13 @@
 // Gopackages makes packages of the grammar of docs/RULES.md, correct ones and ones with one error put in, tells by go/types what stands in them, and
-// compares that with what `govisd_cases` answers.
+// compares that with what `test_cases` answers.
 //
 //	gopackages generate FOLDER COUNT SEED    writes COUNT archives of workspaces (the form of txtar), the same bytes for each seed
 //	gopackages table FOLDER                  writes the table of mistakes as a worked archive, table.txt, with the faults in it as comments
-//	gopackages judge FILE..                  what go/types says, in the format of govisd_cases, with its errors
-//	gopackages fake [-list LISTING] FILE..   an answer in the format of govisd_cases: what go/types says of names, and the faults that were put in
-//	gopackages compare [-show N] [-refusals] [-list LISTING] ANSWERS FILE..    compares the answers of govisd_cases to the archives with go/types
+//	gopackages judge FILE..                  what go/types says, in the format of test_cases, with its errors
+//	gopackages fake [-list LISTING] FILE..   an answer in the format of test_cases: what go/types says of names, and the faults that were put in
+//	gopackages compare [-show N] [-refusals] [-list LISTING] ANSWERS FILE..    compares the answers of test_cases to the archives with go/types
 //	gopackages several FOLDER COUNT SEED     writes COUNT archives of workspaces of 2 to 12 packages, the same bytes for each seed
-//	gopackages ask PROGRAM FOLDER FILE..     what `govisd check` answers to these, in the format of govisd_cases, each written into the folder
+//	gopackages ask PROGRAM FOLDER FILE..     what `govisd check` answers to these, in the format of test_cases, each written into the folder
 //	gopackages list GO FOLDER FILE..         what `go list` refuses of these, all of them one module in the folder
 //	gopackages reduce MODULE FOLDER ROOT..   writes the packages below folders as a workspace of a module, without what is outside the grammar
 //	gopackages own MODULE FOLDER WHOLE       writes such a workspace again, without what only govisd refuses

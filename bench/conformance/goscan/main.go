@@ -1,4 +1,4 @@
-// Goscan reads what `govisd_cases tokens` writes of Go files, scans the same files by go/scanner, and compares.
+// Goscan reads what `test_cases tokens` writes of Go files, scans the same files by go/scanner, and compares.
 //
 // It prints how many files, tokens and comments were compared, and where the two differ: by the forms that it
 // names, or otherwise. The status is 0 where nothing differs otherwise, 1 where something does, and 2 where
@@ -46,7 +46,7 @@ type finding struct {
 	returns  int // comments and raw strings in which go/scanner leaves out carriage returns
 }
 
-// quoted writes bytes as govisd_cases does.
+// quoted writes bytes as test_cases does.
 func quoted(value string) string {
 	var out strings.Builder
 	out.WriteByte('"')

@@ -1,5 +1,5 @@
 // Goselect reads archives of workspaces (the form of txtar) and tells by go/types' LookupFieldOrMethod what selectors denote: the peer of
-// `govisd_cases`, with its kinds and in its format as far as go/types answers.
+// `test_cases`, with its kinds and in its format as far as go/types answers.
 //
 //	goselect select FILE..      for each type of each package, for a value of it, a pointer to it and a pointer to that, and for each package in which a
 //	                            selector may stand, what each name of a member of the workspace denotes. A selector that denotes nothing is `S2` where

@@ -5,19 +5,19 @@ use Rattle.std.proofs.lemmas.Bool.{cases_eq}
 use Rattle.std.proofs.lemmas.Option.{slice_get_within, slice_get-get_or}
 use Rattle.std.proofs.lemmas.List.{length-replicate}
 use Rattle.std.proofs.lemmas.List.Elements.{All-nil}
-use Rattle.go_reach_core.specs.Numbers.{Numbers}
-use Rattle.go_snap_core.specs.graph_core.declared.imports.ImportAt.{ImportAt}
-use Rattle.go_snap_core.specs.graph_core.declared.imports.ImportOutcome.{ImportOutcome}
-use Rattle.go_snap_core.specs.graph_core.declared.imports.ImportOutcome.TheVariants.{Package}
-use Rattle.go_snap_core.specs.graph_core.Plans.{AreImporters, IsAssembledAt, IsPlan, PlanModel, outcome_at}
-use Rattle.go_snap_core.specs.graph_core.Plans as plans
-use Rattle.go_snap_core.specs.graph_core.Workspaces.{PackageModel}
-use Rattle.go_snap_core.specs.summary_core.Summaries.{SummaryModel}
-use Rattle.go_snap_core.specs.part_core.Parts.{PartModel}
-use Rattle.go_snap_core.specs.make_core.Telling.{told_of}
-use Rattle.go_turn_core.specs.declared.mark.Mark.{Mark}
-use Rattle.go_turn_core.specs.Turns.{TurnsModel}
-use Rattle.go_turn_core.specs.mirrors.Counting.{AreFresh, AreNodes, IsUntaken}
+use Rattle.go_digraph_core.specs.reach.Numbers.{Numbers}
+use Rattle.go_block_core.specs.graph_core.declared.imports.ImportAt.{ImportAt}
+use Rattle.go_block_core.specs.graph_core.declared.imports.ImportOutcome.{ImportOutcome}
+use Rattle.go_block_core.specs.graph_core.declared.imports.ImportOutcome.TheVariants.{Package}
+use Rattle.go_block_core.specs.graph_core.Plans.{AreImporters, IsAssembledAt, IsPlan, PlanModel, outcome_at}
+use Rattle.go_block_core.specs.graph_core.Plans as plans
+use Rattle.go_block_core.specs.graph_core.Workspaces.{PackageModel}
+use Rattle.go_summary_core.specs.Summaries.{SummaryModel}
+use Rattle.go_package_core.specs.package_part.Parts.{PartModel}
+use Rattle.go_snap_core.specs.make.Telling.{told_of}
+use Rattle.go_digraph_core.specs.declared.ready_queue.mark.Mark.{Mark}
+use Rattle.go_digraph_core.specs.ready_queue.Turns.{TurnsModel}
+use Rattle.go_digraph_core.specs.ready_queue.mirrors.Counting.{AreFresh, AreNodes, IsUntaken}
 use Rattle.go_batch_core.specs.declared.slot.Slot.{Slot}
 use Rattle.go_batch_core.specs.declared.slot.Slot.TheVariants.{NoAction, Untaken, Taken, Finished}
 use Rattle.go_batch_core.specs.Batches.{IsBegun, IsBusy, IsReady, batch_with, is_left, unfinished}

@@ -1,15 +1,15 @@
 -- What a batch leaves as it was in a snapshot.
 use Rattle.std.proofs.Common.{◌≡◌, ◌+◌, ℕ, Bool, List, Option, Some, None, sym, ap, ◌∙◌, subst, arith}
 use Rattle.std.specs.Prelude.{slice_get}
-use Rattle.go_snap_core.specs.graph_core.Packages.{IsAssembled}
-use Rattle.go_snap_core.specs.graph_core.Workspaces.{IsWorkspace, PackageModel}
-use Rattle.go_snap_core.specs.part_core.Inputs.{InputModel}
-use Rattle.go_snap_core.specs.part_core.Laws.{OnePart}
-use Rattle.go_snap_core.specs.part_core.Parts.{IsPart, PartModel}
+use Rattle.go_block_core.specs.graph_core.Packages.{IsAssembled}
+use Rattle.go_block_core.specs.graph_core.Workspaces.{IsWorkspace, PackageModel}
+use Rattle.go_package_core.specs.package_part.Inputs.{InputModel}
+use Rattle.go_package_core.specs.package_part.Laws.{OnePart}
+use Rattle.go_package_core.specs.package_part.Parts.{IsPart, PartModel}
 use Rattle.go_snap_core.specs.Snapshots.{SnapshotModel}
 use Rattle.go_snap_core.specs.Staying.{StaysWhere}
-use Rattle.go_snap_core.specs.whole_core.Checks.{trees_are_placed}
-use Rattle.go_snap_core.specs.whole_core.Inputs.{AreParts, IsPartOf}
+use Rattle.go_snap_core.proofs.WholeWorkspaceChecks.{trees_are_placed}
+use Rattle.go_snap_core.specs.whole_workspace.Inputs.{AreParts, IsPartOf}
 use Rattle.go_batch_core.specs.Steadiness.{AreAgain, IsAgainAt, WasAt}
 use Rattle.go_batch_core.proofs.Steadied.{numbered_back}
 

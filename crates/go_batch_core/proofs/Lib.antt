@@ -1,5 +1,6 @@
 pub mod Beginning
 pub mod Leaving
+pub mod Once
 pub mod Ordered
 pub mod Passing
 pub mod Reaching
@@ -9,3 +10,6 @@ pub mod Staying
 pub mod Steadied
 pub mod Steps
 pub mod Telling
+pub mod SeenAdding
+pub mod SeenLocals
+pub mod SeenLooking

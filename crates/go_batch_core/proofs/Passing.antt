@@ -2,15 +2,15 @@
 use Rattle.std.proofs.Common.{◌≡◌, ◌<◌, List, length, Option, Some, None, refl, ap, ◌∙◌, subst}
 use Rattle.std.specs.Prelude.{MatchOption}
 use Rattle.std.proofs.lemmas.Option.{slice_get_within}
-use Rattle.go_cycle_core.specs.declared.edge.Edge.{Edge}
-use Rattle.go_snap_core.specs.graph_core.declared.imports.ImportOutcome.{ImportOutcome}
-use Rattle.go_snap_core.specs.graph_core.declared.imports.ImportOutcome.TheVariants.{Package}
-use Rattle.go_snap_core.specs.graph_core.Imports.{IsNoImport, IsOutcome}
-use Rattle.go_snap_core.specs.graph_core.Plans.{IsAssembledAt, IsPlan, PlanModel, outcome_at}
-use Rattle.go_snap_core.specs.graph_core.Plans as plans
-use Rattle.go_snap_core.specs.graph_core.Workspaces.{PackageModel, IsWorkspace}
-use Rattle.go_snap_core.specs.graph_core.OutcomeLaws.{has_one_outcome}
-use Rattle.go_snap_core.specs.whole_core.Inputs.{IsPassingImport}
+use Rattle.go_digraph_core.specs.declared.cycle.edge.Edge.{Edge}
+use Rattle.go_block_core.specs.graph_core.declared.imports.ImportOutcome.{ImportOutcome}
+use Rattle.go_block_core.specs.graph_core.declared.imports.ImportOutcome.TheVariants.{Package}
+use Rattle.go_block_core.specs.graph_core.Imports.{IsNoImport, IsOutcome}
+use Rattle.go_block_core.specs.graph_core.Plans.{IsAssembledAt, IsPlan, PlanModel, outcome_at}
+use Rattle.go_block_core.specs.graph_core.Plans as plans
+use Rattle.go_block_core.specs.graph_core.Workspaces.{PackageModel, IsWorkspace}
+use Rattle.go_block_core.specs.graph_core.OutcomeLaws.{has_one_outcome}
+use Rattle.go_snap_core.specs.whole_workspace.Inputs.{IsPassingImport}
 
 pub passing_to : (ps : List PackageModel) (plan : PlanModel) (e : Edge) → IsPlan ps plan → plans.IsPassing plan e → IsPassingImport ps e
 passing_to ps plan e planned passing =

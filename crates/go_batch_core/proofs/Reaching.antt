@@ -1,10 +1,10 @@
 -- What a package reaches, by a plan.
 use Rattle.std.proofs.Common.{◌≡◌, ℕ, List, get_or, Some}
 use Rattle.std.specs.Prelude.{slice_get, Contains}
-use Rattle.go_reach_core.specs.Numbers.{Numbers}
-use Rattle.go_snap_core.specs.graph_core.Plans.{PlanModel}
-use Rattle.go_snap_core.specs.graph_core.Workspaces.{PackageModel}
-use Rattle.go_snap_core.specs.whole_core.Inputs.{ReachesPackage}
+use Rattle.go_digraph_core.specs.reach.Numbers.{Numbers}
+use Rattle.go_block_core.specs.graph_core.Plans.{PlanModel}
+use Rattle.go_block_core.specs.graph_core.Workspaces.{PackageModel}
+use Rattle.go_snap_core.specs.whole_workspace.Inputs.{ReachesPackage}
 use Rattle.go_batch_core.specs.mirrors.Keeping.{IsPlanned}
 use Rattle.go_batch_core.proofs.Passing.{passing_from, passing_to}
 

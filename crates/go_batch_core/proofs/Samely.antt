@@ -2,20 +2,20 @@
 use Rattle.std.proofs.Common.{◌≡◌, ◌<◌, ⊎_elim, ℕ, Bool, true, List, [], ◌∷◌, ◌++◌, length, get_or, Option, Some, None, refl, sym, ap, ◌∙◌, subst, arith}
 use Rattle.std.specs.Prelude.{IsTrue, MatchOption, Contains, slice_get}
 use Rattle.std.proofs.lemmas.Option.{slice_get_within}
-use Rattle.go_cycle_core.specs.declared.edge.Edge.{Edge}
-use Rattle.go_reach_core.specs.Numbers.{Numbers}
-use Rattle.go_snap_core.specs.graph_core.declared.imports.ImportAt.{ImportAt}
-use Rattle.go_snap_core.specs.graph_core.declared.imports.ImportOutcome.{ImportOutcome}
-use Rattle.go_snap_core.specs.graph_core.declared.imports.ImportOutcome.TheVariants.{Package}
-use Rattle.go_snap_core.specs.graph_core.Imports.{IsNoImport, IsOutcome}
-use Rattle.go_snap_core.specs.graph_core.Plans.{IsPlan, PlanModel, outcome_at}
-use Rattle.go_snap_core.specs.graph_core.Workspaces.{PackageModel, IsWorkspace}
-use Rattle.go_snap_core.specs.graph_core.OutcomeLaws.{has_one_outcome}
-use Rattle.go_head_core.specs.Heads.{AreSameMarks, HaveSameHeads}
-use Rattle.go_head_core.specs.Laws.{OutcomesStay}
-use Rattle.go_head_core.specs.Rows.{HaveSameRows, row_at}
-use Rattle.go_head_core.proofs.Marking.{at_end}
-use Rattle.go_snap_core.specs.whole_core.Inputs.{IsPassingImport, ReachesPackage}
+use Rattle.go_digraph_core.specs.declared.cycle.edge.Edge.{Edge}
+use Rattle.go_digraph_core.specs.reach.Numbers.{Numbers}
+use Rattle.go_block_core.specs.graph_core.declared.imports.ImportAt.{ImportAt}
+use Rattle.go_block_core.specs.graph_core.declared.imports.ImportOutcome.{ImportOutcome}
+use Rattle.go_block_core.specs.graph_core.declared.imports.ImportOutcome.TheVariants.{Package}
+use Rattle.go_block_core.specs.graph_core.Imports.{IsNoImport, IsOutcome}
+use Rattle.go_block_core.specs.graph_core.Plans.{IsPlan, PlanModel, outcome_at}
+use Rattle.go_block_core.specs.graph_core.Workspaces.{PackageModel, IsWorkspace}
+use Rattle.go_block_core.specs.graph_core.OutcomeLaws.{has_one_outcome}
+use Rattle.go_import_core.specs.head.Heads.{AreSameMarks, HaveSameHeads}
+use Rattle.go_import_core.specs.head.Laws.{OutcomesStay}
+use Rattle.go_import_core.specs.head.Rows.{HaveSameRows, row_at}
+use Rattle.go_import_core.proofs.HeadMarking.{at_end}
+use Rattle.go_snap_core.specs.whole_workspace.Inputs.{IsPassingImport, ReachesPackage}
 use Rattle.go_batch_core.specs.Planning.{IsPlanned}
 use Rattle.go_batch_core.specs.Steadiness.{AreSameAt, IsSameAt}
 use Rattle.go_batch_core.specs.mirrors.Rows.{HaveSameReached, Stays}

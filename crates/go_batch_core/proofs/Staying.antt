@@ -3,21 +3,21 @@ use Rattle.std.proofs.Common.{◌≡◌, ℕ, suc, List, [], ◌∷◌, Option, 
 use Rattle.std.specs.Prelude.{Contains}
 use Rattle.std.specs.List.{AllZip}
 use Rattle.std.proofs.lemmas.List.Elements.{All-nil, All-cons}
-use Rattle.go_cycle_core.specs.declared.edge.Edge.{Edge}
-use Rattle.go_snap_core.specs.graph_core.declared.imports.ImportAt.{ImportAt}
-use Rattle.go_snap_core.specs.graph_core.declared.imports.ImportOutcome.{ImportOutcome}
-use Rattle.go_snap_core.specs.graph_core.declared.imports.ImportOutcome.TheVariants.{Package, Refused}
-use Rattle.go_snap_core.specs.graph_core.Imports.{IsOutcome}
-use Rattle.go_snap_core.specs.graph_core.Workspaces.{PackageModel}
-use Rattle.go_snap_core.specs.graph_core.Lists.{AllNumbered}
-use Rattle.go_snap_core.specs.graph_core.Packages.{Trees, trees_of}
-use Rattle.go_snap_core.specs.block_core.declared.imports.Imported.{Imported}
-use Rattle.go_snap_core.specs.block_core.declared.imports.Imported.TheVariants as given
-use Rattle.go_snap_core.specs.block_core.Naming.{AreInFile, IsGiven, file_specs, import_at}
-use Rattle.go_snap_core.specs.summary_core.Summaries.{SummaryModel}
-use Rattle.go_snap_core.specs.part_core.Inputs.{InputModel}
-use Rattle.go_snap_core.specs.part_core.Parts.{PartModel}
-use Rattle.go_snap_core.specs.whole_core.Inputs.{ComesTo, IsInputAt, IsPassingImport, ReachesPackage, Shown, Tells}
+use Rattle.go_digraph_core.specs.declared.cycle.edge.Edge.{Edge}
+use Rattle.go_block_core.specs.graph_core.declared.imports.ImportAt.{ImportAt}
+use Rattle.go_block_core.specs.graph_core.declared.imports.ImportOutcome.{ImportOutcome}
+use Rattle.go_block_core.specs.graph_core.declared.imports.ImportOutcome.TheVariants.{Package, Refused}
+use Rattle.go_block_core.specs.graph_core.Imports.{IsOutcome}
+use Rattle.go_block_core.specs.graph_core.Workspaces.{PackageModel}
+use Rattle.go_block_core.specs.graph_core.Lists.{AllNumbered}
+use Rattle.go_block_core.specs.graph_core.Packages.{Trees, trees_of}
+use Rattle.go_block_core.specs.declared.imports.Imported.{Imported}
+use Rattle.go_block_core.specs.declared.imports.Imported.TheVariants as given
+use Rattle.go_block_core.specs.Naming.{AreInFile, IsGiven, file_specs, import_at}
+use Rattle.go_summary_core.specs.Summaries.{SummaryModel}
+use Rattle.go_package_core.specs.package_part.Inputs.{InputModel}
+use Rattle.go_package_core.specs.package_part.Parts.{PartModel}
+use Rattle.go_snap_core.specs.whole_workspace.Inputs.{ComesTo, IsInputAt, IsPassingImport, ReachesPackage, Shown, Tells}
 use Rattle.go_batch_core.specs.Steadiness.{IsSameAt}
 
 -- the package of a number, where it is the same and each that it reaches tells what it told

@@ -4,16 +4,16 @@ use Rattle.std.specs.Prelude.{slice_get}
 use Rattle.std.proofs.lemmas.Bool.{cases_eq}
 use Rattle.std.proofs.lemmas.List.{length-replicate}
 use Rattle.std.proofs.lemmas.Option.{slice_get_within}
-use Rattle.go_snap_core.specs.graph_core.Workspaces.{AreAllRead, IsWorkspace, PackageModel}
-use Rattle.go_snap_core.specs.part_core.Inputs.{InputModel}
-use Rattle.go_snap_core.specs.part_core.Parts.{PartModel}
+use Rattle.go_block_core.specs.graph_core.Workspaces.{AreAllRead, IsWorkspace, PackageModel}
+use Rattle.go_package_core.specs.package_part.Inputs.{InputModel}
+use Rattle.go_package_core.specs.package_part.Parts.{PartModel}
 use Rattle.go_snap_core.specs.Snapshots.{SnapshotModel}
-use Rattle.go_snap_core.specs.summary_core.Summaries.{SummaryModel}
-use Rattle.go_snap_core.specs.whole_core.Inputs.{AreParts, HasReached, IsInputAt, IsInputOf, IsPartOf, ReachesPackage, Tells}
+use Rattle.go_summary_core.specs.Summaries.{SummaryModel}
+use Rattle.go_snap_core.specs.whole_workspace.Inputs.{AreParts, HasReached, IsInputAt, IsInputOf, IsPartOf, ReachesPackage, Tells}
 use Rattle.go_batch_core.specs.Batches.{Awaits, BatchModel, IsBegun, batch_with, with_part}
 use Rattle.go_batch_core.specs.Steadiness.{AreAgain, AreSameAt, BeginsSteady, IsSteady, StaysAt, SteadyModel, WasAt, steady_with}
 use Rattle.go_batch_core.specs.declared.slot.Slot.TheVariants.{Untaken, Taken, Finished}
-use Rattle.go_snap_core.specs.graph_core.Lists.{AllNumbered}
+use Rattle.go_block_core.specs.graph_core.Lists.{AllNumbered}
 use Rattle.go_batch_core.proofs.Slots.{at_replicate, at_set_other, at_set_same, length_set}
 use Rattle.go_batch_core.proofs.Staying.{input_stays}
 use Rattle.go_batch_core.proofs.Steps.{read_at}

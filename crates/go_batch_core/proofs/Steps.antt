@@ -6,23 +6,23 @@ use Rattle.std.proofs.lemmas.Bool.{cases_eq}
 use Rattle.std.proofs.lemmas.Option.{slice_get_within, get_or_from_slice_get}
 use Rattle.std.proofs.lemmas.List.{take_more, take_all, length-take-le, length-map, length_push}
 use Rattle.std.proofs.lemmas.List.Elements.{All-push}
-use Rattle.go_cycle_core.specs.declared.edge.Edge.{Edge}
-use Rattle.go_reach_core.specs.Numbers.{Numbers}
-use Rattle.go_snap_core.specs.graph_core.Imports.{IsNumbered}
-use Rattle.go_snap_core.specs.graph_core.Packages.{IsAssembled}
-use Rattle.go_snap_core.specs.graph_core.Plans.{AreImporters, IsAssembledAt, PlanModel}
-use Rattle.go_snap_core.specs.graph_core.Sources.{SourceModel}
-use Rattle.go_snap_core.specs.graph_core.Workspaces.{PackageModel, AreAllRead, IsWorkspace}
-use Rattle.go_snap_core.specs.graph_core.Numbers.{has_one_number}
-use Rattle.go_snap_core.specs.summary_core.Summaries.{SummaryModel}
-use Rattle.go_snap_core.specs.part_core.Inputs.{InputModel}
-use Rattle.go_snap_core.specs.part_core.Parts.{PartModel, IsPart}
-use Rattle.go_snap_core.specs.whole_core.Inputs.{AreParts, HasReached, IsInputAt, IsInputOf, IsPartOf, IsPassingImport}
-use Rattle.go_snap_core.specs.whole_core.Laws.{AreOwnParts, HasPart, InputsStay, PartsComeInOrder}
-use Rattle.go_snap_core.specs.make_core.Telling.{told_of}
-use Rattle.go_turn_core.specs.declared.mark.Mark.TheVariants as mark
-use Rattle.go_turn_core.specs.Turns.{TurnsModel, turns_with, Needs}
-use Rattle.go_turn_core.specs.Turns as turn
+use Rattle.go_digraph_core.specs.declared.cycle.edge.Edge.{Edge}
+use Rattle.go_digraph_core.specs.reach.Numbers.{Numbers}
+use Rattle.go_block_core.specs.graph_core.Imports.{IsNumbered}
+use Rattle.go_block_core.specs.graph_core.Packages.{IsAssembled}
+use Rattle.go_block_core.specs.graph_core.Plans.{AreImporters, IsAssembledAt, PlanModel}
+use Rattle.go_block_core.specs.graph_core.Sources.{SourceModel}
+use Rattle.go_block_core.specs.graph_core.Workspaces.{PackageModel, AreAllRead, IsWorkspace}
+use Rattle.go_block_core.specs.graph_core.Numbers.{has_one_number}
+use Rattle.go_summary_core.specs.Summaries.{SummaryModel}
+use Rattle.go_package_core.specs.package_part.Inputs.{InputModel}
+use Rattle.go_package_core.specs.package_part.Parts.{PartModel, IsPart}
+use Rattle.go_snap_core.specs.whole_workspace.Inputs.{AreParts, HasReached, IsInputAt, IsInputOf, IsPartOf, IsPassingImport}
+use Rattle.go_snap_core.specs.whole_workspace.Laws.{AreOwnParts, HasPart, InputsStay, PartsComeInOrder}
+use Rattle.go_snap_core.specs.make.Telling.{told_of}
+use Rattle.go_digraph_core.specs.declared.ready_queue.mark.Mark.TheVariants as mark
+use Rattle.go_digraph_core.specs.ready_queue.Turns.{TurnsModel, turns_with, Needs}
+use Rattle.go_digraph_core.specs.ready_queue.Turns as turn
 use Rattle.go_batch_core.specs.declared.slot.Slot.{Slot}
 use Rattle.go_batch_core.specs.declared.slot.Slot.TheVariants.{NoAction, Untaken, Taken, Finished}
 use Rattle.go_batch_core.specs.declared.tell.Tell.{Tell}
@@ -124,7 +124,7 @@ untaken_right : (ps : List PackageModel) (slots : List Slot) (parts : List (Opti
 untaken_right ps slots parts n None right = (right, refl)
 untaken_right ps slots parts n (Some p) right = absurd right
 
-taken_right : (ps : List PackageModel) (slots : List Slot) (parts : List (Option PartModel)) (n k : ℕ) (i : InputModel) (o : Option PartModel) → IsSlotRight ps slots parts n (Taken k i) o → IsAssembledAt ps n × IsInputAt ps parts n i × AreImportsFinished ps slots n × (o ≡ None)
+pub taken_right : (ps : List PackageModel) (slots : List Slot) (parts : List (Option PartModel)) (n k : ℕ) (i : InputModel) (o : Option PartModel) → IsSlotRight ps slots parts n (Taken k i) o → IsAssembledAt ps n × IsInputAt ps parts n i × AreImportsFinished ps slots n × (o ≡ None)
 taken_right ps slots parts n k i None right = (right.0, right.1, right.2, refl)
 taken_right ps slots parts n k i (Some p) right = absurd right
 
@@ -139,7 +139,7 @@ part_right ps slots parts n (Taken k i) p right = absurd right
 part_right ps slots parts n Finished p right = (right.1, right.2, right.3)
 
 -- what is known of a part
-known_part : (ps : List PackageModel) (slots : List Slot) (parts : List (Option PartModel)) (n : ℕ) (p : PartModel) → AreRight ps slots parts → slice_get parts n ≡ Some (Some p) → IsInputAt ps parts n p.input × AreImportsFinished ps slots n × IsPart p.input p.content
+pub known_part : (ps : List PackageModel) (slots : List Slot) (parts : List (Option PartModel)) (n : ℕ) (p : PartModel) → AreRight ps slots parts → slice_get parts n ≡ Some (Some p) → IsInputAt ps parts n p.input × AreImportsFinished ps slots n × IsPart p.input p.content
 known_part ps slots parts n p right at =
     let slot = some_at slots n (omega (arith, right.many, right.many_parts, slice_get_within parts n (Some p) at)) in
     let r = right.each n slot.0 slot.1 in
@@ -149,7 +149,7 @@ known_part ps slots parts n p right at =
 pub assembled_at : (ps : List PackageModel) (slots : List Slot) (parts : List (Option PartModel)) (n : ℕ) → AreRight ps slots parts → slice_get slots n ≡ Some Untaken → IsAssembledAt ps n
 assembled_at ps slots parts n right e = (let r = right.each n Untaken e in (untaken_right ps slots parts n r.part r.right).0)
 
-no_part_yet : (ps : List PackageModel) (slots : List Slot) (parts : List (Option PartModel)) (n k : ℕ) (i : InputModel) → AreRight ps slots parts → slice_get slots n ≡ Some (Taken k i) → slice_get parts n ≡ Some None
+pub no_part_yet : (ps : List PackageModel) (slots : List Slot) (parts : List (Option PartModel)) (n k : ℕ) (i : InputModel) → AreRight ps slots parts → slice_get slots n ≡ Some (Taken k i) → slice_get parts n ≡ Some None
 no_part_yet ps slots parts n k i right e = (let r = right.each n (Taken k i) e in r.there ∙ ap Some (taken_right ps slots parts n k i r.part r.right).3)
 
 -- what a package reaches has parts

@@ -1,11 +1,11 @@
 -- A batch: the workspace that it compiles, what is done with the action of each package, and the parts that are there.
 use Rattle.std.specs.Prelude.{◌≡◌, ℕ, ◌+◌, Bool, true, false, if◌then◌else◌, List, [], ◌∷◌, Option, Some, None, length, slice_get, slice_set}
-use Rattle.go_cycle_core.specs.declared.edge.Edge.{Edge}
-use Rattle.go_snap_core.specs.graph_core.Workspaces.{PackageModel}
-use Rattle.go_snap_core.specs.graph_core.Plans.{IsAssembledAt}
-use Rattle.go_snap_core.specs.part_core.Inputs.{InputModel}
-use Rattle.go_snap_core.specs.part_core.Parts.{PartModel}
-use Rattle.go_snap_core.specs.whole_core.Inputs.{IsInputAt, IsPassingImport}
+use Rattle.go_digraph_core.specs.declared.cycle.edge.Edge.{Edge}
+use Rattle.go_block_core.specs.graph_core.Workspaces.{PackageModel}
+use Rattle.go_block_core.specs.graph_core.Plans.{IsAssembledAt}
+use Rattle.go_package_core.specs.package_part.Inputs.{InputModel}
+use Rattle.go_package_core.specs.package_part.Parts.{PartModel}
+use Rattle.go_snap_core.specs.whole_workspace.Inputs.{IsInputAt, IsPassingImport}
 use Rattle.go_batch_core.specs.declared.batch.Ending.{Ending}
 use Rattle.go_batch_core.specs.declared.batch.Next.{Next}
 use Rattle.go_batch_core.specs.declared.slot.Slot.{Slot}

@@ -1,9 +1,9 @@
 -- Parts and batches as they are stored.
 use Rattle.std.specs.Prelude.{refl, List, Option}
 use Rattle.std.specs.Coded.{Coded, code_by, coded×, coded_list, coded_option}
-use Rattle.go_snap_core.specs.graph_core.Workspaces.{PackageModel, coded_package}
-use Rattle.go_snap_core.specs.part_core.Parts.{PartModel}
-use Rattle.go_snap_core.specs.part_core.contracts.part.Part as part
+use Rattle.go_block_core.specs.graph_core.Workspaces.{PackageModel, coded_package}
+use Rattle.go_package_core.specs.package_part.Parts.{PartModel}
+use Rattle.go_package_core.specs.contracts.package_part.part.Part as part
 use Rattle.go_batch_core.specs.declared.slot.Slot.{Slot}
 use Rattle.go_batch_core.specs.contracts.slot.Slot as slot
 use Rattle.go_batch_core.specs.Batches.{BatchModel, batch_with}

@@ -2,9 +2,8 @@ pub mod Batches
 pub mod Coding
 pub mod Planning
 pub mod Steadiness
+pub mod Telling
 pub mod mirrors
-pub mod graph_core
-pub mod head_core
-pub mod part_core
+pub mod seen
 pub mod snap_core
-pub mod whole_core
+pub mod summary_core

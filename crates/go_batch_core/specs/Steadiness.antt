@@ -1,13 +1,13 @@
 -- What of a snapshot is as it was in the batch that runs behind it.
 use Rattle.std.specs.Prelude.{◌≡◌, ◌↔◌, ℕ, Bool, true, false, List, Option, Some, IsTrue, length, replicate, slice_get}
-use Rattle.go_snap_core.specs.graph_core.Workspaces.{PackageModel}
-use Rattle.go_snap_core.specs.graph_core.declared.imports.ImportAt.{ImportAt}
-use Rattle.go_snap_core.specs.graph_core.declared.imports.ImportOutcome.{ImportOutcome}
-use Rattle.go_snap_core.specs.graph_core.Imports.{IsOutcome}
-use Rattle.go_snap_core.specs.part_core.Inputs.{InputModel, path_in}
-use Rattle.go_snap_core.specs.part_core.Parts.{PartModel}
+use Rattle.go_block_core.specs.graph_core.Workspaces.{PackageModel}
+use Rattle.go_block_core.specs.graph_core.declared.imports.ImportAt.{ImportAt}
+use Rattle.go_block_core.specs.graph_core.declared.imports.ImportOutcome.{ImportOutcome}
+use Rattle.go_block_core.specs.graph_core.Imports.{IsOutcome}
+use Rattle.go_package_core.specs.package_part.Inputs.{InputModel, path_in}
+use Rattle.go_package_core.specs.package_part.Parts.{PartModel}
 use Rattle.go_snap_core.specs.Snapshots.{IsPartAt, SnapshotModel}
-use Rattle.go_snap_core.specs.whole_core.Inputs.{IsInputAt, ReachesPackage, Tells}
+use Rattle.go_snap_core.specs.whole_workspace.Inputs.{IsInputAt, ReachesPackage, Tells}
 use Rattle.go_batch_core.specs.Batches.{BatchModel}
 use Rattle.go_batch_core.specs.declared.slot.Slot.TheVariants.{Taken, Finished}
 

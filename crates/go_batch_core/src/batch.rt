@@ -1,13 +1,14 @@
 //! The running batch.
 ghost use Rattle.std.specs.Prelude.{◌≡◌, ◌+◌, ◌↔◌, ℕ, Contains, IfOk, IsTrue, MatchOption, Some, false, length, map, slice_get, slice_set, true};
-ghost use Rattle.go_snap_core.specs.graph_core.Plans.{AreImporters, IsOrderly};
-ghost use Rattle.go_snap_core.specs.graph_core.Workspaces.{AreAllRead};
-ghost use Rattle.go_snap_core.specs.make_core.Telling.{told_of};
-ghost use Rattle.go_snap_core.specs.part_core.Inputs.{InputModel};
-ghost use Rattle.go_snap_core.specs.whole_core.Inputs.{AreParts, HasReached, IsInputAt, ReachesPackage};
+ghost use Rattle.go_block_core.specs.graph_core.Plans.{AreImporters, IsOrderly};
+ghost use Rattle.go_block_core.specs.graph_core.Workspaces.{AreAllRead};
+ghost use Rattle.go_snap_core.specs.make.Telling.{told_of};
+ghost use Rattle.go_package_core.specs.package_part.Inputs.{InputModel};
+ghost use Rattle.go_snap_core.specs.whole_workspace.Inputs.{AreParts, HasReached, IsInputAt, ReachesPackage};
 ghost use Rattle.go_snap_core.specs.Snapshots.{IsSnapshot};
 ghost use Rattle.go_batch_core.specs.declared.slot.Slot.TheVariants.{Taken};
 ghost use Rattle.go_batch_core.specs.Batches.{Awaits, IsBegun, IsBusy, IsEnding, IsForeign, IsKnown, IsNext, IsReady, NoneReady, actions_left, batch_with, with_part};
+ghost use Rattle.go_batch_core.specs.Telling.{IsToldOnce};
 ghost use Rattle.go_batch_core.specs.Planning.{IsPlanned};
 ghost use Rattle.go_batch_core.specs.mirrors.Keeping.{AreFreshSlots, IsReadSlot, mark_of};
 
@@ -15,15 +16,16 @@ use crate::begin::{left_of, marks_of, slots_of};
 use crate::marks::is_marked;
 use crate::planned::{Planned, SharedReached};
 use crate::read::{ReadInput, ReadPart};
+use crate::seen::inputs_are_local;
 use crate::slot::Slot;
 use crate::tell::{Tell, push_tell, tell_all, told_with};
-use go_head_core::ListedPlan;
-use go_snap_core::graph_core::Workspace;
-use go_snap_core::make_core::{Told, input_of, package_of};
-use go_snap_core::part_core::{Part, PartInput, Parts};
-use go_snap_core::whole_core::{inputs_stay, parts_come_in_order};
+use go_block_core::graph_core::Workspace;
+use go_digraph_core::ready_queue::Turns;
+use go_import_core::head::ListedPlan;
+use go_package_core::package_part::{Part, PartInput, Parts, one_part};
+use go_snap_core::make::{Told, input_of, package_of};
+use go_snap_core::whole_workspace::{inputs_stay, parts_come_in_order};
 use go_snap_core::{Snapshot, join_parts};
-use go_turn_core::Turns;
 use std::alloc::{AllocError, Global};
 use std::marker::Model;
 
@@ -246,6 +248,14 @@ impl Batch {
         let _parts = self.parts.as_slice();
     }
 
+    /// What the packages tell that are finished is one summary for each path.
+    pub fn is_told_once(&self)
+        ensures { IsToldOnce self.now }
+    {
+        one_part();
+        let _parts = self.parts.as_slice();
+    }
+
     /// The package of an action that is ready, if there is one.
     pub fn ready(&self) -> Option<usize>
         ensures { MatchOption result (NoneReady self.now) (IsReady self.now) }
@@ -279,7 +289,8 @@ impl Batch {
         ensures input { IfOk result (λ x. x.input ≡ input) }
         ensures next { IfOk result (IsNext self.now) }
     {
-        // Its files are as they are read.
+        // Its files are as they are read, and what it reaches is finished.
+        inputs_are_local();
         let _count = self.parts.as_slice();
         let awaited = input.share()?;
         Ok(Next {

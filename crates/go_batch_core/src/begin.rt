@@ -6,8 +6,8 @@ ghost use Rattle.go_batch_core.specs.Batches.{unfinished};
 ghost use Rattle.go_batch_core.specs.mirrors.Keeping.{mark_of};
 
 use crate::slot::Slot;
-use go_text_core::add;
-use go_turn_core::Mark;
+use go_digraph_core::ready_queue::Mark;
+use go_path_core::text_core::add;
 use std::alloc::{AllocError, Global};
 
 // Slots without an action.

@@ -9,6 +9,7 @@ mod over;
 mod planned;
 mod read;
 mod rows;
+pub mod seen;
 mod slot;
 mod steady;
 mod tell;
@@ -16,22 +17,7 @@ mod tell;
 pub use batch::{Batch, Ending, Next};
 pub use over::{Over, plan_over};
 pub use planned::{Planned, SharedReached};
-pub use read::{ReadInput, ReadPart, rebuild};
+pub use read::{ReadInput, ReadPart, Rebuilt, earlier_of, rebuild};
 pub use slot::Slot;
 pub use steady::Steady;
 pub use tell::Tell;
-
-/// What the crates above name of `go_graph_core`.
-pub mod graph_core {
-    pub use go_snap_core::graph_core::Workspace;
-}
-
-/// What the crates above name of `go_part_core`.
-pub mod part_core {
-    pub use go_snap_core::part_core::{Part, PartInput};
-}
-
-/// What the crates above name of `go_snap_core`.
-pub mod snap_core {
-    pub use go_snap_core::{SharedSnapshot, Snapshot};
-}

@@ -1,7 +1,7 @@
 //! The plan of a workspace over that of a snapshot.
 ghost use Rattle.std.specs.Prelude.{◌≡◌, ◌<◌, IfOk, length};
-ghost use Rattle.go_head_core.specs.Heads.{AreSameMarks, HaveSameHeads};
-ghost use Rattle.go_head_core.specs.Outside.{AreSameOutside};
+ghost use Rattle.go_import_core.specs.head.Heads.{AreSameMarks, HaveSameHeads};
+ghost use Rattle.go_import_core.specs.head.Outside.{AreSameOutside};
 ghost use Rattle.go_batch_core.specs.Planning.{IsPlanned};
 ghost use Rattle.go_batch_core.specs.Steadiness.{AreSameAt, BeginsSteady};
 ghost use Rattle.go_batch_core.specs.mirrors.Rows.{StaysIf};
@@ -10,10 +10,10 @@ use crate::marks::is_marked;
 use crate::planned::Planned;
 use crate::rows::has_same;
 use crate::steady::Steady;
-use go_head_core::{Compared, compare, outcomes_stay};
+use go_block_core::graph_core::{PackageSource, Workspace};
+use go_import_core::head::{Compared, compare, outcomes_stay};
 use go_path_core::Module;
 use go_snap_core::Snapshot;
-use go_snap_core::graph_core::{PackageSource, Workspace};
 use std::alloc::{AllocError, Global};
 
 /// The plan of a workspace, and what of a snapshot is as it was in it.

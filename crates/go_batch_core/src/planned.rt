@@ -1,11 +1,11 @@
 //! The plan of a workspace with what its packages reach, shared.
 ghost use Rattle.std.specs.Prelude.{◌≡◌, IfOk};
-ghost use Rattle.go_head_core.specs.Heads.{HaveSameHeads};
+ghost use Rattle.go_import_core.specs.head.Heads.{HaveSameHeads};
 ghost use Rattle.go_batch_core.specs.Planning.{IsPlanned};
 
-use go_head_core::{ListedPlan, plans_stay};
-use go_reach_core::Reached;
-use go_snap_core::graph_core::{Workspace, plan_imports};
+use go_block_core::graph_core::{Workspace, plan_imports};
+use go_digraph_core::reach::Reached;
+use go_import_core::head::{ListedPlan, plans_stay};
 use std::alloc::{AllocError, Global};
 use std::marker::Model;
 use std::sync::Arc;
@@ -24,7 +24,7 @@ impl Drop for SharedReached {
 impl Model for SharedReached {
     ghost use Rattle.std.specs.Prelude.{List};
     ghost use Rattle.std.specs.Arc.{arc_value};
-    ghost use Rattle.go_reach_core.specs.Numbers.{Numbers};
+    ghost use Rattle.go_digraph_core.specs.reach.Numbers.{Numbers};
 
     ghost Value = { List Numbers };
 

@@ -1,13 +1,17 @@
 //! Inputs and parts of packages whose files are as they are read.
 ghost use Rattle.std.specs.Prelude.{◌≡◌, ◌↔◌, IfOk, IfSome, IsTrue};
-ghost use Rattle.go_snap_core.specs.graph_core.Workspaces.{AreAllRead};
-ghost use Rattle.go_snap_core.specs.part_core.Parts.{IsPart};
+ghost use Rattle.go_block_core.specs.graph_core.Workspaces.{AreAllRead};
+ghost use Rattle.go_package_core.specs.package_part.Parts.{IsPart};
+ghost use Rattle.go_batch_core.specs.seen.Local.{IsLocal};
+ghost use Rattle.go_batch_core.specs.seen.Sights.{Agrees, AreSeenBy};
 
-use go_snap_core::part_core::{Part, PartInput, compile_part_in};
+use crate::seen::{Compiled, Sight};
+use go_package_core::package_part::{Part, PartInput, compile_part_in};
 use std::alloc::{AllocError, Global};
 use std::marker::Model;
 
-/// The input of a package each file of which has the content that its text has, as those of a workspace have. Contracts see the input.
+/// The input of a package of a workspace: each of its files has the content that its text has, and over what any other packages tell beside those that it
+/// reaches, the package has what the input gives. Contracts see the input.
 pub struct ReadInput {
     input: PartInput,
 }
@@ -19,8 +23,9 @@ impl Drop for ReadInput {
 }
 
 impl Model for ReadInput {
-    ghost use Rattle.go_snap_core.specs.graph_core.Workspaces.{AreAllRead};
-    ghost use Rattle.go_snap_core.specs.part_core.Inputs.{InputModel, coded_input};
+    ghost use Rattle.go_block_core.specs.graph_core.Workspaces.{AreAllRead};
+    ghost use Rattle.go_package_core.specs.package_part.Inputs.{InputModel, coded_input};
+    ghost use Rattle.go_batch_core.specs.seen.Local.{IsLocal};
 
     ghost Value = { InputModel };
 
@@ -28,13 +33,14 @@ impl Model for ReadInput {
 
     ghost view = { λ i. i.input };
 
-    ghost invariant = { λ i. AreAllRead i.input.source };
+    ghost invariant = { λ i. AreAllRead i.input.source × IsLocal i.input };
 }
 
 impl ReadInput {
     /// An input whose files are as they are read.
     pub fn new(input: PartInput) -> ReadInput
-        requires { AreAllRead input.source }
+        requires read { AreAllRead input.source }
+        requires local { IsLocal input }
         ensures { result ≡ input }
     {
         ReadInput { input }
@@ -44,6 +50,7 @@ impl ReadInput {
     pub fn get(&self) -> &PartInput
         ensures value { result.now ≡ self.now }
         ensures read { AreAllRead self.now.source }
+        ensures local { IsLocal self.now }
     {
         &self.input
     }
@@ -61,8 +68,8 @@ impl Drop for ReadPart {
 }
 
 impl Model for ReadPart {
-    ghost use Rattle.go_snap_core.specs.graph_core.Workspaces.{AreAllRead};
-    ghost use Rattle.go_snap_core.specs.part_core.Parts.{PartModel};
+    ghost use Rattle.go_block_core.specs.graph_core.Workspaces.{AreAllRead};
+    ghost use Rattle.go_package_core.specs.package_part.Parts.{PartModel};
     ghost use Rattle.go_batch_core.specs.Coding.{coded_part};
 
     ghost Value = { PartModel };
@@ -112,8 +119,15 @@ fn is_made_of(part: &ReadPart, input: &ReadInput) -> bool
     part.get().input().is_same(input.get())
 }
 
-// An earlier part once more, where it was made of an input.
-fn earlier_of(input: &ReadInput, earlier: Option<&ReadPart>) -> Result<Option<ReadPart>, AllocError>
+/// An earlier part once more, where it was made of an input. The time is linear in the two inputs.
+///
+/// # Errors
+///
+/// `AllocError` where the part has too many owners.
+pub fn earlier_of(
+    input: &ReadInput,
+    earlier: Option<&ReadPart>,
+) -> Result<Option<ReadPart>, AllocError>
     ensures { IfOk result (λ o. IfSome o (λ p. p.input ≡ input.now)) }
 {
     let Some(part) = earlier else {
@@ -156,4 +170,32 @@ pub fn rebuild(
     }
     let part = compile_part_in(alloc, input.get(), generation)?;
     Ok(ReadPart::new(part))
+}
+
+/// A part that was compiled over what is seen of packages, and what is seen after it.
+#[derive(Drop)]
+pub struct Rebuilt {
+    pub part: ReadPart,
+    pub sight: Sight,
+}
+
+impl Rebuilt {
+    /// The part of an input, compiled over what is seen, as `Sight::compile` does.
+    ///
+    /// # Errors
+    ///
+    /// `AllocError` where memory is wanting; nothing is seen any more then.
+    pub fn over(alloc: Global, input: &ReadInput, sight: Sight) -> Result<Rebuilt, AllocError>
+        requires { Agrees sight input.now.reached }
+        ensures input { IfOk result (λ r. r.part.input ≡ input.now) }
+        ensures made { IfOk result (λ r. IsPart input.now r.part.content) }
+        ensures seen { IfOk result (λ r. AreSeenBy sight input.now r.sight) }
+    {
+        let compiled = sight.compile(alloc, input.get())?;
+        let Compiled { part, sight } = compiled;
+        Ok(Rebuilt {
+            part: ReadPart::new(part),
+            sight,
+        })
+    }
 }

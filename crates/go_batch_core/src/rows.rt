@@ -1,11 +1,11 @@
 //! Whether a package has by one plan what it has by another.
 ghost use Rattle.std.specs.Prelude.{IfOk, IsTrue};
-ghost use Rattle.go_head_core.specs.Rows.{HaveSameRows};
+ghost use Rattle.go_import_core.specs.head.Rows.{HaveSameRows};
 ghost use Rattle.go_batch_core.specs.mirrors.Rows.{HaveSameReached};
 
 use crate::planned::Planned;
-use go_head_core::same_rows;
-use go_reach_core::Reached;
+use go_digraph_core::reach::Reached;
+use go_import_core::head::same_rows;
 use std::alloc::{AllocError, Global};
 
 // Whether a package reaches the same packages.

@@ -3,8 +3,8 @@ ghost use Rattle.std.specs.Prelude.{◌≡◌};
 ghost use Rattle.go_batch_core.specs.Batches.{is_left};
 ghost use Rattle.go_batch_core.specs.mirrors.Keeping.{mark_of};
 
-use go_snap_core::part_core::PartInput;
-use go_turn_core::Mark;
+use go_digraph_core::ready_queue::Mark;
+use go_package_core::package_part::PartInput;
 
 /// What is done with the action of a package.
 pub enum Slot {

@@ -1,7 +1,7 @@
 //! What of the last snapshot is as it was in the batch that runs.
 ghost use Rattle.std.specs.Prelude.{◌≡◌, ◌↔◌, Contains, IfOk, IfSome, IsTrue, MatchOption, Some, false, length, replicate, slice_get, slice_set, true};
-ghost use Rattle.go_snap_core.specs.graph_core.Workspaces.{AreAllRead};
-ghost use Rattle.go_snap_core.specs.part_core.Parts.{PartModel};
+ghost use Rattle.go_block_core.specs.graph_core.Workspaces.{AreAllRead};
+ghost use Rattle.go_package_core.specs.package_part.Parts.{PartModel};
 ghost use Rattle.go_snap_core.specs.Staying.{StaysWhere};
 ghost use Rattle.go_batch_core.specs.Batches.{Awaits, IsReady};
 ghost use Rattle.go_batch_core.specs.Steadiness.{AreAgain, IsSteady, ReachesNoneIf, StaysAt, TellsAgain, WasAt};
@@ -9,8 +9,8 @@ ghost use Rattle.go_batch_core.specs.Steadiness.{AreAgain, IsSteady, ReachesNone
 use crate::batch::Batch;
 use crate::marks::{is_marked, set_mark};
 use crate::read::ReadPart;
+use go_package_core::package_part::{Part, one_part};
 use go_snap_core::Snapshot;
-use go_snap_core::part_core::{Part, one_part};
 use std::alloc::{AllocError, Global};
 use std::marker::Model;
 

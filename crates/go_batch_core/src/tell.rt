@@ -2,8 +2,8 @@
 ghost use Rattle.std.specs.Prelude.{◌≡◌, ◌<◌, ◌≤◌, ◌++◌, ◌∷◌, [], IfOk, OnErr, OnOk, length, vec_capacity};
 ghost use Rattle.go_batch_core.specs.mirrors.Tells.{AreWithin, tell_in, with_tells};
 
-use go_snap_core::make_core::Told;
-use go_snap_core::part_core::Part;
+use go_package_core::package_part::Part;
+use go_snap_core::make::Told;
 use std::alloc::{AllocError, Global};
 
 /// A package that tells something, by its number, with its part.

@@ -3,7 +3,7 @@ use Rattle.std.proofs.Common.{◌≡◌, ℕ, ◌+◌, ◌<◌, suc, Bool, Vec, 
 use Rattle.std.specs.Str.{bytes_eq}
 use Rattle.std.proofs.lemmas.List.{take_more, map_more, map-append, length-map}
 use Rattle.std.specs.Global.{Global}
-use Rattle.go_named_core.specs.Named.{Named}
+use Rattle.go_graph_core.specs.collections_core.NameTableNamed.{Named}
 use Rattle.go_block_core.specs.Exports.{clause_name}
 use Rattle.go_block_core.specs.Tables.{block_of}
 use Rattle.go_tree_nodes.specs.Trees.{FileTree}

@@ -5,7 +5,7 @@ use Rattle.std.specs.List.{AllZip}
 use Rattle.std.specs.List.Sorted.{IsStrictlyIncreasing}
 use Rattle.std.proofs.lemmas.List.{map-append}
 use Rattle.std.proofs.lemmas.List.Elements.{All-cons, All-head, All-tail}
-use Rattle.go_open_core.specs.text_core.declared.span.Span.{Span}
+use Rattle.go_tree_nodes.specs.text_core.declared.span.Span.{Span}
 use Rattle.go_tree_nodes.specs.Terminals.{Terminal, value_of}
 use Rattle.go_tree_nodes.specs.Trees.{FileTree, ImportTree, ImportSpecTree, Specs, Single, Group}
 use Rattle.go_tree_nodes.specs.Spelling.{spell_import, spell_specs_of, spell_specs, spell_imports, spell_file, IsPlaced}

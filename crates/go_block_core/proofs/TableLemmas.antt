@@ -6,7 +6,7 @@ use Rattle.std.specs.declared.string.String.{String}
 use Rattle.std.proofs.lemmas.Bool.{true≢false}
 use Rattle.std.proofs.lemmas.Slice.Eq.{bytes_eq-Decides}
 use Rattle.std.proofs.lemmas.List.{map-append, drop_more}
-use Rattle.go_open_core.specs.text_core.Text.{exported}
+use Rattle.go_tree_nodes.specs.text_core.Text.{exported}
 use Rattle.go_decl_core.specs.declared.keys.DeclRef.{DeclRef}
 use Rattle.go_block_core.specs.Exports.{exported_names}
 use Rattle.go_block_core.specs.Tables.{in_block, has, with_first, names_in, without}

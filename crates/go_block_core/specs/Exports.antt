@@ -3,7 +3,7 @@ use Rattle.std.specs.Prelude.{refl, ℕ, List, [], ◌∷◌}
 use Rattle.std.specs.List.{filter}
 use Rattle.std.specs.Str.{chars}
 use Rattle.std.specs.Coded.{Coded, code_by, coded×, coded_list, coded_ℕ}
-use Rattle.go_open_core.specs.text_core.Text.{exported}
+use Rattle.go_tree_nodes.specs.text_core.Text.{exported}
 use Rattle.go_decl_core.specs.declared.keys.DeclRef.{DeclRef}
 use Rattle.go_decl_core.specs.contracts.keys.DeclRef as decl_ref
 use Rattle.go_graph_core.specs.Packages.{Trees}

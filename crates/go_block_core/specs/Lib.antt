@@ -12,8 +12,4 @@ pub mod Words
 pub mod mirrors
 pub mod decl_core
 pub mod graph_core
-pub mod open_core
-pub mod parse_core
-pub mod scan_core
-pub mod text_core
-pub mod tree_core
+pub mod scope_stack

@@ -2,7 +2,7 @@
 use Rattle.std.specs.Prelude.{ℕ, Bool, not, List, [], ◌∷◌, ◌++◌, is_some, if◌then◌else◌}
 use Rattle.std.specs.List.{filter}
 -- the names of a table as a block, what a block has at a name, and its names in order
-pub use Rattle.go_open_core.specs.Blocks.{block_of, in_block, names_in}
+pub use Rattle.go_scope_stack.specs.Blocks.{block_of, in_block, names_in}
 
 -- whether a block has a name
 abbrev pub has : {X : Type 0} → List (List ℕ × X) → List ℕ → Bool

@@ -1,20 +1,14 @@
 -- What the crates above name of go_graph_core.
 pub use Rattle.go_graph_core.proofs.Assemblies as Assemblies
-pub use Rattle.go_graph_core.proofs.AssemblyLaws as AssemblyLaws
-pub use Rattle.go_graph_core.proofs.Contents as Contents
 pub use Rattle.go_graph_core.specs.ImportLaws as ImportLaws
 pub use Rattle.go_graph_core.specs.Imports as Imports
-pub use Rattle.go_graph_core.proofs.Keeping as Keeping
 pub use Rattle.go_graph_core.specs.Lists as Lists
 pub use Rattle.go_graph_core.proofs.Numbers as Numbers
-pub use Rattle.go_graph_core.proofs.OneTarget as OneTarget
 pub use Rattle.go_graph_core.proofs.OutcomeLaws as OutcomeLaws
 pub use Rattle.go_graph_core.specs.Packages as Packages
 pub use Rattle.go_graph_core.proofs.Places as Places
 pub use Rattle.go_graph_core.proofs.PlanEdges as PlanEdges
-pub use Rattle.go_graph_core.proofs.PlanLaws as PlanLaws
 pub use Rattle.go_graph_core.specs.Plans as Plans
-pub use Rattle.go_graph_core.proofs.Reading as Reading
 pub use Rattle.go_graph_core.specs.Sources as Sources
 pub use Rattle.go_graph_core.proofs.ToldApart as ToldApart
 pub use Rattle.go_graph_core.specs.Workspaces as Workspaces

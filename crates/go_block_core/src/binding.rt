@@ -8,8 +8,8 @@ use crate::exports::NamedDecl;
 use crate::imports::{ImportForm, Imported, NamedImport};
 use go_decl_core::DeclKey;
 use go_decl_core::path_core::ImportPath;
-use go_graph_core::parse_types::add;
-use go_open_core::text_core::{Name, Rule};
+use go_parse_reader::types::add;
+use go_tree_nodes::text_core::{Name, Rule};
 use std::alloc::{AllocError, Global};
 
 /// What a name of a file block denotes.

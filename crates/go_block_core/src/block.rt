@@ -10,7 +10,7 @@ use crate::fault::BlockFault;
 use crate::package_block::{exported_of, names_of};
 use crate::table::{has, names_in, names_without};
 use go_decl_core::DeclRef;
-use go_named_core::NameTable;
+use go_graph_core::collections_core::NameTable;
 use std::alloc::{AllocError, Global};
 use std::marker::Model;
 

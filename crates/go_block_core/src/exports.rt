@@ -9,7 +9,7 @@ use crate::name_order::{decl_of, order_of};
 use go_decl_core::DeclRef;
 use go_decl_core::path_core::ImportPath;
 use go_graph_core::Package;
-use go_open_core::text_core::Name;
+use go_tree_nodes::text_core::Name;
 use std::alloc::{AllocError, Global};
 use std::marker::Model;
 use std::sync::Arc;

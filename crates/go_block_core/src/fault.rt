@@ -2,7 +2,7 @@
 ghost use Rattle.std.specs.Prelude.{◌≡◌, ◌++◌, OnOk};
 ghost use Rattle.go_block_core.specs.Faults.{block_fault, fault_if, rule_of};
 
-use go_open_core::text_core::Rule;
+use go_tree_nodes::text_core::Rule;
 use std::alloc::AllocError;
 
 /// A rule that a declaration or an import of a block may break.

@@ -4,7 +4,7 @@ ghost use Rattle.go_block_core.specs.Holding.{imports_in, AreImportsInOrder};
 ghost use Rattle.go_block_core.specs.Naming.{comes_to_package};
 
 use crate::exports::Exports;
-use go_open_core::text_core::{Name, Rule};
+use go_tree_nodes::text_core::{Name, Rule};
 use std::alloc::AllocError;
 
 /// What an import comes to, as the package that has it sees it.

@@ -39,9 +39,7 @@ pub use naming::{import_names, import_specs};
 
 /// What the crates above name of `go_decl_core`.
 pub mod decl_core {
-    pub use go_decl_core::{
-        Anchor, DeclKey, DeclKind, DeclRef, Outline, TopDecl, anchors, outline,
-    };
+    pub use go_decl_core::{Anchor, DeclKind, DeclRef, Outline, Places, TopDecl, anchors, outline};
 }
 
 /// What the crates above name of `go_graph_core`.
@@ -52,17 +50,7 @@ pub mod graph_core {
     };
 }
 
-/// What the crates above name of `go_open_core`.
-pub mod open_core {
-    pub use go_open_core::{DeclId, NameList, OpenBlocks, ShortDecl, ShortName};
-}
-
-/// What the crates above name of `go_parse_core`.
-pub mod parse_core {
-    pub use go_graph_core::parse_core::{one_rule, one_tree};
-}
-
-/// What the crates above name of `go_text_core`.
-pub mod text_core {
-    pub use go_open_core::text_core::Rule;
+/// What the crates above name of `go_scope_stack`.
+pub mod scope_stack {
+    pub use go_scope_stack::{DeclId, NameList, OpenBlocks, ShortDecl, ShortName};
 }

@@ -10,8 +10,8 @@ ghost use Rattle.go_block_core.specs.mirrors.Shown.{spec_shown};
 use crate::imports::{ImportForm, ImportNames, Imported, NamedImport};
 use crate::word::refused_name;
 use go_graph_core::Package;
-use go_graph_core::parse_types::add;
-use go_open_core::text_core::Name;
+use go_parse_reader::types::add;
+use go_tree_nodes::text_core::Name;
 use go_tree_nodes::{File, ImportDecl, ImportName, ImportSpec, ImportSpecs, TextLiteral};
 use std::alloc::{AllocError, Global};
 

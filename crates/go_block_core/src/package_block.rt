@@ -1,7 +1,7 @@
 //! What the package block and the file blocks hold, and the faults in them.
 ghost use Rattle.std.specs.Prelude.{◌≡◌, ◌++◌, ◌∷◌, [], not, ◌&&◌, OnOk, IfOk, map};
 ghost use Rattle.std.specs.Str.{chars};
-ghost use Rattle.go_open_core.specs.text_core.Text.{exported};
+ghost use Rattle.go_tree_nodes.specs.text_core.Text.{exported};
 ghost use Rattle.go_tree_nodes.specs.Shapes.{file_of};
 ghost use Rattle.go_graph_core.specs.Packages.{trees_of};
 ghost use Rattle.go_decl_core.specs.Shown.{decl_shown};
@@ -23,10 +23,10 @@ use crate::imports::NamedImport;
 use crate::table::{bind_first, has};
 use go_decl_core::{DeclRef, TopDecl, outline};
 use go_graph_core::Package;
-use go_graph_core::parse_types::add;
-use go_named_core::NameTable;
-use go_open_core::text_core::{Name, is_exported};
+use go_graph_core::collections_core::NameTable;
+use go_parse_reader::types::add;
 use go_tree_nodes::File;
+use go_tree_nodes::text_core::{Name, is_exported};
 use std::alloc::{AllocError, Global};
 
 /// Whether a declaration of this name binds it.

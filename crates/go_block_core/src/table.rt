@@ -2,8 +2,8 @@
 ghost use Rattle.std.specs.Prelude.{◌≡◌, OnOk, IfOk, map};
 ghost use Rattle.go_block_core.specs.Tables.{block_of, has, with_first, names_in, without};
 
-use go_graph_core::parse_types::add;
-use go_named_core::NameTable;
+use go_graph_core::collections_core::NameTable;
+use go_parse_reader::types::add;
 use std::alloc::{AllocError, Global};
 
 /// Whether a table has a name.

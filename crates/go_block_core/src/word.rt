@@ -1,14 +1,14 @@
 //! The name of a refused import that is written without one.
 ghost use Rattle.std.specs.Prelude.{◌≡◌, IfOk};
 ghost use Rattle.std.specs.List.{list_all};
-ghost use Rattle.go_graph_core.specs.token_core.Characters.{letter_or_digit};
+ghost use Rattle.go_tree_nodes.specs.token_core.Characters.{letter_or_digit};
 ghost use Rattle.go_tree_nodes.specs.Terminals.{value_of};
 ghost use Rattle.go_block_core.specs.Words.{begins_with_letter, is_keyword, identifier, last_element, as_text, is_nonblank_identifier, last_name};
 ghost use Rattle.go_block_core.specs.mirrors.Shown.{text_shown};
 
-use go_graph_core::token_core::{KEYWORDS, characters_of};
-use go_open_core::text_core::{Name, is_digit, is_letter};
 use go_tree_nodes::TextLiteral;
+use go_tree_nodes::text_core::{Name, is_digit, is_letter};
+use go_tree_nodes::token_core::{KEYWORDS, characters_of};
 use std::alloc::{AllocError, Global};
 use std::str;
 

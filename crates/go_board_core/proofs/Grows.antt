@@ -4,9 +4,9 @@ use mathlib.Core.Option.{some}
 use lib.ListN.{get_elem?}
 use Rattle.left_right.specs.Register.{Admits, TurnsAt, Turns, Forks, Merges}
 use Rattle.atomic_table.proofs.Lists.{at_set, at_snoc, set_again}
-use Rattle.go_draft_core.specs.submit_core.declared.published.PublishedBatch.{PublishedBatch}
+use Rattle.go_submit_core.specs.declared.published.PublishedBatch.{PublishedBatch}
 use Rattle.go_board_core.specs.declared.rule.View.{View}
-use Rattle.go_draft_core.specs.submit_core.Published.{BeginsWith}
+use Rattle.go_submit_core.specs.Published.{BeginsWith}
 use Rattle.go_board_core.specs.Views.{newcomer, informed, Keeps, Sees}
 
 pub starts_self : (xs : List PublishedBatch) → BeginsWith xs xs

@@ -2,8 +2,8 @@
 use Rattle.std.specs.Prelude.{◌≡◌, ℕ, List, [], ◌∷◌}
 use mathlib.Core.Option.{some}
 use lib.ListN.{get_elem?}
-use Rattle.go_draft_core.specs.submit_core.Published.{BeginsWith}
-use Rattle.go_draft_core.specs.submit_core.declared.published.PublishedBatch.{PublishedBatch}
+use Rattle.go_submit_core.specs.Published.{BeginsWith}
+use Rattle.go_submit_core.specs.declared.published.PublishedBatch.{PublishedBatch}
 use Rattle.go_board_core.specs.declared.rule.View.{View}
 
 abbrev pub newcomer : View

@@ -1,9 +1,9 @@
 //! The published batches, as readers of the board see them.
 ghost use Rattle.std.specs.Prelude.{◌≡◌, ◌-◌, IfOk, length, slice_get};
 ghost use Rattle.std.specs.Option.{option_copied};
-ghost use Rattle.go_draft_core.specs.submit_core.Published.{AreSound};
+ghost use Rattle.go_submit_core.specs.Published.{AreSound};
 
-use go_draft_core::submit_core::{Batches, KeptBatch, PublishedBatch};
+use go_submit_core::{Batches, KeptBatch, PublishedBatch};
 use left_right::Absorb;
 use std::alloc::AllocError;
 use std::marker::Model;
@@ -21,8 +21,8 @@ impl Drop for Board {
 
 impl Model for Board {
     ghost use Rattle.std.specs.Prelude.{List};
-    ghost use Rattle.go_draft_core.specs.submit_core.declared.published.PublishedBatch.{PublishedBatch};
-    ghost use Rattle.go_draft_core.specs.submit_core.Coding.{coded_batches};
+    ghost use Rattle.go_submit_core.specs.declared.published.PublishedBatch.{PublishedBatch};
+    ghost use Rattle.go_submit_core.specs.Coding.{coded_batches};
 
     ghost Value = { List PublishedBatch };
 

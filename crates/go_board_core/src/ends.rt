@@ -1,7 +1,7 @@
 //! What readers and the writer do.
 ghost use Rattle.std.specs.Prelude.{◌≡◌, MatchResult};
 ghost use Rattle.left_right.specs.Sides.{view};
-ghost use Rattle.go_draft_core.specs.submit_core.Published.{BeginsWith};
+ghost use Rattle.go_submit_core.specs.Published.{BeginsWith};
 
 use crate::board::Board;
 use crate::rule::{Published, Sees, View};

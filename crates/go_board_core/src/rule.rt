@@ -2,7 +2,7 @@
 use crate::board::Board;
 use atomic_table::{Join, Split};
 use crossbeam_utils::rule::{Outcome, Protocol};
-use go_draft_core::submit_core::PublishedBatch;
+use go_submit_core::PublishedBatch;
 use std::collections::LinkedList;
 
 /// What a seat has seen of the board, and what it was told of. No value of it is made.

@@ -3,14 +3,14 @@ use Rattle.std.proofs.Common.{◌≡◌, ℕ, Bool, false, List, ◌++◌, map, 
 use Rattle.std.specs.Result.{IfOk}
 use Rattle.go_tree_nodes.specs.Trees.{FuncTree}
 use Rattle.go_term_core.specs.Terms.{Term}
-use Rattle.go_env_core.specs.local_core.declared.Fault.{Fault}
-use Rattle.go_env_core.specs.local_core.Law.{Rules, Out}
-use Rattle.go_env_core.specs.local_core.Tables.{walked, out_by_intervals}
-use Rattle.go_env_core.specs.walk_core.Ends.{lines_loop_faults}
-use Rattle.go_env_core.specs.names_core.Body.{AreWalked, AreGiven}
-use Rattle.go_env_core.specs.expr_core.Looks.{WrittenRules}
-use Rattle.go_env_core.specs.piece_core.Headers.{returned_types, returned_names}
-use Rattle.go_env_core.specs.face_core.Faces.{TheFace}
+use Rattle.go_names_core.specs.local_core.declared.Fault.{Fault}
+use Rattle.go_names_core.specs.local_core.Law.{Rules, Out}
+use Rattle.go_names_core.specs.local_core.Tables.{walked, out_by_intervals}
+use Rattle.go_names_core.specs.local_core.WalksEnds.{lines_loop_faults}
+use Rattle.go_names_core.specs.Body.{AreWalked, AreGiven}
+use Rattle.go_stmt_core.specs.expr_core.Looks.{WrittenRules}
+use Rattle.go_stmt_core.specs.piece.Headers.{returned_types, returned_names}
+use Rattle.go_env_core.specs.declared_core.Faces.{TheFace}
 use Rattle.go_env_core.specs.declared.meaning.Meaning.{Meaning}
 use Rattle.go_env_core.specs.Scenes.{SceneModel}
 use Rattle.go_body_core.specs.declared.body.CheckedBody.{CheckedBody}

@@ -2,10 +2,10 @@
 ghost use Rattle.std.specs.Prelude.{◌≡◌, IfOk};
 ghost use Rattle.go_tree_nodes.specs.Shapes.{func_of};
 ghost use Rattle.go_tree_nodes.specs.TypeShapes.{shape_signature};
-ghost use Rattle.go_env_core.specs.local_core.Tables.{IsFuncPlaced};
+ghost use Rattle.go_names_core.specs.local_core.Tables.{IsFuncPlaced};
 ghost use Rattle.go_env_core.specs.Scenes.{scene_shown};
 ghost use Rattle.go_env_core.specs.Looks.{inline_rules};
-ghost use Rattle.go_env_core.specs.piece_core.Headers.{returned_types};
+ghost use Rattle.go_stmt_core.specs.piece.Headers.{returned_types};
 ghost use Rattle.go_body_core.specs.Rules.{outside_looks};
 ghost use Rattle.go_body_core.specs.Body.{IsBody, IsWalkedBody, IsGivenBody};
 
@@ -13,15 +13,14 @@ use crate::ends::add_end;
 use crate::locals::Local;
 use crate::notes::{BodyUse, Note, joined};
 use crate::pieces::{Pieces, RecalledPieces};
-use go_env_core::face_core::Face;
+use go_env_core::declared_core::Face;
 use go_env_core::handle_core::{SignatureRef, TypeRef};
-use go_env_core::inline_core::InlineTypes;
-use go_env_core::local_core::Fault;
-use go_env_core::names_core::check_function;
-use go_env_core::piece_core::has_named_results;
-use go_env_core::scope_core::Scopes;
-use go_env_core::walk_core::lines_loop_faults;
 use go_env_core::{Recall, Scene, TypesOf, outer_names};
+use go_names_core::check_function;
+use go_names_core::local_core::{Fault, lines_loop_faults};
+use go_names_core::scope_core::Scopes;
+use go_stmt_core::inline_core::InlineTypes;
+use go_stmt_core::piece::has_named_results;
 use go_tree_nodes::FuncDecl;
 use std::alloc::{AllocError, Global};
 

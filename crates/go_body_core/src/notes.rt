@@ -6,12 +6,12 @@ ghost use Rattle.go_body_core.specs.Rules.{declared_among, locals_of};
 use crate::body::CheckedBody;
 use crate::locals::{Local, declared_locals, locals};
 use go_env_core::Meaning;
-use go_env_core::expr_core::{Notes, Use};
 use go_env_core::handle_core::{Decl, TypeRef};
-use go_env_core::operand_core::Operand;
 use go_env_core::select_core::EmbedPath;
-use go_text_core::add;
+use go_stmt_core::expr_core::{Notes, Use};
+use go_stmt_core::operand_core::Operand;
 use go_tree_nodes::Ident;
+use go_tree_nodes::text_core::add;
 use std::alloc::{AllocError, Global};
 use std::marker::Model;
 

@@ -2,23 +2,23 @@
 ghost use Rattle.std.specs.Prelude.{◌≡◌, [], ◌∷◌, ◌++◌, IfOk, OnOk, map};
 ghost use Rattle.std.specs.Coded.{Coded-set, coded_list};
 ghost use Rattle.go_tree_nodes.specs.TypeShapes.{shape_signature};
-ghost use Rattle.go_env_core.specs.table_core.codes.EntryCodes.{coded_entry};
-ghost use Rattle.go_env_core.specs.scope_core.Models.{scopes_model};
+ghost use Rattle.go_table_core.specs.codes.EntryCodes.{coded_entry};
+ghost use Rattle.go_names_core.specs.scope_core.Models.{scopes_model};
 ghost use Rattle.go_env_core.specs.Scenes.{scene_shown};
 ghost use Rattle.go_env_core.specs.Looks.{inline_rules};
-ghost use Rattle.go_env_core.specs.piece_core.Headers.{returned_types};
+ghost use Rattle.go_stmt_core.specs.piece.Headers.{returned_types};
 ghost use Rattle.go_body_core.specs.Rules.{locals_of, outside_looks};
 ghost use Rattle.go_body_core.specs.mirrors.Noted.{noted_at, values_at};
 
 use crate::notes::{Note, declare, nothing};
 use crate::piece_trees::{PieceTree, check_piece};
-use go_env_core::face_core::Face;
+use go_env_core::declared_core::Face;
 use go_env_core::handle_core::{SignatureRef, TypeRef};
-use go_env_core::inline_core::InlineTypes;
-use go_env_core::names_core::{Checker, OpenNames, header_idents, listed_idents};
-use go_env_core::piece_core::function_results;
 use go_env_core::{Meaning, Recall, Recalling, Scene, TypesOf, stand};
-use go_text_core::Span;
+use go_names_core::{Checker, OpenNames, header_idents, listed_idents};
+use go_stmt_core::inline_core::InlineTypes;
+use go_stmt_core::piece::function_results;
+use go_tree_nodes::text_core::Span;
 use go_tree_nodes::{Definition, Expr, Exprs, FuncDecl, Ident, Simple, ValueKind, ValueSpec};
 use std::alloc::{AllocError, Global};
 

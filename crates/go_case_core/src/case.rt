@@ -1,12 +1,12 @@
 //! A fault, with what stands there.
 
+use go_diagnostic_core::snap_core::PlacedFault;
 use go_diagnostic_core::{Here, ScannedFile, shown};
-use go_expr_core::left_place;
-use go_judge_core::denote_core::Stand;
 use go_judge_core::{
     CheckedFile, Extent, Judged, Setting, beginning, extent_of, literal_round, marked,
 };
-use go_snap_core::PlacedFault;
+use go_report_core::denote_core::Stand;
+use go_report_core::expr_core::left_place;
 use go_tree_nodes::{Expr, SelectExpr};
 use std::alloc::{AllocError, Global};
 

@@ -2,10 +2,10 @@
 
 use crate::fields::{StructParts, parts_of};
 use go_diagnostic_core::Words;
-use go_path_core::ImportPath;
-use go_table_core::TypeTable;
+use go_graph_core::path_core::ImportPath;
+use go_handle_core::table_core::TypeTable;
 use go_term_core::{Field, FieldLine, TypeTerm};
-use go_text_core::{add, is_exported};
+use go_tree_nodes::text_core::{add, is_exported};
 use std::alloc::{AllocError, Global};
 
 /// How many levels of embedded fields are gone through.

@@ -3,10 +3,10 @@
 use crate::case::Case;
 use crate::telling::{counted, separate, type_told};
 use go_diagnostic_core::{Message, Words, digits};
-use go_path_core::ImportPath;
-use go_table_core::TypeTable;
+use go_graph_core::path_core::ImportPath;
+use go_handle_core::table_core::TypeTable;
 use go_term_core::{Field, FieldLine, TypeTerm};
-use go_text_core::is_exported;
+use go_tree_nodes::text_core::is_exported;
 use std::alloc::{AllocError, Global};
 
 /// The fields of a struct type in order, with the lines that they stand in.

@@ -4,7 +4,7 @@ use crate::case::Case;
 use crate::lists::{Misfit, Values};
 use crate::missing::add_missing;
 use go_diagnostic_core::{Message, Words};
-use go_operand_core::Operand;
+use go_report_core::operand_core::Operand;
 use go_term_core::{TypeTerm, identical};
 use std::alloc::{AllocError, Global};
 

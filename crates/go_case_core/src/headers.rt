@@ -1,17 +1,17 @@
 //! Headers of functions, as they are written where the functions are declared.
 
 use crate::case::Case;
+use go_diagnostic_core::snap_core::Snapshot;
 use go_diagnostic_core::{Here, offset_of, place_text};
+use go_graph_core::SourceFile;
+use go_graph_core::path_core::ImportPath;
 use go_handle_core::DeclSite;
 use go_judge_core::inside;
-use go_path_core::ImportPath;
-use go_snap_core::Snapshot;
-use go_snap_core::answer_core::{Answer, Site};
-use go_snap_core::denote_core::Outcome;
-use go_snap_core::graph_core::SourceFile;
+use go_report_core::answer::{Answer, Site};
+use go_report_core::denote_core::Outcome;
 use go_term_core::MemberPlace;
 use go_term_core::decl_core::DeclRef;
-use go_text_core::is_blank;
+use go_tree_nodes::text_core::is_blank;
 use go_tree_nodes::{Decl, Expr, File, FuncDecl, Idents, Param, Results};
 use std::alloc::{AllocError, Global};
 

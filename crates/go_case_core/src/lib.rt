@@ -27,7 +27,7 @@ pub use telling::{
 /// What the crates above name of `go_diagnostic_core`.
 pub mod diagnostic_core {
     pub use go_diagnostic_core::{
-        LineKind, Message, ScannedFile, Words, add_names, add_near, digits, kind_text, own_decl,
+        LineKind, Message, Words, add_names, add_near, digits, kind_text, own_decl,
         package_of_name, place_here, shown,
     };
 }
@@ -37,9 +37,4 @@ pub mod judge_core {
     pub use go_judge_core::{
         CheckedFile, Extent, Judged, Piece, TypeText, exprs_of, inside, operand_type,
     };
-}
-
-/// What the crates above name of `go_snap_core`.
-pub mod snap_core {
-    pub use go_snap_core::{PlacedFault, Snapshot};
 }

@@ -3,12 +3,12 @@
 use crate::case::Case;
 use crate::telling::{is_of, is_value, kinds_told, results_of, type_told, types_told};
 use go_diagnostic_core::{Words, digits};
-use go_judge_core::denote_core::Stand;
 use go_judge_core::{Given, Judged};
-use go_operand_core::Operand;
+use go_report_core::denote_core::Stand;
+use go_report_core::operand_core::Operand;
 use go_term_core::{Basic, Signature, TypeTerm};
-use go_text_core::add;
 use go_tree_nodes::Expr;
+use go_tree_nodes::text_core::add;
 use std::alloc::{AllocError, Global};
 
 /// Expressions in a list, with what they denote.

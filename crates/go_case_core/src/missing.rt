@@ -4,9 +4,9 @@ use crate::case::Case;
 use crate::embedded::{deep_pointer, has_method, is_shown, owner_in, shallowest};
 use crate::telling::type_told;
 use go_diagnostic_core::{Message, Words};
+use go_graph_core::path_core::ImportPath;
+use go_handle_core::table_core::TypeTable;
 use go_mset_core::{Missing, implements, implements_by_pointer};
-use go_path_core::ImportPath;
-use go_table_core::TypeTable;
 use go_term_core::TypeTerm;
 use std::alloc::{AllocError, Global};
 

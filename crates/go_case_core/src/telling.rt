@@ -3,9 +3,9 @@
 use crate::case::Case;
 use go_diagnostic_core::{Words, digits};
 use go_judge_core::{Judged, TypeText};
-use go_operand_core::{Operand, ValueType};
+use go_report_core::operand_core::{Operand, ValueType};
 use go_term_core::{Signature, TypeTerm};
-use go_text_core::add;
+use go_tree_nodes::text_core::add;
 use std::alloc::{AllocError, Global};
 
 /// A type as it is told at the place of a fault.

@@ -4,10 +4,10 @@ use Rattle.std.specs.Prelude.{IfSome, IsTrue}
 use Rattle.std.specs.List.{slice_get}
 use Rattle.std.proofs.lemmas.Option.{slice_get_within}
 use Rattle.std.proofs.lemmas.List.Elements.{All-push}
-use Rattle.go_chain_core.specs.Chains.{AllInside}
-use Rattle.go_chain_core.specs.Laws.{EndsAreCounted}
-use Rattle.go_cycle_core.specs.declared.edge.Edge.{Edge}
-use Rattle.go_cycle_core.specs.Cycle.{InRange}
+use Rattle.go_digraph_core.specs.chain.Chains.{AllInside}
+use Rattle.go_digraph_core.specs.chain.Laws.{EndsAreCounted}
+use Rattle.go_digraph_core.specs.declared.cycle.edge.Edge.{Edge}
+use Rattle.go_digraph_core.specs.cycle.Cycle.{InRange}
 use Rattle.go_snap_core.specs.declared.fault.PlacedFault.{PlacedFault}
 use Rattle.go_cause_core.specs.declared.cause.Cause.{Cause}
 use Rattle.go_cause_core.specs.Causes.{AreCauses, AreDirect, AreRoots, HaveRoots, IsDirect, fits}

@@ -4,8 +4,8 @@ use Rattle.std.specs.Prelude.{if◌then◌else◌}
 use Rattle.std.specs.List.{Contains, slice_get}
 use Rattle.std.proofs.lemmas.Option.{get_or_from_slice_get, slice_get_within}
 use Rattle.std.proofs.lemmas.Cmp.{nat_eq_equiv}
-use Rattle.go_chain_core.specs.Chains.{AreEnds, EndsAt}
-use Rattle.go_chain_core.specs.Laws.{EndsAreCounted, counted_end}
+use Rattle.go_digraph_core.specs.chain.Chains.{AreEnds, EndsAt}
+use Rattle.go_digraph_core.specs.chain.Laws.{EndsAreCounted, counted_end}
 use Rattle.go_cause_core.specs.declared.cause.Cause.{Cause}
 use Rattle.go_cause_core.specs.declared.cause.Cause.TheVariants.{Root, Follows}
 use Rattle.go_cause_core.specs.Causes.{AreRoots, HaveRoots, cause_at}

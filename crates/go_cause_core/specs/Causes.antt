@@ -1,6 +1,6 @@
 -- Which faults follow from which.
 use Rattle.std.specs.Prelude.{◌≡◌, ◌≢◌, ◌<◌, ℕ, Bool, false, IsTrue, List, Option, Some, None, Contains, length, slice_get, nat_eq, if◌then◌else◌}
-use Rattle.go_chain_core.specs.Laws.{counted_end}
+use Rattle.go_digraph_core.specs.chain.Laws.{counted_end}
 use Rattle.go_snap_core.specs.declared.fault.PlacedFault.{PlacedFault}
 use Rattle.go_cause_core.specs.Pairs.{may_follow}
 use Rattle.go_cause_core.specs.declared.cause.Cause.{Cause}

@@ -1,7 +1,7 @@
 -- Which rules may follow from which.
 use Rattle.std.specs.Prelude.{Bool, true, false, ◌&&◌, ◌||◌}
-use Rattle.go_text_core.specs.declared.rule.Rule.{Rule}
-use Rattle.go_text_core.specs.declared.rule.Rule.TheVariants as rule
+use Rattle.go_denote_core.specs.text_core.declared.rule.Rule.{Rule}
+use Rattle.go_denote_core.specs.text_core.declared.rule.Rule.TheVariants as rule
 
 -- of a text that has no tree
 abbrev pub is_of_text : Rule → Bool

@@ -9,11 +9,11 @@ use crate::look::{Look, has_faults, text_fault};
 use crate::resolving::candidates;
 use crate::rooting::roots;
 use crate::tops::see_file;
-use go_snap_core::graph_core::Workspace;
-use go_snap_core::part_core::{Part, PartFile};
+use go_block_core::graph_core::Workspace;
+use go_denote_core::text_core::Rule;
+use go_package_core::package_part::{Part, PartFile};
 use go_snap_core::{PlacedFault, Snapshot};
 use go_term_core::decl_core::{Places, outline};
-use go_text_core::Rule;
 use std::alloc::{AllocError, Global};
 
 // A file of a part, as it is looked at.

@@ -1,12 +1,12 @@
 //! By what expressions and types are refused, or have no type.
 use crate::found::{Blame, DeclAt, Found, Said, TypeOf, UNSAID};
 use crate::look::{Look, Wanted};
-use go_answer_core::Site;
-use go_answer_core::denote_core::Outcome;
-use go_answer_core::handle_core::DeclSite;
+use go_denote_core::Outcome;
+use go_denote_core::text_core::Rule;
+use go_handle_core::DeclSite;
+use go_package_core::report_core::Site;
 use go_term_core::MemberPlace;
 use go_term_core::decl_core::{DeclKind, last_ident};
-use go_text_core::Rule;
 use go_tree_nodes::token_core::Operator;
 use go_tree_nodes::{
     CallExpr, Expr, Exprs, FieldLine, Fields, Ident, Idents, Item, LiteralExpr, MethodLine, Param,

@@ -1,12 +1,12 @@
 //! What is looked up while the tree of a file is gone through.
 use crate::pairs::{is_of_assembly, is_of_import, is_of_text};
-use go_answer_core::Answer;
-use go_answer_core::block_core::Blocks;
+use go_block_core::Blocks;
+use go_block_core::graph_core::Workspace;
+use go_denote_core::text_core::Rule;
+use go_package_core::report_core::Answer;
 use go_snap_core::PlacedFault;
-use go_snap_core::graph_core::Workspace;
-use go_snap_core::make_core::package_of;
+use go_snap_core::make::package_of;
 use go_term_core::decl_core::Places;
-use go_text_core::Rule;
 
 /// Which rules are looked for at a place.
 #[derive(Clone, Copy)]

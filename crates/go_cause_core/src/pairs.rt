@@ -2,7 +2,7 @@
 ghost use Rattle.std.specs.Prelude.{◌≡◌};
 ghost use Rattle.go_cause_core.specs.Pairs as pairs;
 
-use go_text_core::Rule;
+use go_denote_core::text_core::Rule;
 
 /// Whether the rule is one of a text that has no tree.
 pub(crate) fn is_of_text(rule: Rule) -> bool

@@ -4,9 +4,9 @@ ghost use Rattle.go_cause_core.specs.Names.{AreRepeated, IsAgain, repeats};
 
 use crate::direct::{candidate_of, fault_of};
 use crate::pairs::is_n1;
-use go_snap_core::graph_core::PackageSource;
+use go_block_core::graph_core::PackageSource;
+use go_denote_core::text_core::{is_digit, is_letter};
 use go_snap_core::{PlacedFault, Snapshot};
-use go_text_core::{is_digit, is_letter};
 use std::alloc::{AllocError, Global};
 use std::collections::BTreeMap;
 

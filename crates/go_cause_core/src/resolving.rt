@@ -1,13 +1,13 @@
 //! From what is found in the trees to the number of a fault that each fault may follow from.
 ghost use Rattle.std.specs.Prelude.{◌≡◌, ◌<◌, ℕ, IfOk, IfSome, OnOk, length};
-ghost use Rattle.go_chain_core.specs.Chains.{AllInside};
-ghost use Rattle.go_cycle_core.specs.Cycle.{InRange};
+ghost use Rattle.go_digraph_core.specs.chain.Chains.{AllInside};
+ghost use Rattle.go_digraph_core.specs.cycle.Cycle.{InRange};
 
 use crate::found::{Blame, CycleImport, DeclAt, Found, Link, Note, Said, TypeOf, note_number};
-use go_chain_core::chain_ends;
-use go_cycle_core::{Edge, rank_and_order};
+use go_denote_core::text_core::Rule;
+use go_digraph_core::chain::chain_ends;
+use go_digraph_core::cycle::{Edge, rank_and_order};
 use go_snap_core::PlacedFault;
-use go_text_core::Rule;
 use std::alloc::{AllocError, Global};
 
 // Through how many declarations the type of a value is looked for.

@@ -1,10 +1,10 @@
 //! Where the chains of direct causes end.
 ghost use Rattle.std.specs.Prelude.{◌≡◌, IfOk};
-ghost use Rattle.go_chain_core.specs.Chains.{AllInside};
+ghost use Rattle.go_digraph_core.specs.chain.Chains.{AllInside};
 ghost use Rattle.go_cause_core.specs.Causes.{AreRoots, HaveRoots, cause_at};
 
 use crate::cause::Cause;
-use go_chain_core::{chain_ends, ends_are_counted};
+use go_digraph_core::chain::{chain_ends, ends_are_counted};
 use std::alloc::{AllocError, Global};
 
 // What stands at the fault of a number whose chain of causes ends there.

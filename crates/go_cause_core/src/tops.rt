@@ -5,7 +5,7 @@ use crate::exprs::{
 use crate::found::{Blame, Found};
 use crate::look::{Look, Wanted};
 use crate::stmts::{see_lines, see_value_spec};
-use go_text_core::Rule;
+use go_denote_core::text_core::Rule;
 use go_tree_nodes::{
     Decl, File, FuncDecl, Ident, ImportDecl, ImportSpec, ImportSpecs, Receiver, TypeDecl, TypeSpec,
     TypeSpecs, ValueDecl, ValueSpec, ValueSpecs,

@@ -3,33 +3,33 @@ use Rattle.std.proofs.Common.{◌≡◌, ◌<◌, ℕ, suc, ◌+◌, Bool, true,
 use Rattle.std.proofs.lemmas.Option.{same_Some}
 use Rattle.std.proofs.lemmas.Bool.{true≢false}
 use Rattle.std.specs.Prelude.{Option, Some, None, nat_eq, if◌then◌else◌}
-use Rattle.go_tree_nodes.specs.text_core.Text.{is_blank}
-use Rattle.go_tree_nodes.specs.text_core.declared.span.Span.{Span}
+use Rattle.go_constant_core.specs.text_core.Text.{is_blank}
+use Rattle.go_constant_core.specs.text_core.declared.span.Span.{Span}
 use Rattle.go_tree_nodes.specs.token_core.declared.kind.Operator.{Operator}
 use Rattle.go_tree_nodes.specs.token_core.declared.kind.Operator.TheVariants as operators
 use Rattle.go_tree_nodes.specs.declared.names.Ident.{Ident}
 use Rattle.go_tree_nodes.specs.declared.decls.ValueKind.{ValueKind}
 use Rattle.go_tree_nodes.specs.declared.decls.ValueKind.TheVariants as value_kinds
 use Rattle.go_tree_nodes.specs.Trees.{Separated, One, Then, ExprTree, ItemTrees, Integer, Text, Named, Paren, Unary, Binary, Select, Call, Literal, StructLiteral, NoItems, Item, ValueSpecTree, Specs, Single, Group, SimpleTree, Alone, Step, Assign, Update, Define, StmtTree, Empty, Declare, Simple, Return, Break, Continue, Block, If, For, BranchTree, Branch, NoElse, ElseBlock, ElseIf, Lines, NoLines, Line, FuncTree}
-use Rattle.go_fragment_core.specs.instruction_core.declared.letters.Word.{Word}
-use Rattle.go_fragment_core.specs.instruction_core.declared.instruction.Distance.TheVariants as distances
-use Rattle.go_fragment_core.specs.instruction_core.declared.instruction.Instruction.{Instruction}
-use Rattle.go_fragment_core.specs.instruction_core.declared.instruction.Instruction.TheVariants as instructions
-use Rattle.go_fragment_core.specs.declared.names.ConstantWord.{ConstantWord}
-use Rattle.go_fragment_core.specs.declared.names.Gives.{Gives}
-use Rattle.go_fragment_core.specs.declared.names.Gives.TheVariants as gives
-use Rattle.go_fragment_core.specs.declared.names.Meaning.{Meaning}
-use Rattle.go_fragment_core.specs.declared.names.Meaning.TheVariants as meanings
-use Rattle.go_fragment_core.specs.declared.targets.Target.{Target}
-use Rattle.go_fragment_core.specs.declared.targets.Target.TheVariants as targets
+use Rattle.go_object_core.specs.declared.instructions.letters.Word.{Word}
+use Rattle.go_object_core.specs.declared.instructions.instruction.Distance.TheVariants as distances
+use Rattle.go_object_core.specs.declared.instructions.instruction.Instruction.{Instruction}
+use Rattle.go_object_core.specs.declared.instructions.instruction.Instruction.TheVariants as instructions
+use Rattle.go_code_core.specs.declared.fragments.names.ConstantWord.{ConstantWord}
+use Rattle.go_code_core.specs.declared.fragments.names.Gives.{Gives}
+use Rattle.go_code_core.specs.declared.fragments.names.Gives.TheVariants as gives
+use Rattle.go_code_core.specs.declared.fragments.names.Meaning.{Meaning}
+use Rattle.go_code_core.specs.declared.fragments.names.Meaning.TheVariants as meanings
+use Rattle.go_code_core.specs.declared.fragments.targets.Target.{Target}
+use Rattle.go_code_core.specs.declared.fragments.targets.Target.TheVariants as targets
 use Rattle.go_code_core.specs.Code.{Exits, before, binary_code, body_code, branch_code, call_end, code_of, constant_or, declared_code, dropped, expr_code, frame_in, head_init, head_post, head_test, in_loop, init_code, initial_code, items_code, jump, letters, lines_code, load, loop_code, name_code, no_exits, one_code, panic_end, receiver_code, returned_code, simple_code, some_simple_code, stmt_code, store, stored, test_code, updated, value_lines_code, value_spec_code, value_specs_code}
-use Rattle.go_fragment_core.specs.Constants.{folded}
-use Rattle.go_fragment_core.specs.Fragment.{expr_gives, means_method}
-use Rattle.go_fragment_core.specs.Inside.{in_fragment}
+use Rattle.go_code_core.specs.fragments.Constants.{folded}
+use Rattle.go_code_core.specs.fragments.Fragment.{expr_gives, means_method}
+use Rattle.go_code_core.specs.fragments.Inside.{in_fragment}
 use Rattle.go_code_core.specs.Laws.{CodeIsWhole, IsOfFunction, OutsideIsAlone}
-use Rattle.go_fragment_core.specs.Slots.{slots_of}
-use Rattle.go_fragment_core.specs.Names.{Frame, slot_from, slot_of, callee_meaning, slot_target, meant_target, slot_assigned, declared_slot}
-use Rattle.go_fragment_core.specs.Operators.{some_instruction, step_operator, unary_instruction, update_operator}
+use Rattle.go_code_core.specs.fragments.Slots.{slots_of}
+use Rattle.go_code_core.specs.fragments.Names.{Frame, slot_from, slot_of, callee_meaning, slot_target, meant_target, slot_assigned, declared_slot}
+use Rattle.go_code_core.specs.fragments.Operators.{some_instruction, step_operator, unary_instruction, update_operator}
 
 abbrev pub Each : (Instruction → Type 0) → List Instruction → Type 0
 Each P [] = Unit {0}

@@ -4,3 +4,6 @@ pub mod Looping
 pub mod Loops
 pub mod Pieces
 pub mod Turning
+pub mod FragmentsForms
+pub mod FragmentsLoops
+pub mod FragmentsSlotted

@@ -6,13 +6,13 @@ use Rattle.go_tree_nodes.specs.declared.stmts.Loop.{Loop, out-Loop}
 use Rattle.go_tree_nodes.specs.Trees.{ExprTree, ForTree, Lines, ElseTree, NoElse, ElseBlock, ElseIf, Branch}
 use Rattle.go_tree_nodes.specs.Shapes.{shape_branch, shape_else, shape_for, shape_if, shape_loop, lines_of}
 use Rattle.go_tree_nodes.proofs.ShapeLemmas.{branch_parts, loop_parts}
-use Rattle.go_tree_nodes.specs.text_core.declared.span.Span.{Span}
-use Rattle.go_fragment_core.specs.instruction_core.declared.instruction.Distance.TheVariants as distances
-use Rattle.go_fragment_core.specs.instruction_core.declared.instruction.Instruction.{Instruction}
-use Rattle.go_fragment_core.specs.instruction_core.declared.instruction.Instruction.TheVariants as instructions
+use Rattle.go_constant_core.specs.text_core.declared.span.Span.{Span}
+use Rattle.go_object_core.specs.declared.instructions.instruction.Distance.TheVariants as distances
+use Rattle.go_object_core.specs.declared.instructions.instruction.Instruction.{Instruction}
+use Rattle.go_object_core.specs.declared.instructions.instruction.Instruction.TheVariants as instructions
 use Rattle.go_code_core.specs.declared.stmts.Marks.{Marks}
 use Rattle.go_code_core.specs.Code.{Exits, before, branch_code, head_init, head_post, head_test, in_loop, init_code, jump, lines_code, round, some_simple_code, stmt_code, test_code}
-use Rattle.go_fragment_core.specs.Names.{Frame}
+use Rattle.go_code_core.specs.fragments.Names.{Frame}
 use Rattle.go_code_core.specs.mirrors.Written.{IsMarked, else_code, exits_at}
 use Rattle.go_code_core.proofs.Loops.{further}
 

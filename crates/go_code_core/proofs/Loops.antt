@@ -2,12 +2,12 @@
 use Rattle.std.proofs.Common.{◌≡◌, ℕ, suc, ◌+◌, ◌-◌, List, [], ◌∷◌, ◌++◌, length, sym, ap, ◌∙◌, arith, length-append, add-one}
 use Rattle.go_tree_nodes.specs.declared.exprs.«Item» as declared_item
 use Rattle.go_tree_nodes.specs.Shapes.{items_of}
-use Rattle.go_fragment_core.specs.instruction_core.declared.instruction.Instruction.{Instruction}
-use Rattle.go_fragment_core.specs.instruction_core.declared.instruction.Instruction.TheVariants as instructions
-use Rattle.go_fragment_core.specs.declared.names.Gives.{Gives}
-use Rattle.go_fragment_core.specs.declared.names.Meaning.TheVariants as meanings
-use Rattle.go_fragment_core.specs.Names.{Frame}
-use Rattle.go_fragment_core.proofs.Loops.{counted}
+use Rattle.go_object_core.specs.declared.instructions.instruction.Instruction.{Instruction}
+use Rattle.go_object_core.specs.declared.instructions.instruction.Instruction.TheVariants as instructions
+use Rattle.go_code_core.specs.declared.fragments.names.Gives.{Gives}
+use Rattle.go_code_core.specs.declared.fragments.names.Meaning.TheVariants as meanings
+use Rattle.go_code_core.specs.fragments.Names.{Frame}
+use Rattle.go_code_core.proofs.FragmentsLoops.{counted}
 use Rattle.go_code_core.specs.declared.stmts.Marks.{Marks}
 use Rattle.go_code_core.specs.Code.{before, call_end}
 use Rattle.go_code_core.specs.mirrors.Written.{IsMarked, exits_at}

@@ -11,16 +11,16 @@ use Rattle.go_tree_nodes.specs.declared.exprs.CallExpr.{CallExpr, out-CallExpr}
 use Rattle.go_tree_nodes.specs.Shapes.{shape, shape_call, items_of}
 use Rattle.go_tree_nodes.specs.Trees.{ExprTree, Integer, Text, Named, Paren, Unary, Binary, Select, Call, Literal, StructLiteral}
 use Rattle.go_tree_nodes.proofs.ShapeLemmas.{call_parts, call_form, call_tree}
-use Rattle.go_fragment_core.specs.instruction_core.declared.instruction.Distance.TheVariants as distances
-use Rattle.go_fragment_core.specs.instruction_core.declared.instruction.Instruction.{Instruction}
-use Rattle.go_fragment_core.specs.instruction_core.declared.instruction.Instruction.TheVariants as instructions
-use Rattle.go_fragment_core.specs.declared.names.ConstantWord.{ConstantWord}
-use Rattle.go_fragment_core.specs.declared.names.Meaning.{Meaning}
-use Rattle.go_fragment_core.specs.declared.names.Meaning.TheVariants as meanings
+use Rattle.go_object_core.specs.declared.instructions.instruction.Distance.TheVariants as distances
+use Rattle.go_object_core.specs.declared.instructions.instruction.Instruction.{Instruction}
+use Rattle.go_object_core.specs.declared.instructions.instruction.Instruction.TheVariants as instructions
+use Rattle.go_code_core.specs.declared.fragments.names.ConstantWord.{ConstantWord}
+use Rattle.go_code_core.specs.declared.fragments.names.Meaning.{Meaning}
+use Rattle.go_code_core.specs.declared.fragments.names.Meaning.TheVariants as meanings
 use Rattle.go_code_core.specs.Code.{binary_code, call_end, constant_or, expr_code, items_code, name_code, push, receiver_code}
-use Rattle.go_fragment_core.specs.Constants.{folded, folded_name}
-use Rattle.go_fragment_core.specs.Names.{Frame, callee_meaning}
-use Rattle.go_fragment_core.specs.Operators.{some_instruction, unary_instruction}
+use Rattle.go_code_core.specs.fragments.Constants.{folded, folded_name}
+use Rattle.go_code_core.specs.fragments.Names.{Frame, callee_meaning}
+use Rattle.go_code_core.specs.fragments.Operators.{some_instruction, unary_instruction}
 use Rattle.go_code_core.specs.mirrors.Written.{applied}
 
 -- a piece in front of another

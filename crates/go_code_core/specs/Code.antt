@@ -2,30 +2,30 @@
 use Rattle.std.specs.Prelude.{ℕ, suc, ◌+◌, true, false, List, [], ◌∷◌, ◌++◌, length, ℤ, pos, Option, Some, None, if◌then◌else◌}
 use Rattle.go_tree_nodes.specs.token_core.declared.kind.Operator.{Operator}
 use Rattle.go_tree_nodes.specs.token_core.declared.kind.Operator.TheVariants as operators
-use Rattle.go_tree_nodes.specs.text_core.declared.span.Span.{Span}
+use Rattle.go_constant_core.specs.text_core.declared.span.Span.{Span}
 use Rattle.go_tree_nodes.specs.declared.names.Ident.{Ident}
 use Rattle.go_tree_nodes.specs.declared.decls.ValueKind.{ValueKind}
 use Rattle.go_tree_nodes.specs.declared.decls.ValueKind.TheVariants as value_kinds
 use Rattle.go_tree_nodes.specs.Trees.{Separated, One, Then, ExprTree, ItemTrees, Integer, Text, Named, Paren, Unary, Binary, Select, Call, Literal, StructLiteral, NoItems, Item, ValueSpecTree, Specs, Single, Group, SimpleTree, Alone, Step, Assign, Update, Define, ForTree, Forever, While, Clauses, StmtTree, Empty, Declare, Simple, Return, Break, Continue, Block, If, For, BranchTree, Branch, NoElse, ElseBlock, ElseIf, Lines, NoLines, Line, FuncTree}
 use Rattle.go_tree_nodes.specs.Counts.{item_count}
-use Rattle.go_fragment_core.specs.instruction_core.declared.letters.Word.{Word}
-use Rattle.go_fragment_core.specs.instruction_core.declared.instruction.Distance.TheVariants as distances
-use Rattle.go_fragment_core.specs.instruction_core.declared.instruction.Instruction.{Instruction}
-use Rattle.go_fragment_core.specs.instruction_core.declared.instruction.Instruction.TheVariants as instructions
-use Rattle.go_fragment_core.specs.declared.names.ConstantWord.{ConstantWord}
-use Rattle.go_fragment_core.specs.declared.names.ConstantWord.TheVariants as constants
-use Rattle.go_fragment_core.specs.declared.names.Gives.{Gives}
-use Rattle.go_fragment_core.specs.declared.names.Gives.TheVariants as gives
-use Rattle.go_fragment_core.specs.declared.names.Meaning.{Meaning}
-use Rattle.go_fragment_core.specs.declared.names.Meaning.TheVariants as meanings
-use Rattle.go_fragment_core.specs.declared.targets.Target.{Target}
-use Rattle.go_fragment_core.specs.declared.targets.Target.TheVariants as targets
-use Rattle.go_fragment_core.specs.Constants.{folded}
-use Rattle.go_fragment_core.specs.Fragment.{expr_gives, means_method}
-use Rattle.go_fragment_core.specs.Inside.{in_fragment}
-use Rattle.go_fragment_core.specs.Names.{CodeLooks, Frame, frame_of, slot_of, callee_meaning, slot_assigned, declared_slot}
-use Rattle.go_fragment_core.specs.Operators.{unary_instruction, binary_instruction, step_operator, update_operator, some_instruction}
-use Rattle.go_fragment_core.specs.Slots.{slots_of}
+use Rattle.go_object_core.specs.declared.instructions.letters.Word.{Word}
+use Rattle.go_object_core.specs.declared.instructions.instruction.Distance.TheVariants as distances
+use Rattle.go_object_core.specs.declared.instructions.instruction.Instruction.{Instruction}
+use Rattle.go_object_core.specs.declared.instructions.instruction.Instruction.TheVariants as instructions
+use Rattle.go_code_core.specs.declared.fragments.names.ConstantWord.{ConstantWord}
+use Rattle.go_code_core.specs.declared.fragments.names.ConstantWord.TheVariants as constants
+use Rattle.go_code_core.specs.declared.fragments.names.Gives.{Gives}
+use Rattle.go_code_core.specs.declared.fragments.names.Gives.TheVariants as gives
+use Rattle.go_code_core.specs.declared.fragments.names.Meaning.{Meaning}
+use Rattle.go_code_core.specs.declared.fragments.names.Meaning.TheVariants as meanings
+use Rattle.go_code_core.specs.declared.fragments.targets.Target.{Target}
+use Rattle.go_code_core.specs.declared.fragments.targets.Target.TheVariants as targets
+use Rattle.go_code_core.specs.fragments.Constants.{folded}
+use Rattle.go_code_core.specs.fragments.Fragment.{expr_gives, means_method}
+use Rattle.go_code_core.specs.fragments.Inside.{in_fragment}
+use Rattle.go_code_core.specs.fragments.Names.{CodeLooks, Frame, frame_of, slot_of, callee_meaning, slot_assigned, declared_slot}
+use Rattle.go_code_core.specs.fragments.Operators.{unary_instruction, binary_instruction, step_operator, update_operator, some_instruction}
+use Rattle.go_code_core.specs.fragments.Slots.{slots_of}
 
 -- expressions
 

@@ -1,13 +1,13 @@
 -- Laws of code.
 use Rattle.std.specs.Prelude.{◌≡◌, ◌≤◌, ◌<◌, ℕ, suc, true, false, List, [], ◌∷◌, ◌++◌, length}
 use Rattle.go_tree_nodes.specs.Trees.{FuncTree}
-use Rattle.go_fragment_core.specs.instruction_core.declared.instruction.Distance.TheVariants as distances
-use Rattle.go_fragment_core.specs.instruction_core.declared.instruction.Instruction.{Instruction}
-use Rattle.go_fragment_core.specs.instruction_core.declared.instruction.Instruction.TheVariants as instructions
-use Rattle.go_fragment_core.specs.Names.{CodeLooks}
-use Rattle.go_fragment_core.specs.Slots.{slots_of}
+use Rattle.go_object_core.specs.declared.instructions.instruction.Distance.TheVariants as distances
+use Rattle.go_object_core.specs.declared.instructions.instruction.Instruction.{Instruction}
+use Rattle.go_object_core.specs.declared.instructions.instruction.Instruction.TheVariants as instructions
+use Rattle.go_code_core.specs.fragments.Names.{CodeLooks}
+use Rattle.go_code_core.specs.fragments.Slots.{slots_of}
 use Rattle.go_code_core.specs.Code.{code_of, frame_in}
-use Rattle.go_fragment_core.specs.Inside.{in_fragment}
+use Rattle.go_code_core.specs.fragments.Inside.{in_fragment}
 
 -- with so many instructions up to this one, itself included, and so many behind it, an instruction leads to one of them or to the end
 abbrev pub LeadsInside : ℕ → ℕ → Instruction → Type 0

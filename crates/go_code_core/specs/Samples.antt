@@ -3,23 +3,23 @@
 -- Offsets count from the start of each function's text. All other places are one `s`, whatever it is: code asks where identifiers stand, and the
 -- opening parentheses of calls, and no more.
 use Rattle.std.specs.Prelude.{◌≡◌, ℕ, ◌+◌, nat_eq, true, false, List, [], ◌∷◌, length, pos, Option, Some, None, if◌then◌else◌, codes}
-use Rattle.go_tree_nodes.specs.text_core.declared.span.Span.{Span}
+use Rattle.go_constant_core.specs.text_core.declared.span.Span.{Span}
 use Rattle.go_tree_nodes.specs.token_core.declared.kind.Operator.TheVariants as operators
 use Rattle.go_tree_nodes.specs.declared.names.Ident.{Ident}
 use Rattle.go_tree_nodes.specs.declared.decls.ValueKind.TheVariants as value_kinds
 use Rattle.go_tree_nodes.specs.declared.files.Receiver.{Receiver}
 use Rattle.go_tree_nodes.specs.declared.types.TypeName.TheVariants as type_names
 use Rattle.go_tree_nodes.specs.Trees.{One, Then, TypeTree, NamedType, ParamTrees, NoParams, Param, ResultTree, OneResult, NoResult, Results, Signed, ExprTree, Integer, Named, Paren, Binary, Select, Call, ItemTrees, NoItems, Item, Single, SimpleTree, Alone, Step, Assign, Update, Define, Forever, Clauses, StmtTree, Declare, Simple, Return, Break, Continue, Block, If, For, Branch, NoElse, ElseBlock, Lines, NoLines, Line, FuncTree}
-use Rattle.go_fragment_core.specs.instruction_core.declared.letters.Word.TheVariants as words
-use Rattle.go_fragment_core.specs.instruction_core.declared.instruction.Distance.TheVariants as distances
-use Rattle.go_fragment_core.specs.instruction_core.declared.instruction.Instruction.{Instruction}
-use Rattle.go_fragment_core.specs.instruction_core.declared.instruction.Instruction.TheVariants as instructions
-use Rattle.go_fragment_core.specs.instruction_core.declared.instruction.Instruction.TheVariants.{Push, Load, Store, Add, Sub, Eq, Lt, JumpFalse, Println, Outside}
-use Rattle.go_fragment_core.specs.declared.names.Gives.TheVariants as gives
-use Rattle.go_fragment_core.specs.declared.names.Meaning.{Meaning}
-use Rattle.go_fragment_core.specs.declared.names.Meaning.TheVariants as meanings
-use Rattle.go_fragment_core.specs.Names.{CodeLooks}
-use Rattle.go_fragment_core.specs.Slots.{slots_of}
+use Rattle.go_object_core.specs.declared.instructions.letters.Word.TheVariants as words
+use Rattle.go_object_core.specs.declared.instructions.instruction.Distance.TheVariants as distances
+use Rattle.go_object_core.specs.declared.instructions.instruction.Instruction.{Instruction}
+use Rattle.go_object_core.specs.declared.instructions.instruction.Instruction.TheVariants as instructions
+use Rattle.go_object_core.specs.declared.instructions.instruction.Instruction.TheVariants.{Push, Load, Store, Add, Sub, Eq, Lt, JumpFalse, Println, Outside}
+use Rattle.go_code_core.specs.declared.fragments.names.Gives.TheVariants as gives
+use Rattle.go_code_core.specs.declared.fragments.names.Meaning.{Meaning}
+use Rattle.go_code_core.specs.declared.fragments.names.Meaning.TheVariants as meanings
+use Rattle.go_code_core.specs.fragments.Names.{CodeLooks}
+use Rattle.go_code_core.specs.fragments.Slots.{slots_of}
 use Rattle.go_code_core.specs.Code.{code_of}
 
 -- the function has so many slots, and this code

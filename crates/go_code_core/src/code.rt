@@ -3,12 +3,12 @@
 //! Where a function that writes code ends for want of memory, some end of what it was to write may stand in front of the code that was there.
 //! Nothing is made of that code: it is let go.
 ghost use Rattle.std.specs.Prelude.{◌≡◌, ◌<◌, ◌++◌, [], ◌∷◌, length, List, OnErr, OnOk};
-ghost use Rattle.go_fragment_core.specs.instruction_core.declared.instruction.Distance.TheVariants as distances;
-ghost use Rattle.go_fragment_core.specs.instruction_core.declared.instruction.Instruction.{Instruction};
-ghost use Rattle.go_fragment_core.specs.instruction_core.declared.instruction.Instruction.TheVariants as instructions;
-ghost use Rattle.go_fragment_core.specs.Operators.{some_instruction};
+ghost use Rattle.go_object_core.specs.declared.instructions.instruction.Distance.TheVariants as distances;
+ghost use Rattle.go_object_core.specs.declared.instructions.instruction.Instruction.{Instruction};
+ghost use Rattle.go_object_core.specs.declared.instructions.instruction.Instruction.TheVariants as instructions;
+ghost use Rattle.go_code_core.specs.fragments.Operators.{some_instruction};
 
-use go_fragment_core::instruction_core::{Distance, Instruction};
+use go_object_core::instructions::{Distance, Instruction};
 use std::alloc::{AllocError, Global};
 use std::marker::Model;
 
@@ -21,7 +21,7 @@ pub(crate) struct Code {
 
 impl Model for Code {
     ghost use Rattle.std.specs.Prelude.{List, reverse};
-    ghost use Rattle.go_fragment_core.specs.instruction_core.declared.instruction.Instruction.{Instruction};
+    ghost use Rattle.go_object_core.specs.declared.instructions.instruction.Instruction.{Instruction};
 
     ghost Value = { List Instruction };
 

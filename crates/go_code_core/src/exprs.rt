@@ -2,16 +2,16 @@
 ghost use Rattle.std.specs.Prelude.{◌≡◌, ◌++◌, IfOk, OnOk};
 ghost use Rattle.go_tree_nodes.specs.Shapes.{shape, shape_call, items_of};
 ghost use Rattle.go_code_core.specs.Code.{binary_code, call_end, expr_code, items_code, letters, name_code, panic_end, push, receiver_code, word_value};
-ghost use Rattle.go_fragment_core.specs.Names.{frame_of};
+ghost use Rattle.go_code_core.specs.fragments.Names.{frame_of};
 ghost use Rattle.go_code_core.specs.mirrors.Written.{applied};
 
 use crate::code::Code;
-use go_fragment_core::constant_core::{Constant, natural};
-use go_fragment_core::instruction_core::{Distance, Instruction, Letters, Word};
-use go_fragment_core::{
+use crate::fragments::{
     CodeNames, ConstantWord, Frame, Gives, Meaning, binary_instruction, called, expr_gives, folded,
     is_method, slot_of, unary_instruction,
 };
+use go_constant_core::{Constant, natural};
+use go_object_core::instructions::{Distance, Instruction, Letters, Word};
 use go_tree_nodes::token_core::Operator;
 use go_tree_nodes::{BinaryExpr, CallExpr, Expr, Item};
 use std::alloc::AllocError;

@@ -1,15 +1,15 @@
 //! The code of a function.
 ghost use Rattle.std.specs.Prelude.{◌≡◌, [], ◌∷◌, IfOk, length};
-ghost use Rattle.go_fragment_core.specs.instruction_core.declared.instruction.Instruction.TheVariants as instructions;
+ghost use Rattle.go_object_core.specs.declared.instructions.instruction.Instruction.TheVariants as instructions;
 ghost use Rattle.go_tree_nodes.specs.Shapes.{func_of};
 ghost use Rattle.go_code_core.specs.Code.{body_code, code_of, framed_code};
-ghost use Rattle.go_fragment_core.specs.Names.{frame_of};
-ghost use Rattle.go_fragment_core.specs.Slots.{slots_of};
+ghost use Rattle.go_code_core.specs.fragments.Names.{frame_of};
+ghost use Rattle.go_code_core.specs.fragments.Slots.{slots_of};
 
 use crate::code::Code;
+use crate::fragments::{CodeNames, Frame, in_fragment, slots_of};
 use crate::stmts::{Marks, lines};
-use go_fragment_core::instruction_core::Instruction;
-use go_fragment_core::{CodeNames, Frame, in_fragment, slots_of};
+use go_object_core::instructions::Instruction;
 use go_tree_nodes::FuncDecl;
 use std::alloc::{AllocError, Global};
 

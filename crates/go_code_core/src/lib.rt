@@ -7,14 +7,15 @@
 
 mod code;
 mod exprs;
+pub mod fragments;
 mod function;
 mod laws;
 mod samples;
 mod simples;
 mod stmts;
 
+pub use crate::fragments::{CodeNames, ConstantWord, Gives, Meaning};
 pub use function::{FunctionParts, function_code};
-pub use go_fragment_core::{CodeNames, ConstantWord, Gives, Meaning};
 pub use laws::{code_is_whole, jumps_stay_inside, outside_is_alone};
 pub use samples::{
     calls_are_coded, choices_are_coded, constants_are_pushed, inner_blocks_have_slots,

@@ -3,16 +3,16 @@ ghost use Rattle.std.specs.Prelude.{◌≡◌, ◌++◌, OnOk};
 ghost use Rattle.go_tree_nodes.specs.Shapes.{shape, shape_exprs, shape_simple, shape_some_simple, shape_value, shape_value_spec, shape_values, shape_init};
 ghost use Rattle.go_tree_nodes.specs.TypeShapes.{shape_idents};
 ghost use Rattle.go_code_core.specs.Code.{declared_code, dropped, expr_code, init_code, initial_code, one_code, simple_code, some_simple_code, store, stored, updated, value_spec_code, value_specs_code};
-ghost use Rattle.go_fragment_core.specs.Names.{frame_of, slot_assigned};
-ghost use Rattle.go_fragment_core.specs.Operators.{update_operator};
+ghost use Rattle.go_code_core.specs.fragments.Names.{frame_of, slot_assigned};
+ghost use Rattle.go_code_core.specs.fragments.Operators.{update_operator};
 
 use crate::code::Code;
 use crate::exprs::expr;
-use go_fragment_core::instruction_core::Instruction;
-use go_fragment_core::{
+use crate::fragments::{
     CodeNames, Frame, Gives, Target, declared_target, expr_gives, step_operator, target_of,
     update_operator,
 };
+use go_object_core::instructions::Instruction;
 use go_tree_nodes::{
     Exprs, Idents, InitPart, Simple, Update, ValueDecl, ValueKind, ValueSpec, ValueSpecs, Values,
 };

@@ -2,14 +2,14 @@
 ghost use Rattle.std.specs.Prelude.{◌≡◌, ◌≤◌, ◌-◌, ◌++◌, length, Some, IfOk, OnOk};
 ghost use Rattle.go_tree_nodes.specs.Shapes.{shape, shape_for, shape_some_exprs, shape_stmt, shape_branch, shape_else, shape_loop, lines_of};
 ghost use Rattle.go_code_core.specs.Code.{Exits, branch_code, head_init, head_post, head_test, jump, lines_code, returned_code, some_simple_code, stmt_code, test_code};
-ghost use Rattle.go_fragment_core.specs.Names.{frame_of};
+ghost use Rattle.go_code_core.specs.fragments.Names.{frame_of};
 ghost use Rattle.go_code_core.specs.mirrors.Written.{IsMarked, else_code, exits_at};
 
 use crate::code::Code;
 use crate::exprs::expr;
+use crate::fragments::{CodeNames, Frame};
 use crate::simples::{declaration, init, one, simple, some_simple};
-use go_fragment_core::instruction_core::{Distance, Instruction};
-use go_fragment_core::{CodeNames, Frame};
+use go_object_core::instructions::{Distance, Instruction};
 use go_tree_nodes::{Branch, Expr, Exprs, ForHead, Line, Loop, Otherwise, Stmt};
 use std::alloc::AllocError;
 

@@ -3,48 +3,48 @@ use Rattle.std.proofs.Common.{◌≡◌, ℕ, Bool, true, false, not, ◌&&◌, 
 use Rattle.std.specs.Prelude.{Contains, ◌↔◌}
 use Rattle.std.specs.Option.{option_map}
 use Rattle.std.specs.List.Sorted.{IsStrictlySortedBy}
-use Rattle.go_text_core.specs.Text.{is_blank}
-use Rattle.go_text_core.specs.declared.rule.Rule.TheVariants.{S8}
-use Rattle.go_fitting_core.specs.graph_core.Packages.{trees_of}
-use Rattle.go_fitting_core.specs.graph_core.Workspaces.{by_bytes}
+use Rattle.go_tree_nodes.specs.text_core.Text.{is_blank}
+use Rattle.go_tree_nodes.specs.text_core.declared.rule.Rule.TheVariants.{S8}
+use Rattle.go_graph_core.specs.Packages.{trees_of}
+use Rattle.go_graph_core.specs.Workspaces.{by_bytes}
 use Rattle.go_tree_nodes.specs.declared.names.Ident.{Ident}
 use Rattle.go_tree_nodes.specs.declared.usage.Usage.{Usage}
 use Rattle.go_tree_nodes.specs.declared.usage.Usage.TheVariants as usages
 use Rattle.go_tree_nodes.specs.Trees.{ExprTree, Integer, Text, Named, Paren, Unary, Binary, Select, Call, Literal, StructLiteral, FileTree}
-use Rattle.go_open_core.specs.Blocks.{found_in}
-use Rattle.go_fitting_core.specs.scope_core.Models.{ScopesModel, scopes_model}
-use Rattle.go_fitting_core.specs.scope_core.Scopes.{scope_blocks}
-use Rattle.go_local_core.specs.Binding.{NameLook}
-use Rattle.go_local_core.specs.mirrors.Walk.{look_in}
+use Rattle.go_cursor_core.specs.scope_stack.Blocks.{found_in}
+use Rattle.go_names_core.specs.scope_core.Models.{ScopesModel, scopes_model}
+use Rattle.go_names_core.specs.scope_core.Scopes.{scope_blocks}
+use Rattle.go_names_core.specs.local_core.Binding.{NameLook}
+use Rattle.go_names_core.specs.local_core.mirrors.Walk.{look_in}
 use Rattle.go_term_core.specs.Terms.{Term, Sign}
-use Rattle.go_fitting_core.specs.handle_core.Declarations.{Declaration, Package as PackageOf}
-use Rattle.go_fitting_core.specs.denote_core.declared.things.Stand.{Stand}
-use Rattle.go_fitting_core.specs.denote_core.declared.things.Stand.TheVariants as stands
-use Rattle.go_fitting_core.specs.denote_core.declared.things.Dot.{Dot}
-use Rattle.go_fitting_core.specs.denote_core.declared.things.Dot.TheVariants as dots
-use Rattle.go_fitting_core.specs.denote_core.Selectors.{exported_answer}
-use Rattle.go_place_core.specs.expr_core.Looks.{look_of_place}
-use Rattle.go_place_core.specs.expr_core.Places.{is_name}
-use Rattle.go_place_core.specs.expr_core.Denoting.{ident_answer}
-use Rattle.go_place_core.specs.expr_core.Uses.{Context, NameAt, SelectorBehind, rule}
-use Rattle.go_fitting_core.specs.face_core.Packages.{PackageFacesModel, exported_in}
-use Rattle.go_place_core.specs.env_core.declared.meaning.Meaning.{Meaning}
-use Rattle.go_place_core.specs.env_core.Looks.{TheLooks}
-use Rattle.go_place_core.specs.env_core.Found.{exported_shown, found_exported}
-use Rattle.go_place_core.specs.func_core.Stands.{FileStand, looks_where, outer_meanings}
-use Rattle.go_fitting_core.specs.summary_core.Views.{faces_told}
-use Rattle.go_place_core.specs.part_core.Parts.{IsPart, PartModel, package_seen, seen_by}
-use Rattle.go_fitting_core.specs.context_core.Alone.{HasLocals, fits_some}
-use Rattle.go_fitting_core.specs.context_core.Laws.{is_declared}
-use Rattle.go_fitting_core.specs.context_core.Deciding.{things_decide}
-use Rattle.go_place_core.specs.spot_core.Used.{SpotTree, NameSpot, BehindSpot, BehindNameSpot, KeySpot}
-use Rattle.go_place_core.specs.spot_core.Contexts.{context_of_spot}
-use Rattle.go_place_core.specs.spot_core.Opened.{FileUsed, file_names}
-use Rattle.go_fitting_core.specs.Fitting.{fits_alone, fits_behind, fits_shown, package_at, thing_at}
-use Rattle.go_place_core.specs.Completed.{Completes}
-use Rattle.go_place_core.specs.Completions.{AreNamesFor, is_of_types, stand_of}
-use Rattle.go_place_core.specs.Laws.{IsPlacedIn}
-use Rattle.go_place_core.proofs.Placing.{none_has, spots_are_places}
+use Rattle.go_candidate_core.specs.handle_core.Declarations.{Declaration, Package as PackageOf}
+use Rattle.go_cursor_core.specs.denote_core.declared.things.Stand.{Stand}
+use Rattle.go_cursor_core.specs.denote_core.declared.things.Stand.TheVariants as stands
+use Rattle.go_cursor_core.specs.denote_core.declared.things.Dot.{Dot}
+use Rattle.go_cursor_core.specs.denote_core.declared.things.Dot.TheVariants as dots
+use Rattle.go_cursor_core.specs.denote_core.Selectors.{exported_answer}
+use Rattle.go_stmt_core.specs.expr_core.Looks.{look_of_place}
+use Rattle.go_stmt_core.specs.expr_core.Places.{is_name}
+use Rattle.go_stmt_core.specs.expr_core.Denoting.{ident_answer}
+use Rattle.go_stmt_core.specs.expr_core.Uses.{Context, NameAt, SelectorBehind, rule}
+use Rattle.go_candidate_core.specs.declared_core.Packages.{PackageFacesModel, exported_in}
+use Rattle.go_package_core.specs.env_core.declared.meaning.Meaning.{Meaning}
+use Rattle.go_package_core.specs.env_core.Looks.{TheLooks}
+use Rattle.go_package_core.specs.env_core.Found.{exported_shown, found_exported}
+use Rattle.go_package_core.specs.body_core.FunctionStands.{FileStand, looks_where, outer_meanings}
+use Rattle.go_package_core.specs.summary_core.Views.{faces_told}
+use Rattle.go_package_core.specs.package_part.Parts.{IsPart, PartModel, package_seen, seen_by}
+use Rattle.go_candidate_core.specs.context.Alone.{HasLocals, fits_some}
+use Rattle.go_candidate_core.specs.context.Laws.{is_declared}
+use Rattle.go_candidate_core.proofs.ContextDeciding.{things_decide}
+use Rattle.go_cursor_core.specs.Used.{SpotTree, NameSpot, BehindSpot, BehindNameSpot, KeySpot}
+use Rattle.go_cursor_core.specs.Contexts.{context_of_spot}
+use Rattle.go_cursor_core.specs.Opened.{FileUsed, file_names}
+use Rattle.go_candidate_core.specs.fitting.Fitting.{fits_alone, fits_behind, fits_shown, package_at, thing_at}
+use Rattle.go_complete_core.specs.place.Completed.{Completes}
+use Rattle.go_complete_core.specs.place.Completions.{AreNamesFor, is_of_types, stand_of}
+use Rattle.go_complete_core.specs.place.Laws.{IsPlacedIn}
+use Rattle.go_complete_core.proofs.PlacePlacing.{none_has, spots_are_places}
 use Rattle.go_complete_core.specs.mirrors.Answering.{ArePassing, name_of, AreBehind, AreBehindName, AreBehindSome, AreAnswered}
 use Rattle.go_complete_core.proofs.Dots.{dot_answer, name_refused, name_package, name_typed, declared_unless, shown_fits}
 use Rattle.go_complete_core.proofs.OwnThings.{own_thing}

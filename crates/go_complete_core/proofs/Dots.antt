@@ -1,35 +1,35 @@
 -- What names are to those that stand left of a dot, and what stands behind them.
 use Rattle.std.proofs.Common.{◌≡◌, ℕ, Bool, true, false, not, ◌&&◌, List, Option, Some, None, refl, sym, ap, ◌∙◌}
 use Rattle.std.specs.Prelude.{if◌then◌else◌}
-use Rattle.go_text_core.specs.Text.{is_blank}
-use Rattle.go_text_core.specs.declared.rule.Rule.{Rule}
-use Rattle.go_text_core.specs.declared.rule.Rule.TheVariants.{N8}
+use Rattle.go_tree_nodes.specs.text_core.Text.{is_blank}
+use Rattle.go_tree_nodes.specs.text_core.declared.rule.Rule.{Rule}
+use Rattle.go_tree_nodes.specs.text_core.declared.rule.Rule.TheVariants.{N8}
 use Rattle.go_tree_nodes.specs.declared.usage.Usage.{Usage}
 use Rattle.go_tree_nodes.specs.declared.usage.Usage.TheVariants as usages
-use Rattle.go_fitting_core.specs.operand_core.declared.types.Operand.{Operand}
-use Rattle.go_fitting_core.specs.denote_core.declared.things.Stand.{Stand}
-use Rattle.go_fitting_core.specs.denote_core.declared.things.Stand.TheVariants as stands
-use Rattle.go_fitting_core.specs.denote_core.declared.things.Answer.{Answer}
-use Rattle.go_fitting_core.specs.denote_core.declared.things.Dot.{Dot}
-use Rattle.go_fitting_core.specs.denote_core.declared.things.Dot.TheVariants as dots
-use Rattle.go_fitting_core.specs.denote_core.declared.things.Found.{Found}
-use Rattle.go_fitting_core.specs.denote_core.declared.things.Found.TheVariants as founds
-use Rattle.go_fitting_core.specs.denote_core.Look.{Look}
-use Rattle.go_fitting_core.specs.denote_core.Answers.{refused, of_value, found_answer, name_answer}
-use Rattle.go_fitting_core.specs.denote_core.Selectors.{dot_of, exported_answer, usage_place}
-use Rattle.go_place_core.specs.expr_core.Uses.{Context, SelectorBehind}
+use Rattle.go_cursor_core.specs.operand_core.declared.types.Operand.{Operand}
+use Rattle.go_cursor_core.specs.denote_core.declared.things.Stand.{Stand}
+use Rattle.go_cursor_core.specs.denote_core.declared.things.Stand.TheVariants as stands
+use Rattle.go_cursor_core.specs.denote_core.declared.things.Answer.{Answer}
+use Rattle.go_cursor_core.specs.denote_core.declared.things.Dot.{Dot}
+use Rattle.go_cursor_core.specs.denote_core.declared.things.Dot.TheVariants as dots
+use Rattle.go_cursor_core.specs.denote_core.declared.things.Found.{Found}
+use Rattle.go_cursor_core.specs.denote_core.declared.things.Found.TheVariants as founds
+use Rattle.go_cursor_core.specs.denote_core.Look.{Look}
+use Rattle.go_cursor_core.specs.denote_core.Answers.{refused, of_value, found_answer, name_answer}
+use Rattle.go_cursor_core.specs.denote_core.Selectors.{dot_of, exported_answer, usage_place}
+use Rattle.go_stmt_core.specs.expr_core.Uses.{Context, SelectorBehind}
 use Rattle.go_term_core.specs.declared.term.MemberPlace.TheVariants as places
-use Rattle.go_fitting_core.specs.handle_core.Declarations.{Declaration, InFile}
-use Rattle.go_fitting_core.specs.face_core.declared.face.Face.TheVariants as faces
-use Rattle.go_fitting_core.specs.face_core.declared.shown.ShownFace.{ShownFace}
-use Rattle.go_fitting_core.specs.face_core.declared.shown.ShownFace.TheVariants as shows
-use Rattle.go_fitting_core.specs.face_core.Faces.{TheFace}
+use Rattle.go_candidate_core.specs.handle_core.Declarations.{Declaration, InFile}
+use Rattle.go_candidate_core.specs.declared_core.declared.face.Face.TheVariants as faces
+use Rattle.go_candidate_core.specs.declared_core.declared.shown.ShownFace.{ShownFace}
+use Rattle.go_candidate_core.specs.declared_core.declared.shown.ShownFace.TheVariants as shows
+use Rattle.go_candidate_core.specs.declared_core.Faces.{TheFace}
 use Rattle.go_term_core.specs.Terms.{Term, Sign}
-use Rattle.go_place_core.specs.env_core.Found.{exported_face, exported_shown}
-use Rattle.go_fitting_core.specs.context_core.Laws.{is_declared}
-use Rattle.go_fitting_core.specs.context_core.Alone.{fits}
-use Rattle.go_fitting_core.specs.Fitting.{fits_shown, thing_of_face}
-use Rattle.go_place_core.specs.Completions.{is_of_types}
+use Rattle.go_package_core.specs.env_core.Found.{exported_face, exported_shown}
+use Rattle.go_candidate_core.specs.context.Laws.{is_declared}
+use Rattle.go_candidate_core.specs.context.Alone.{fits}
+use Rattle.go_candidate_core.specs.fitting.Fitting.{fits_shown, thing_of_face}
+use Rattle.go_complete_core.specs.place.Completions.{is_of_types}
 use Rattle.go_complete_core.proofs.Standing.{package_found}
 
 abbrev pub dot_answer : {T S D P : Type 0} → Answer T S D P → Dot T D

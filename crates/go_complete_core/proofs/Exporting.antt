@@ -2,21 +2,21 @@
 use Rattle.std.proofs.Common.{◌≡◌, ◌⊎◌, inl, inr, ℕ, Bool, true, false, cond, List, [], ◌∷◌, map, Option, Some, None, refl, sym, ap, subst, ◌∙◌}
 use Rattle.std.specs.Prelude.{Contains, filter}
 use Rattle.std.specs.Str.{bytes_eq, chars}
-use Rattle.go_text_core.specs.Text.{exported}
-use Rattle.go_decl_core.specs.declared.keys.DeclRef.{DeclRef}
-use Rattle.go_fitting_core.specs.block_core.Exports.{exported_names}
-use Rattle.go_open_core.specs.Blocks.{in_block, names_in}
-use Rattle.go_open_core.proofs.Names.{same_bytes}
-use Rattle.go_fitting_core.specs.face_core.declared.shown.ShownFace.{ShownFace}
-use Rattle.go_fitting_core.specs.face_core.declared.shown.ShownFace.TheVariants as shows
-use Rattle.go_fitting_core.specs.face_core.Faces.{TheFace}
-use Rattle.go_fitting_core.specs.face_core.Packages.{DeclaredOf, PackageFacesModel, names_seen, package_faces, shown_by}
-use Rattle.go_fitting_core.specs.face_core.Displaying.{shows_its_block}
-use Rattle.go_fitting_core.specs.summary_core.Summaries.{SummaryModel}
-use Rattle.go_place_core.specs.part_core.Inputs.{InputModel, path_in}
-use Rattle.go_place_core.specs.part_core.Parts.{ContentOf, IsPart}
-use Rattle.go_fitting_core.specs.Fitting.{ShowsItsExports}
-use Rattle.go_place_core.proofs.Placing.{first_has, more_has}
+use Rattle.go_tree_nodes.specs.text_core.Text.{exported}
+use Rattle.go_term_core.specs.decl_core.declared.keys.DeclRef.{DeclRef}
+use Rattle.go_names_core.specs.block_core.Exports.{exported_names}
+use Rattle.go_cursor_core.specs.scope_stack.Blocks.{in_block, names_in}
+use Rattle.go_cursor_core.specs.scope_stack.Names.{same_bytes}
+use Rattle.go_candidate_core.specs.declared_core.declared.shown.ShownFace.{ShownFace}
+use Rattle.go_candidate_core.specs.declared_core.declared.shown.ShownFace.TheVariants as shows
+use Rattle.go_candidate_core.specs.declared_core.Faces.{TheFace}
+use Rattle.go_candidate_core.specs.declared_core.Packages.{DeclaredOf, PackageFacesModel, names_seen, package_faces, shown_by}
+use Rattle.go_candidate_core.specs.declared_core.Displaying.{shows_its_block}
+use Rattle.go_package_core.specs.summary_core.Summaries.{SummaryModel}
+use Rattle.go_package_core.specs.package_part.Inputs.{InputModel, path_in}
+use Rattle.go_package_core.specs.package_part.Parts.{ContentOf, IsPart}
+use Rattle.go_candidate_core.specs.fitting.Fitting.{ShowsItsExports}
+use Rattle.go_complete_core.proofs.PlacePlacing.{first_has, more_has}
 
 -- an exported name of a block is among its exported names
 exported_there : (block : List (List ℕ × DeclRef)) (name : List ℕ) (d : DeclRef) → in_block block name ≡ Some d → exported (chars name) ≡ true → Contains (names_in (exported_names block)) name

@@ -2,48 +2,48 @@
 use Rattle.std.proofs.Common.{◌≡◌, ℕ, Bool, true, false, ◌&&◌, not, ◌||◌, List, [], ◌∷◌, length, Option, Some, None, refl, sym, ap, subst, ◌∙◌}
 use Rattle.std.specs.Prelude.{Result, Ok, Err, ◌==◌, if◌then◌else◌}
 use Rattle.std.specs.List.{list_all}
-use Rattle.go_text_core.specs.Text.{is_blank}
-use Rattle.go_text_core.specs.declared.rule.Rule.{Rule}
-use Rattle.go_token_core.specs.declared.kind.Operator.{Operator}
+use Rattle.go_tree_nodes.specs.text_core.Text.{is_blank}
+use Rattle.go_tree_nodes.specs.text_core.declared.rule.Rule.{Rule}
+use Rattle.go_tree_nodes.specs.token_core.declared.kind.Operator.{Operator}
 use Rattle.go_tree_nodes.specs.declared.usage.Usage.{Usage}
 use Rattle.go_tree_nodes.specs.declared.usage.Usage.TheVariants as usages
 use Rattle.go_tree_nodes.specs.Trees.{ExprTree, Integer, Text, Named, Paren, Unary, Binary, Select, Call, Literal, StructLiteral}
-use Rattle.go_fitting_core.specs.operand_core.declared.types.Operand.{Operand}
-use Rattle.go_fitting_core.specs.operand_core.TypeRules.{TypeRules}
-use Rattle.go_fitting_core.specs.operand_core.Conversions.{convert, length_of}
-use Rattle.go_fitting_core.specs.operand_core.Operators.{binary_operand}
-use Rattle.go_fitting_core.specs.operand_core.Prefixes.{unary_operand, refused_unary}
-use Rattle.go_fitting_core.specs.operand_core.Values.{default_type}
-use Rattle.go_fitting_core.specs.denote_core.declared.things.Stand.{Stand}
-use Rattle.go_fitting_core.specs.denote_core.declared.things.Stand.TheVariants as stands
-use Rattle.go_fitting_core.specs.denote_core.declared.things.Denoted.{Denoted}
-use Rattle.go_fitting_core.specs.denote_core.declared.things.Denoted.TheVariants as denotes
-use Rattle.go_fitting_core.specs.denote_core.declared.things.Answer.{Answer}
-use Rattle.go_fitting_core.specs.denote_core.declared.things.Argument.{Argument}
-use Rattle.go_fitting_core.specs.denote_core.declared.things.Argument.TheVariants as arguments
-use Rattle.go_fitting_core.specs.denote_core.declared.things.Builtin.{Builtin}
-use Rattle.go_fitting_core.specs.denote_core.declared.things.Builtin.TheVariants as builtins
-use Rattle.go_fitting_core.specs.denote_core.declared.things.Dot.{Dot}
-use Rattle.go_fitting_core.specs.denote_core.declared.things.Dot.TheVariants as dots
-use Rattle.go_fitting_core.specs.denote_core.declared.things.Exported.{Exported}
-use Rattle.go_fitting_core.specs.denote_core.declared.things.Exported.TheVariants as exporteds
-use Rattle.go_fitting_core.specs.denote_core.declared.things.Found.{Found}
-use Rattle.go_fitting_core.specs.denote_core.declared.things.Found.TheVariants as founds
-use Rattle.go_fitting_core.specs.denote_core.declared.things.Selection.{Selection}
-use Rattle.go_fitting_core.specs.denote_core.declared.things.Selection.TheVariants as selections
-use Rattle.go_fitting_core.specs.denote_core.Look.{Look}
-use Rattle.go_fitting_core.specs.denote_core.Answers.{of_value, value_of_type, package_answer, type_answer, func_answer, value_answer, found_answer, name_answer}
-use Rattle.go_fitting_core.specs.denote_core.Selectors.{usage_place, exported_answer, dot_of, field_answer, method_answer, member_answer, value_selector, selector_answer}
-use Rattle.go_fitting_core.specs.denote_core.Arguments.{fits_type, arguments_of, is_free}
-use Rattle.go_fitting_core.specs.denote_core.Calls.{of_results, all_fit, func_call, of_conversion, convert_argument, conversion, of_length, length_argument, length_call, panic_call, is_printable, print_call, builtin_call, judged_call, of_builtin, free_call, call_answer}
-use Rattle.go_place_core.specs.literal_core.Literals.{literal_denotes}
-use Rattle.go_place_core.specs.expr_core.declared.things.Judged.{Judged}
-use Rattle.go_place_core.specs.expr_core.Looks.{Looks, look_of_place}
-use Rattle.go_place_core.specs.expr_core.Places.{inside, under_place, left_place, whole, is_name, is_literal, is_lone_call}
-use Rattle.go_place_core.specs.expr_core.Operators.{of_operand, passed, pointer_type, is_star, unary_type, unary_of, operand_of, binary_operands, binary_of}
-use Rattle.go_place_core.specs.expr_core.Denoting.{named_type, written_type, denoted, denoted_items}
-use Rattle.go_place_core.specs.expr_core.Uses.{Context, SelectorBehind}
-use Rattle.go_place_core.specs.Completions.{is_of_types}
+use Rattle.go_cursor_core.specs.operand_core.declared.types.Operand.{Operand}
+use Rattle.go_cursor_core.specs.operand_core.TypeRules.{TypeRules}
+use Rattle.go_cursor_core.specs.operand_core.Conversions.{convert, length_of}
+use Rattle.go_cursor_core.specs.operand_core.Operators.{binary_operand}
+use Rattle.go_cursor_core.specs.operand_core.Prefixes.{unary_operand, refused_unary}
+use Rattle.go_cursor_core.specs.operand_core.Values.{default_type}
+use Rattle.go_cursor_core.specs.denote_core.declared.things.Stand.{Stand}
+use Rattle.go_cursor_core.specs.denote_core.declared.things.Stand.TheVariants as stands
+use Rattle.go_cursor_core.specs.denote_core.declared.things.Denoted.{Denoted}
+use Rattle.go_cursor_core.specs.denote_core.declared.things.Denoted.TheVariants as denotes
+use Rattle.go_cursor_core.specs.denote_core.declared.things.Answer.{Answer}
+use Rattle.go_cursor_core.specs.denote_core.declared.things.Argument.{Argument}
+use Rattle.go_cursor_core.specs.denote_core.declared.things.Argument.TheVariants as arguments
+use Rattle.go_cursor_core.specs.denote_core.declared.things.Builtin.{Builtin}
+use Rattle.go_cursor_core.specs.denote_core.declared.things.Builtin.TheVariants as builtins
+use Rattle.go_cursor_core.specs.denote_core.declared.things.Dot.{Dot}
+use Rattle.go_cursor_core.specs.denote_core.declared.things.Dot.TheVariants as dots
+use Rattle.go_cursor_core.specs.denote_core.declared.things.Exported.{Exported}
+use Rattle.go_cursor_core.specs.denote_core.declared.things.Exported.TheVariants as exporteds
+use Rattle.go_cursor_core.specs.denote_core.declared.things.Found.{Found}
+use Rattle.go_cursor_core.specs.denote_core.declared.things.Found.TheVariants as founds
+use Rattle.go_cursor_core.specs.denote_core.declared.things.Selection.{Selection}
+use Rattle.go_cursor_core.specs.denote_core.declared.things.Selection.TheVariants as selections
+use Rattle.go_cursor_core.specs.denote_core.Look.{Look}
+use Rattle.go_cursor_core.specs.denote_core.Answers.{of_value, value_of_type, package_answer, type_answer, func_answer, value_answer, found_answer, name_answer}
+use Rattle.go_cursor_core.specs.denote_core.Selectors.{usage_place, exported_answer, dot_of, field_answer, method_answer, member_answer, value_selector, selector_answer}
+use Rattle.go_cursor_core.specs.denote_core.Arguments.{fits_type, arguments_of, is_free}
+use Rattle.go_cursor_core.specs.denote_core.Calls.{of_results, all_fit, func_call, of_conversion, convert_argument, conversion, of_length, length_argument, length_call, panic_call, is_printable, print_call, builtin_call, judged_call, of_builtin, free_call, call_answer}
+use Rattle.go_cursor_core.specs.denote_core.CompositeLiterals.{literal_denotes}
+use Rattle.go_stmt_core.specs.expr_core.declared.things.Judged.{Judged}
+use Rattle.go_stmt_core.specs.expr_core.Looks.{Looks, look_of_place}
+use Rattle.go_stmt_core.specs.expr_core.Places.{inside, under_place, left_place, whole, is_name, is_literal, is_lone_call}
+use Rattle.go_stmt_core.specs.expr_core.Operators.{of_operand, passed, pointer_type, is_star, unary_type, unary_of, operand_of, binary_operands, binary_of}
+use Rattle.go_stmt_core.specs.expr_core.Denoting.{named_type, written_type, denoted, denoted_items}
+use Rattle.go_stmt_core.specs.expr_core.Uses.{Context, SelectorBehind}
+use Rattle.go_complete_core.specs.place.Completions.{is_of_types}
 
 -- a place left of a dot
 abbrev is_dot : Stand → Bool

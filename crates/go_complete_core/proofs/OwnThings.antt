@@ -5,45 +5,45 @@ use Rattle.std.specs.List.{AllByRecursion, flat_map}
 use Rattle.std.specs.Option.{option_map}
 use Rattle.std.proofs.lemmas.List.Elements.{All-from_recursion, Contains-append_left, Contains-append_right, Contains-append_cases}
 use Rattle.std.proofs.lemmas.Option.{slice_get-map, slice_get_within, get_or_from_slice_get}
-use Rattle.go_text_core.specs.declared.span.Span.{Span}
+use Rattle.go_tree_nodes.specs.text_core.declared.span.Span.{Span}
 use Rattle.go_tree_nodes.specs.declared.decls.ValueKind.{ValueKind}
 use Rattle.go_tree_nodes.specs.declared.decls.ValueKind.TheVariants as value_kinds
 use Rattle.go_tree_nodes.specs.declared.files.Receiver.{Receiver}
 use Rattle.go_tree_nodes.specs.Trees.{TypeTree, ValueSpecTree, FileTree}
-use Rattle.go_decl_core.specs.declared.keys.DeclRef.{DeclRef}
-use Rattle.go_decl_core.specs.declared.places.DeclKind.{DeclKind}
-use Rattle.go_decl_core.specs.declared.places.DeclKind.TheVariants as kinds
-use Rattle.go_decl_core.specs.Outer.{kind_of_value, kind_of_func}
-use Rattle.go_decl_core.specs.TopDecls.{TopDeclTree, FormTree, ValueForm, TypeForm, FuncForm, kind_of_form, top_decls}
-use Rattle.go_fitting_core.specs.graph_core.Packages.{Trees, tree_shown}
-use Rattle.go_fitting_core.specs.block_core.Declarations.{PackageDeclaration, decl_ref, declaration, has_receiver, is_method_form, unless_method, top_declared, file_declared, files_declared, package_declared}
-use Rattle.go_fitting_core.specs.block_core.Holding.{package_block}
-use Rattle.go_fitting_core.specs.block_core.Tables.{in_block}
-use Rattle.go_fitting_core.specs.block_core.HoldingLaws.{package_holds}
-use Rattle.go_fitting_core.specs.table_core.Entries.{Entry}
-use Rattle.go_fitting_core.specs.written_core.Written.{InFile, Meaning}
-use Rattle.go_fitting_core.specs.entry_core.Entries.{file_at}
-use Rattle.go_fitting_core.specs.entry_core.Meanings.{file_meaning}
-use Rattle.go_fitting_core.specs.entry_core.Outlines.{FileOutline, IsOutline, outline_of}
-use Rattle.go_needs_core.specs.Needs.{needed, NeedsLead, IsEndless, known_in, AreValues}
-use Rattle.go_fitting_core.specs.face_core.declared.face.Face.TheVariants as faces
-use Rattle.go_fitting_core.specs.face_core.Faces.{TheFace, variable_face}
-use Rattle.go_fitting_core.specs.face_core.Laws.{FileDecl, Stands, package_decls, written_there}
-use Rattle.go_fitting_core.specs.face_core.Written.{WrittenOf, declared_face, form_as_written, value_as_written, written_of, written_at, face_found, position_of, package_written}
-use Rattle.go_fitting_core.specs.face_core.Places.{positions_are_exact}
-use Rattle.go_place_core.specs.env_core.Scenes.{SceneModel}
-use Rattle.go_place_core.specs.env_core.Looks.{TheLooks}
-use Rattle.go_place_core.specs.env_core.Found.{face_at, own_face}
-use Rattle.go_place_core.specs.value_core.Package.{form_idents, idents_need, form_face, value_face, written_face, first_values}
-use Rattle.go_place_core.specs.func_core.Stands.{outer_looks}
-use Rattle.go_place_core.specs.ready_core.Packages.{PackageIn, outlines_in, shows_in, scene_in, stand_in}
-use Rattle.go_place_core.specs.ready_core.Values.{AreDeclared, decls_in, needs_in, file_decl_needs, declared_in, some_decl_face, face_there}
-use Rattle.go_place_core.specs.ready_core.Lists.{mapped_at}
-use Rattle.go_fitting_core.specs.context_core.declared.things.Thing.{Thing}
-use Rattle.go_fitting_core.specs.context_core.declared.things.Thing.TheVariants as things
-use Rattle.go_fitting_core.specs.context_core.Alone.{thing_of_decl}
-use Rattle.go_fitting_core.specs.Fitting.{thing_of_face}
-use Rattle.go_place_core.proofs.Placing.{first_has, none_has, is_first_or_more, more_has, one_has}
+use Rattle.go_term_core.specs.decl_core.declared.keys.DeclRef.{DeclRef}
+use Rattle.go_term_core.specs.decl_core.declared.places.DeclKind.{DeclKind}
+use Rattle.go_term_core.specs.decl_core.declared.places.DeclKind.TheVariants as kinds
+use Rattle.go_term_core.specs.decl_core.Outer.{kind_of_value, kind_of_func}
+use Rattle.go_term_core.specs.decl_core.TopDecls.{TopDeclTree, FormTree, ValueForm, TypeForm, FuncForm, kind_of_form, top_decls}
+use Rattle.go_graph_core.specs.Packages.{Trees, tree_shown}
+use Rattle.go_names_core.specs.block_core.Declarations.{PackageDeclaration, decl_ref, declaration, has_receiver, is_method_form, unless_method, top_declared, file_declared, files_declared, package_declared}
+use Rattle.go_names_core.specs.block_core.Holding.{package_block}
+use Rattle.go_names_core.specs.block_core.Tables.{in_block}
+use Rattle.go_names_core.specs.block_core.HoldingLaws.{package_holds}
+use Rattle.go_type_core.specs.table_core.Entries.{Entry}
+use Rattle.go_typexpr_core.specs.written.Written.{InFile, Meaning}
+use Rattle.go_typexpr_core.specs.entry.Entries.{file_at}
+use Rattle.go_typexpr_core.specs.entry.Meanings.{file_meaning}
+use Rattle.go_typexpr_core.specs.entry.Outlines.{FileOutline, IsOutline, outline_of}
+use Rattle.go_digraph_core.specs.needs.Needs.{needed, NeedsLead, IsEndless, known_in, AreValues}
+use Rattle.go_candidate_core.specs.declared_core.declared.face.Face.TheVariants as faces
+use Rattle.go_candidate_core.specs.declared_core.Faces.{TheFace, variable_face}
+use Rattle.go_candidate_core.specs.declared_core.Laws.{FileDecl, Stands, package_decls, written_there}
+use Rattle.go_candidate_core.specs.declared_core.Written.{WrittenOf, declared_face, form_as_written, value_as_written, written_of, written_at, face_found, position_of, package_written}
+use Rattle.go_candidate_core.specs.declared_core.Places.{positions_are_exact}
+use Rattle.go_package_core.specs.env_core.Scenes.{SceneModel}
+use Rattle.go_package_core.specs.env_core.Looks.{TheLooks}
+use Rattle.go_package_core.specs.env_core.Found.{face_at, own_face}
+use Rattle.go_snap_core.specs.value_core.Package.{form_idents, idents_need, form_face, value_face, written_face, first_values}
+use Rattle.go_package_core.specs.body_core.FunctionStands.{outer_looks}
+use Rattle.go_package_core.specs.prepare.Packages.{PackageIn, outlines_in, shows_in, scene_in, stand_in}
+use Rattle.go_package_core.specs.prepare.Values.{AreDeclared, decls_in, needs_in, file_decl_needs, declared_in, some_decl_face, face_there}
+use Rattle.go_package_core.proofs.PrepareLists.{mapped_at}
+use Rattle.go_candidate_core.specs.declared.context.things.Thing.{Thing}
+use Rattle.go_candidate_core.specs.declared.context.things.Thing.TheVariants as things
+use Rattle.go_candidate_core.specs.context.Alone.{thing_of_decl}
+use Rattle.go_candidate_core.specs.fitting.Fitting.{thing_of_face}
+use Rattle.go_complete_core.proofs.PlacePlacing.{first_has, none_has, is_first_or_more, more_has, one_has}
 
 -- what a declaration is by its kind, a method a function
 

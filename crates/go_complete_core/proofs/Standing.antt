@@ -5,42 +5,42 @@ use Rattle.std.specs.List.{list_any}
 use Rattle.std.specs.Option.{option_map}
 use Rattle.std.specs.Str.{bytes_eq}
 use Rattle.std.proofs.lemmas.List.Elements.{All-head, All-tail}
-use Rattle.go_text_core.specs.Text.{is_blank}
+use Rattle.go_tree_nodes.specs.text_core.Text.{is_blank}
 use Rattle.go_universe_core.specs.declared.Predeclared.{Predeclared}
 use Rattle.go_universe_core.specs.declared.Predeclared.TheVariants as universe
 use Rattle.go_universe_core.specs.Universe.{found}
 use Rattle.go_tree_nodes.specs.declared.names.Ident.{Ident}
-use Rattle.go_decl_core.specs.declared.keys.DeclRef.{DeclRef}
-use Rattle.go_fitting_core.specs.block_core.declared.binding.Binding.{Binding}
-use Rattle.go_fitting_core.specs.block_core.declared.binding.Target.{Target}
-use Rattle.go_fitting_core.specs.block_core.declared.binding.Target.TheVariants as targets
-use Rattle.go_fitting_core.specs.block_core.Blocks.{file_binding}
-use Rattle.go_open_core.specs.declared.DeclId.{DeclId}
-use Rattle.go_open_core.specs.Blocks.{found_in, in_block, is_listed, list_names, names_in, or_else}
-use Rattle.go_open_core.proofs.Names.{listed-block, listed-names, same_bytes}
-use Rattle.go_fitting_core.specs.scope_core.Models.{scopes_model}
-use Rattle.go_fitting_core.specs.scope_core.Scopes.{Denoted, Universe, Package, File, Local, scope_blocks}
-use Rattle.go_fitting_core.specs.scope_core_lemmas.Lookups.{by_parts, in_scope}
-use Rattle.go_place_core.specs.names_core.Scope.{some_meaning}
-use Rattle.go_local_core.specs.mirrors.Walk.{Names, latest, look_in, names_of}
-use Rattle.go_fitting_core.specs.denote_core.declared.things.Found.{Found}
-use Rattle.go_fitting_core.specs.denote_core.declared.things.Found.TheVariants as founds
+use Rattle.go_term_core.specs.decl_core.declared.keys.DeclRef.{DeclRef}
+use Rattle.go_names_core.specs.block_core.declared.binding.Binding.{Binding}
+use Rattle.go_names_core.specs.block_core.declared.binding.Target.{Target}
+use Rattle.go_names_core.specs.block_core.declared.binding.Target.TheVariants as targets
+use Rattle.go_names_core.specs.block_core.Blocks.{file_binding}
+use Rattle.go_cursor_core.specs.scope_stack.declared.DeclId.{DeclId}
+use Rattle.go_cursor_core.specs.scope_stack.Blocks.{found_in, in_block, is_listed, list_names, names_in, or_else}
+use Rattle.go_cursor_core.specs.scope_stack.Names.{listed-block, listed-names, same_bytes}
+use Rattle.go_names_core.specs.scope_core.Models.{scopes_model}
+use Rattle.go_names_core.specs.scope_core.Scopes.{Denoted, Universe, Package, File, Local, scope_blocks}
+use Rattle.go_names_core.specs.scope_core.Lookups.{by_parts, in_scope}
+use Rattle.go_names_core.specs.Scope.{some_meaning}
+use Rattle.go_names_core.specs.local_core.mirrors.Walk.{Names, latest, look_in, names_of}
+use Rattle.go_cursor_core.specs.denote_core.declared.things.Found.{Found}
+use Rattle.go_cursor_core.specs.denote_core.declared.things.Found.TheVariants as founds
 use Rattle.go_term_core.specs.declared.term.MemberPlace.TheVariants as places
-use Rattle.go_fitting_core.specs.handle_core.Declarations.{Declaration, InFile, Package as PackageOf}
-use Rattle.go_fitting_core.specs.face_core.declared.face.Face.TheVariants as faces
-use Rattle.go_fitting_core.specs.face_core.Faces.{TheFace}
-use Rattle.go_fitting_core.specs.face_core.Packages.{face_in}
-use Rattle.go_place_core.specs.env_core.declared.meaning.Meaning.{Meaning}
-use Rattle.go_place_core.specs.env_core.declared.meaning.Meaning.TheVariants as meanings
-use Rattle.go_place_core.specs.env_core.Scenes.{SceneModel}
-use Rattle.go_place_core.specs.env_core.Found.{TheFound, found_face, found_target, found_binding, found_universe, found_of, own_face}
-use Rattle.go_place_core.specs.body_core.Rules.{outside_in}
-use Rattle.go_fitting_core.specs.context_core.declared.things.Thing.{Thing}
-use Rattle.go_fitting_core.specs.context_core.declared.things.Thing.TheVariants as things
-use Rattle.go_fitting_core.specs.context_core.Alone.{local_names, thing_of_decl, thing_of_predeclared}
-use Rattle.go_fitting_core.specs.context_core.Laws.{thing_found_as}
-use Rattle.go_fitting_core.specs.Fitting.{thing_of_face, thing_of_target, thing_at, path_of_target, package_at}
-use Rattle.go_place_core.specs.Laws.{is_local}
+use Rattle.go_candidate_core.specs.handle_core.Declarations.{Declaration, InFile, Package as PackageOf}
+use Rattle.go_candidate_core.specs.declared_core.declared.face.Face.TheVariants as faces
+use Rattle.go_candidate_core.specs.declared_core.Faces.{TheFace}
+use Rattle.go_candidate_core.specs.declared_core.Packages.{face_in}
+use Rattle.go_package_core.specs.env_core.declared.meaning.Meaning.{Meaning}
+use Rattle.go_package_core.specs.env_core.declared.meaning.Meaning.TheVariants as meanings
+use Rattle.go_package_core.specs.env_core.Scenes.{SceneModel}
+use Rattle.go_package_core.specs.env_core.Found.{TheFound, found_face, found_target, found_binding, found_universe, found_of, own_face}
+use Rattle.go_package_core.specs.body_core.Rules.{outside_in}
+use Rattle.go_candidate_core.specs.declared.context.things.Thing.{Thing}
+use Rattle.go_candidate_core.specs.declared.context.things.Thing.TheVariants as things
+use Rattle.go_candidate_core.specs.context.Alone.{local_names, thing_of_decl, thing_of_predeclared}
+use Rattle.go_candidate_core.specs.context.Laws.{thing_found_as}
+use Rattle.go_candidate_core.specs.fitting.Fitting.{thing_of_face, thing_of_target, thing_at, path_of_target, package_at}
+use Rattle.go_complete_core.specs.place.Laws.{is_local}
 
 -- what kind of thing is found, and the package where it is one
 

@@ -1,4 +1,21 @@
 -- What the crates above name of go_snap_core.
-pub use Rattle.go_place_core.specs.snap_core.Faulty as Faulty
-pub use Rattle.go_place_core.specs.snap_core.Snapshots as Snapshots
-pub use Rattle.go_place_core.specs.snap_core.declared as declared
+pub use Rattle.go_snap_core.proofs.Faulty as Faulty
+pub use Rattle.go_snap_core.proofs.MakeSearching as MakeSearching
+pub use Rattle.go_snap_core.proofs.NearClosing as NearClosing
+pub use Rattle.go_snap_core.proofs.NearExpressions as NearExpressions
+pub use Rattle.go_snap_core.specs.near.Looks as NearLooks
+pub use Rattle.go_snap_core.specs.near.Near as NearNear
+pub use Rattle.go_snap_core.proofs.NearPieces as NearPiecesProofs
+pub use Rattle.go_snap_core.specs.Snapshots as Snapshots
+pub use Rattle.go_snap_core.proofs.WholeWorkspaceBeside as WholeWorkspaceBeside
+pub use Rattle.go_snap_core.proofs.WholeWorkspaceChecks as WholeWorkspaceChecks
+pub use Rattle.go_snap_core.specs.whole_workspace.Inputs as WholeWorkspaceInputs
+pub use Rattle.go_snap_core.specs.whole_workspace.Known as WholeWorkspaceKnown
+pub use Rattle.go_snap_core.proofs.WholeWorkspaceLists as WholeWorkspaceLists
+pub use Rattle.go_snap_core.specs.whole_workspace.mirrors as WholeWorkspaceMirrors
+pub use Rattle.go_snap_core.proofs.WholeWorkspaceOrder as WholeWorkspaceOrder
+pub use Rattle.go_snap_core.proofs.WholeWorkspaceParts as WholeWorkspaceParts
+pub use Rattle.go_snap_core.proofs.WholeWorkspacePartsWhole as WholeWorkspacePartsWhole
+pub use Rattle.go_snap_core.proofs.WholeWorkspaceTheirs as WholeWorkspaceTheirs
+pub use Rattle.go_snap_core.proofs.WholeWorkspaceValues as WholeWorkspaceValues
+pub use Rattle.go_snap_core.specs.declared as declared

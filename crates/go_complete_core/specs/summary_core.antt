@@ -1,4 +1,5 @@
 -- What the crates above name of go_summary_core.
-pub use Rattle.go_fitting_core.specs.summary_core.Summaries as Summaries
-pub use Rattle.go_fitting_core.specs.summary_core.Views as Views
-pub use Rattle.go_fitting_core.specs.summary_core.codes as codes
+pub use Rattle.go_package_core.specs.summary_core.ShownPicking as ShownPicking
+pub use Rattle.go_package_core.specs.summary_core.ShownShown as ShownShown
+pub use Rattle.go_package_core.specs.summary_core.Summaries as Summaries
+pub use Rattle.go_package_core.specs.summary_core.codes as codes

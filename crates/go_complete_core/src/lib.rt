@@ -4,35 +4,31 @@
 #![tactic(auto)]
 
 mod completing;
+pub mod hint;
+pub mod place;
+pub mod spelling;
+pub mod views;
 
 pub use completing::names_there;
 
-/// What the crates above name of `go_answer_core`.
-pub mod answer_core {
-    pub use go_place_core::answer_core::{Answer, HeldLocal, Site};
+/// What the crates above name of `go_package_core`.
+pub mod package_core {
+    pub use go_package_core::package_part::{Part, PartFile, part_has_occurrences, types_of};
+    pub use go_package_core::prepare::{PackageAt, package_outlines};
 }
 
-/// What the crates above name of `go_part_core`.
-pub mod part_core {
-    pub use go_place_core::part_core::{Part, PartFile, part_has_occurrences, types_of};
-}
-
-/// What the crates above name of `go_ready_core`.
-pub mod ready_core {
-    pub use go_place_core::ready_core::{PackageAt, package_aliases, package_outlines};
-}
-
-/// What the crates above name of `go_shown_core`.
-pub mod shown_core {
-    pub use go_fitting_core::shown_core::{deps_shown, imports_shown};
+/// What the crates above name of `go_report_core`.
+pub mod report_core {
+    pub use go_package_core::report_core::{Answer, HeldLocal, Site};
 }
 
 /// What the crates above name of `go_snap_core`.
 pub mod snap_core {
-    pub use go_place_core::snap_core::{FileIn, PlacedFault, Snapshot};
+    pub use go_snap_core::make::package_of;
+    pub use go_snap_core::{FileIn, PlacedFault, Snapshot};
 }
 
 /// What the crates above name of `go_summary_core`.
 pub mod summary_core {
-    pub use go_fitting_core::summary_core::view_of;
+    pub use go_package_core::summary_core::{View, deps_shown, imports_shown};
 }

@@ -2,4 +2,3 @@ pub mod Values
 pub mod Texts
 pub mod Laws
 pub mod text_core
-pub mod token_core

@@ -26,10 +26,5 @@ pub use values::{Constant, is_zero, natural, text_length};
 
 /// What the crates above name of `go_text_core`.
 pub mod text_core {
-    pub use go_token_core::text_core::{Rule, add, is_blank};
-}
-
-/// What the crates above name of `go_token_core`.
-pub mod token_core {
-    pub use go_token_core::Operator;
+    pub use go_token_core::text_core::{Rule, Span, add, is_blank};
 }

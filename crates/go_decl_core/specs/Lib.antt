@@ -9,5 +9,3 @@ pub mod Shown
 pub mod Table
 pub mod TopDecls
 pub mod mirrors
-pub mod text_core
-pub mod tree_core

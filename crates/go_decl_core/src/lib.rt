@@ -27,17 +27,5 @@ pub use type_places::last_ident;
 
 /// What the crates above name of `go_path_core`.
 pub mod path_core {
-    pub use go_path_core::ImportPath;
-}
-
-/// What the crates above name of `go_text_core`.
-pub mod text_core {
-    pub use go_path_core::text_core::{
-        Name, Rule, Span, add, boxed, is_blank, is_digit, is_exported, is_letter, same_id,
-    };
-}
-
-/// What the crates above name of `go_tree_core`.
-pub mod tree_core {
-    pub use go_tree_core::{Occ, Role, occurrences};
+    pub use go_path_core::{ImportPath, Module, may_import, overlaps};
 }

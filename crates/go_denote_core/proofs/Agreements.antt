@@ -1,9 +1,9 @@
 -- Names, selectors and calls denote nothing exactly where they break a rule.
 use Rattle.std.proofs.Common.{◌≡◌, ℕ, Bool, true, false, List, [], ◌∷◌, length, refl}
 use Rattle.std.specs.Prelude.{Option, Some, None, Result, Ok, Err, ◌==◌, if◌then◌else◌}
-use Rattle.go_operand_core.specs.text_core.Text.{is_blank}
-use Rattle.go_operand_core.specs.text_core.declared.rule.Rule.{Rule}
-use Rattle.go_operand_core.specs.text_core.declared.rule.Rule.TheVariants.{N8, S4, S8, C2, C3}
+use Rattle.go_text_core.specs.Text.{is_blank}
+use Rattle.go_text_core.specs.declared.rule.Rule.{Rule}
+use Rattle.go_text_core.specs.declared.rule.Rule.TheVariants.{N8, S4, S8, C2, C3}
 use Rattle.go_tree_nodes.specs.declared.usage.Usage.{Usage}
 use Rattle.go_tree_nodes.specs.declared.usage.Usage.TheVariants as usages
 use Rattle.go_operand_core.specs.declared.types.Operand.{Operand}

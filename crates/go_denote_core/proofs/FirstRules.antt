@@ -3,9 +3,9 @@ use Rattle.std.proofs.Common.{◌≡◌, ℕ, suc, Bool, true, false, ◌&&◌, 
 use Rattle.std.specs.Prelude.{Option, Some, None, Ok, Err, option_map, ◌==◌, if◌then◌else◌}
 use Rattle.std.specs.List.{list_all, list_any, zip}
 use Rattle.std.proofs.lemmas.Bool.Decides.{nat_tests}
-use Rattle.go_operand_core.specs.text_core.Text.{is_blank}
-use Rattle.go_operand_core.specs.text_core.declared.rule.Rule.{Rule}
-use Rattle.go_operand_core.specs.text_core.declared.rule.Rule.TheVariants.{N8, S4, S8, C2, C3, C4, X1}
+use Rattle.go_text_core.specs.Text.{is_blank}
+use Rattle.go_text_core.specs.declared.rule.Rule.{Rule}
+use Rattle.go_text_core.specs.declared.rule.Rule.TheVariants.{N8, S4, S8, C2, C3, C4, X1}
 use Rattle.go_tree_nodes.specs.declared.usage.Usage.{Usage}
 use Rattle.go_tree_nodes.specs.declared.usage.Usage.TheVariants as usages
 use Rattle.go_term_core.specs.declared.term.Basic.TheVariants as basics

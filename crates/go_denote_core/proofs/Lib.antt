@@ -2,3 +2,11 @@ pub mod Turns
 pub mod FirstRules
 pub mod Agreements
 pub mod Locality
+pub mod CompositeNames
+pub mod CompositeMarking
+pub mod CompositeTurns
+pub mod CompositeFieldLaws
+pub mod CompositeKeyLaws
+pub mod CompositeRepeatLaws
+pub mod CompositeLiteralLaws
+pub mod CompositeSampling

@@ -2,9 +2,9 @@
 --
 -- docs/RULES.md, "Names, selectors and calls in expressions". The Go specification, "Operands", "Qualified identifiers".
 use Rattle.std.specs.Prelude.{ℕ, Bool, List, Option, Some, None, if◌then◌else◌}
-use Rattle.go_operand_core.specs.text_core.Text.{is_blank}
-use Rattle.go_operand_core.specs.text_core.declared.rule.Rule.{Rule}
-use Rattle.go_operand_core.specs.text_core.declared.rule.Rule.TheVariants.{N1, N4, N5, N6, N7, N8, N9, C1, X1}
+use Rattle.go_text_core.specs.Text.{is_blank}
+use Rattle.go_text_core.specs.declared.rule.Rule.{Rule}
+use Rattle.go_text_core.specs.declared.rule.Rule.TheVariants.{N1, N4, N5, N6, N7, N8, N9, C1, X1}
 use Rattle.go_operand_core.specs.declared.types.Operand.{Operand}
 use Rattle.go_operand_core.specs.declared.types.ValueType.TheVariants as value_types
 use Rattle.go_denote_core.specs.declared.things.Stand.{Stand}

@@ -3,8 +3,8 @@
 -- docs/RULES.md, "Names, selectors and calls in expressions". The Go specification, "Calls": as a special case a call f(g(..)) passes
 -- the results of g to the parameters of f in order.
 use Rattle.std.specs.Prelude.{Bool, true, false, ◌&&◌, List, [], ◌∷◌, map, Option, Some, None}
-use Rattle.go_operand_core.specs.text_core.declared.rule.Rule.{Rule}
-use Rattle.go_operand_core.specs.text_core.declared.rule.Rule.TheVariants.{Y3}
+use Rattle.go_text_core.specs.declared.rule.Rule.{Rule}
+use Rattle.go_text_core.specs.declared.rule.Rule.TheVariants.{Y3}
 use Rattle.go_operand_core.specs.declared.types.ValueType.TheVariants as value_types
 use Rattle.go_operand_core.specs.TypeRules.{TypeRules}
 use Rattle.go_operand_core.specs.Assign.{assignable_to}

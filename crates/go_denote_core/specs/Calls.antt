@@ -4,8 +4,8 @@
 -- "Handling panics", "Bootstrapping".
 use Rattle.std.specs.Prelude.{Bool, true, false, ◌&&◌, ◌==◌, List, [], ◌∷◌, length, Option, Some, None, Result, Ok, Err, is_some, if◌then◌else◌}
 use Rattle.std.specs.List.{list_all}
-use Rattle.go_operand_core.specs.text_core.declared.rule.Rule.{Rule}
-use Rattle.go_operand_core.specs.text_core.declared.rule.Rule.TheVariants.{C1, C2, C3, C4}
+use Rattle.go_text_core.specs.declared.rule.Rule.{Rule}
+use Rattle.go_text_core.specs.declared.rule.Rule.TheVariants.{C1, C2, C3, C4}
 use Rattle.go_operand_core.specs.declared.types.Operand.{Operand}
 use Rattle.go_operand_core.specs.Values.{basic_under}
 use Rattle.go_operand_core.specs.Conversions.{convert, length_of}

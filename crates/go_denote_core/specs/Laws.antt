@@ -1,6 +1,6 @@
 -- What holds of names, selectors and calls.
 use Rattle.std.specs.Prelude.{◌≡◌, ℕ, Bool, true, false, List, [], ◌∷◌, Option, Some, None, MatchOption, ⊤}
-use Rattle.go_operand_core.specs.text_core.Text.{is_blank}
+use Rattle.go_text_core.specs.Text.{is_blank}
 use Rattle.go_tree_nodes.specs.declared.usage.Usage.{Usage}
 use Rattle.go_operand_core.specs.declared.types.ValueType.{ValueType}
 use Rattle.go_operand_core.specs.TypeRules.{TypeRules}

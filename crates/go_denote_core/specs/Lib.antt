@@ -7,7 +7,6 @@ pub mod Contexts
 pub mod Rules
 pub mod Laws
 pub mod mirrors
-pub mod constant_core
+pub mod composite
 pub mod operand_core
 pub mod text_core
-pub mod tree_core

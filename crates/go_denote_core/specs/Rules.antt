@@ -4,9 +4,9 @@
 -- docs/RULES.md, "Members and selectors", "Names, selectors and calls in expressions".
 use Rattle.std.specs.Prelude.{◌≡◌, ℕ, Bool, true, false, ◌&&◌, ◌||◌, not, ◌==◌, List, [], ◌∷◌, length, Option, Some, None, MatchOption, is_some, option_map}
 use Rattle.std.specs.List.{list_any, zip}
-use Rattle.go_operand_core.specs.text_core.Text.{is_blank}
-use Rattle.go_operand_core.specs.text_core.declared.rule.Rule.{Rule}
-use Rattle.go_operand_core.specs.text_core.declared.rule.Rule.TheVariants.{N1, N2, N3, N4, N5, N6, N7, N8, N9, S4, S5, S6, S8, C1, C2, C3, C4, X1}
+use Rattle.go_text_core.specs.Text.{is_blank}
+use Rattle.go_text_core.specs.declared.rule.Rule.{Rule}
+use Rattle.go_text_core.specs.declared.rule.Rule.TheVariants.{N1, N2, N3, N4, N5, N6, N7, N8, N9, S4, S5, S6, S8, C1, C2, C3, C4, X1}
 use Rattle.go_tree_nodes.specs.declared.usage.Usage.{Usage}
 use Rattle.go_tree_nodes.specs.declared.usage.Usage.TheVariants as usages
 use Rattle.go_term_core.specs.declared.term.Basic.TheVariants as basics

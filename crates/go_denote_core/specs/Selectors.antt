@@ -3,8 +3,8 @@
 -- docs/RULES.md, "Members and selectors", "Names, selectors and calls in expressions". The Go specification, "Qualified identifiers",
 -- "Selectors", "Method values", "Calls".
 use Rattle.std.specs.Prelude.{ℕ, Bool, not, ◌||◌, List, Option, Some, None, if◌then◌else◌}
-use Rattle.go_operand_core.specs.text_core.Text.{is_blank}
-use Rattle.go_operand_core.specs.text_core.declared.rule.Rule.TheVariants.{N2, N3, S4, S5, S6, S8, C1, X1}
+use Rattle.go_text_core.specs.Text.{is_blank}
+use Rattle.go_text_core.specs.declared.rule.Rule.TheVariants.{N2, N3, S4, S5, S6, S8, C1, X1}
 use Rattle.go_tree_nodes.specs.declared.usage.Usage.{Usage}
 use Rattle.go_tree_nodes.specs.declared.usage.Usage.TheVariants as usages
 use Rattle.go_operand_core.specs.Values.{default_type}

@@ -5,8 +5,8 @@ ghost use Rattle.go_denote_core.specs.Answers as answers;
 
 use crate::looks::Names;
 use crate::things::{Answer, Denoted, Found, Outcome, Stand};
-use go_operand_core::text_core::Rule;
 use go_operand_core::{Operand, ValueType};
+use go_text_core::Rule;
 use std::alloc::{AllocError, Global};
 
 /// A declaration, and what it denotes.

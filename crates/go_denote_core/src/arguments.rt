@@ -5,8 +5,8 @@ ghost use Rattle.go_denote_core.specs.Arguments as given;
 
 use crate::looks::Names;
 use crate::things::{Argument, Denoted};
-use go_operand_core::text_core::Rule;
 use go_operand_core::{Operand, TypeLooks, ValueType, assignable_to};
+use go_text_core::Rule;
 use std::alloc::{AllocError, Global};
 
 // A result of a call.

@@ -8,7 +8,7 @@ use crate::arguments::fits_type;
 use crate::conversions::{builtin_call, conversion, of_type};
 use crate::looks::Names;
 use crate::things::{Answer, Argument, Builtin, Denoted};
-use go_operand_core::text_core::Rule;
+use go_text_core::Rule;
 use std::alloc::{AllocError, Global};
 
 // What the results of a call denote.

@@ -10,8 +10,8 @@ use crate::answers::{declared, refused, value_of_type};
 use crate::arguments::fits_type;
 use crate::looks::Names;
 use crate::things::{Answer, Argument, Builtin, Denoted};
-use go_operand_core::text_core::Rule;
 use go_operand_core::{Operand, basic_under, convert, length_of};
+use go_text_core::Rule;
 use std::alloc::{AllocError, Global};
 
 // The only argument, where there is one and no second.

@@ -9,6 +9,7 @@
 mod answers;
 mod arguments;
 mod calls;
+pub mod composite;
 mod conversions;
 mod laws;
 mod looks;
@@ -29,11 +30,6 @@ pub use things::{
     Answer, Argument, Builtin, Denoted, Dot, Exported, Found, Outcome, Selection, Stand,
 };
 
-/// What the crates above name of `go_constant_core`.
-pub mod constant_core {
-    pub use go_operand_core::constant_core::{Constant, ConstantText, natural};
-}
-
 /// What the crates above name of `go_operand_core`.
 pub mod operand_core {
     pub use go_operand_core::{
@@ -44,10 +40,5 @@ pub mod operand_core {
 
 /// What the crates above name of `go_text_core`.
 pub mod text_core {
-    pub use go_operand_core::text_core::Rule;
-}
-
-/// What the crates above name of `go_tree_core`.
-pub mod tree_core {
-    pub use go_operand_core::tree_core::Role;
+    pub use go_text_core::{Rule, Span, add, boxed, is_digit, is_letter};
 }

@@ -7,8 +7,8 @@ ghost use Rattle.go_operand_core.specs.Values as values;
 use crate::answers::{func_answer, refused, type_answer, value_answer, value_of_type};
 use crate::looks::Names;
 use crate::things::{Answer, Denoted, Dot, Exported, Outcome, Selection, Stand};
-use go_operand_core::text_core::Rule;
 use go_operand_core::{Operand, default_type};
+use go_text_core::Rule;
 use go_tree_nodes::Usage;
 use std::alloc::{AllocError, Global};
 

@@ -2,7 +2,7 @@
 //!
 //! `T` stands for types, `S` for signatures, `D` for declarations, `P` for paths of embedded fields.
 use go_operand_core::Operand;
-use go_operand_core::text_core::Rule;
+use go_text_core::Rule;
 
 /// Where a name stands.
 #[derive(Clone, Copy)]

@@ -1,8 +1,8 @@
 -- Names that are suggested: those that queries give.
 use Rattle.std.specs.Prelude.{◌≡◌, ◌⊎◌, ℕ, List, [], map}
-use Rattle.go_text_core.specs.declared.rule.Rule.{Rule}
+use Rattle.go_token_core.specs.text_core.declared.rule.Rule.{Rule}
 use Rattle.go_snap_core.specs.Snapshots.{SnapshotModel}
-use Rattle.go_snap_core.specs.part_core.Inputs.{path_in}
+use Rattle.go_package_core.specs.package_part.Inputs.{path_in}
 use Rattle.go_query_core.specs.Completing.{IsCompletion, IsUnasked}
 use Rattle.go_query_core.specs.Defining.{HasNoPart}
 use Rattle.go_query_core.specs.Entries.{EntryOf}

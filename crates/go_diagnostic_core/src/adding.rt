@@ -4,7 +4,7 @@ use crate::here::Here;
 use crate::messages::{Message, Words};
 use crate::place::place_here;
 use crate::suggesting::{fitting_change, fitting_import, import_with, names_here, near_here};
-use go_mend_core::{Mend, Mending};
+use go_recovery_core::mend::{Mend, Mending};
 use std::alloc::{AllocError, Global};
 
 /// Adds the name that is nearest to a spelling among those that have a declaration at a place, as by [`crate::nearest_name`], and answers whether there is one.

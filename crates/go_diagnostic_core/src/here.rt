@@ -1,8 +1,8 @@
 //! The places of faults, with the tokens of their files.
 
 use crate::tokens::Tokens;
-use go_path_core::ImportPath;
-use go_snap_core::graph_core::{PackageSource, SourceFile};
+use go_block_core::graph_core::{PackageSource, SourceFile};
+use go_package_core::path_core::ImportPath;
 use go_snap_core::{PlacedFault, Snapshot};
 use std::alloc::{AllocError, Global};
 

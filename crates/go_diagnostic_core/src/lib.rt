@@ -27,3 +27,10 @@ pub use place::{place_here, place_text};
 pub use quoting::{digits, shown};
 pub use suggesting::{nearest_import, nearest_name};
 pub use tokens::Tokens;
+
+/// What the crates above name of `go_snap_core`.
+pub mod snap_core {
+    pub use go_snap_core::{
+        FileIn, PlacedFault, Recompiled, Snapshot, compile, faults_lie_in_files, recompile,
+    };
+}

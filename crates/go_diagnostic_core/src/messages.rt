@@ -1,7 +1,7 @@
 //! Diagnostics as they are told: a headline with lines after it.
 
 use crate::suggesting::Fitting;
-use go_text_core::add;
+use go_token_core::text_core::add;
 use std::alloc::{AllocError, Global};
 
 /// What a line after a headline is.

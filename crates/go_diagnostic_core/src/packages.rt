@@ -2,10 +2,10 @@
 
 use crate::here::Here;
 use crate::place::{place_here, place_text};
+use go_block_core::decl_core::{DeclKind, DeclRef, Places, outline};
+use go_block_core::graph_core::{PackageSource, SourceFile};
 use go_block_core::{Binding, Target};
-use go_decl_core::{DeclKind, DeclRef, Places, outline};
-use go_path_core::ImportPath;
-use go_snap_core::graph_core::{PackageSource, SourceFile};
+use go_package_core::path_core::ImportPath;
 use std::alloc::{AllocError, Global};
 
 /// The package of a path in the workspace of a fault, be it checked or not; none where there is none of this path.

@@ -2,8 +2,8 @@
 
 use crate::here::Here;
 use crate::quoting::digits;
+use go_block_core::graph_core::SourceFile;
 use go_folder_core::{below, position_of};
-use go_snap_core::graph_core::SourceFile;
 use std::alloc::{AllocError, Global};
 
 // The path of a package's folder from that of a module; the whole path of one that is not below it.

@@ -1,19 +1,19 @@
 //! Suggestions: names that queries give.
 ghost use Rattle.std.specs.Prelude.{◌≡◌, ◌≢◌, ⊤, List, ℕ, [], IfOk, MatchOption, None, Some, map, string_bytes};
 ghost use Rattle.std.specs.Option.{option_map};
-ghost use Rattle.go_mend_core.specs.Said.{help_text};
-ghost use Rattle.go_mend_core.specs.declared.mending.Mending.{Mending};
+ghost use Rattle.go_recovery_core.specs.mend.Said.{help_text};
+ghost use Rattle.go_recovery_core.specs.declared.mend.mending.Mending.{Mending};
 ghost use Rattle.go_diagnostic_core.specs.Near.{IsSuggested};
 ghost use Rattle.go_diagnostic_core.specs.Suggestions.{AreImportablePaths, AreNamesFor, entry_path};
 ghost use Rattle.go_diagnostic_core.specs.mirrors.Fittings.{fitting_text};
 
 use crate::here::Here;
 use crate::near::nearest;
-use go_mend_core::Mend;
-use go_path_core::ImportPath;
+use go_package_core::path_core::ImportPath;
 use go_query_core::{PackageEntry, complete, list};
+use go_recovery_core::mend::Mend;
 use go_snap_core::Snapshot;
-use go_text_core::{Rule, add};
+use go_token_core::text_core::{Rule, add};
 use std::alloc::{AllocError, Global};
 
 // The names that have a declaration in place of the identifier that is used at an offset of a file: those that [`complete`] gives, and none where it

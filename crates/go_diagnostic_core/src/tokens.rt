@@ -1,7 +1,7 @@
 //! Texts with their tokens: what stands at the place of a fault, in front of it and after it.
 
 use go_scan_core::scan;
-use go_text_core::Span;
+use go_token_core::text_core::Span;
 use go_token_core::{Keyword, Operator, ScanError, Token, TokenKind};
 use std::alloc::{AllocError, Global};
 

@@ -1,10 +1,10 @@
 -- The text of a run of comments.
 use Rattle.std.proofs.Common.{◌≡◌, ℕ, zero, suc, ◌+◌, ◌<◌, ◌≤◌, ◌⊎◌, inl, inr, Bool, true, false, List, [], ◌∷◌, length, get_or, Option, Some, None, refl, sym, ap, ◌∙◌, subst, arith}
 use Rattle.std.specs.Prelude.{nat_le, ◌&&◌, min, if◌then◌else◌, All, Contains, MatchOption, slice_range}
-use Rattle.go_scan_core.specs.text_core.declared.span.Span.{Span}
-use Rattle.go_scan_core.specs.text_core.Boundaries.{is_boundary_of}
-use Rattle.go_scan_core.specs.text_core.Slices.{slice_of}
-use Rattle.go_scan_core.specs.token_core.declared.token.Comment.{Comment}
+use Rattle.go_tree_nodes.specs.text_core.declared.span.Span.{Span}
+use Rattle.go_tree_nodes.specs.text_core.Boundaries.{is_boundary_of}
+use Rattle.go_tree_nodes.specs.text_core.Slices.{slice_of}
+use Rattle.go_tree_nodes.specs.token_core.declared.token.Comment.{Comment}
 use Rattle.go_scan_core.specs.Texts.{CommentHasItsText, IsEncodedComment}
 use Rattle.go_scan_core.specs.Tokens.{CommentsInOrder}
 use Rattle.go_doc_core.specs.DocComments.{AreAbove, IsAbove, IsDocComment, IsDocRun, first_byte, line_of, top_line}

@@ -3,3 +3,8 @@ pub mod LineLemmas
 pub mod OneComment
 pub mod OrderLemmas
 pub mod RunLemmas
+pub mod SymbolDeclared
+pub mod SymbolDistinct
+pub mod SymbolRising
+pub mod SymbolShowing
+pub mod SymbolSorting

@@ -9,12 +9,12 @@ use Rattle.std.proofs.lemmas.Bool.{cases_lt}
 use Rattle.std.proofs.lemmas.List.{get_or-drop, get_or-take, get_or_default, get_or_push, length-append, length-drop, length-take}
 use Rattle.std.proofs.lemmas.List.Elements.{All-append, All-cons, All-head, All-tail}
 use Rattle.std.proofs.lemmas.Str.{encodes-append}
-use Rattle.go_scan_core.specs.text_core.Boundaries.{is_boundary_of}
-use Rattle.go_scan_core.specs.text_core.declared.span.Span.{Span}
-use Rattle.go_scan_core.specs.token_core.Characters.{in_line}
-use Rattle.go_scan_core.specs.token_core.declared.kind.CommentKind.{CommentKind}
-use Rattle.go_scan_core.specs.token_core.declared.kind.CommentKind.TheVariants as kinds
-use Rattle.go_scan_core.specs.token_core.declared.token.Comment.{Comment}
+use Rattle.go_tree_nodes.specs.text_core.Boundaries.{is_boundary_of}
+use Rattle.go_tree_nodes.specs.text_core.declared.span.Span.{Span}
+use Rattle.go_tree_nodes.specs.token_core.Characters.{in_line}
+use Rattle.go_tree_nodes.specs.token_core.declared.kind.CommentKind.{CommentKind}
+use Rattle.go_tree_nodes.specs.token_core.declared.kind.CommentKind.TheVariants as kinds
+use Rattle.go_tree_nodes.specs.token_core.declared.token.Comment.{Comment}
 use Rattle.go_scan_core.specs.Texts.{CommentHasItsText, IsEncodedComment}
 use Rattle.go_scan_core.specs.Tokens.{CommentsInOrder, joined}
 use Rattle.go_doc_core.specs.DocComments.{AreAbove, IsAbove, IsDocRun, begins_line, has_mark, is_blank_byte, line_of, run_text, top_line}

@@ -4,8 +4,8 @@ use Rattle.std.specs.Prelude.{cond, nat_eq, nat_le, ◌&&◌, Contains}
 use Rattle.std.specs.List.Sorted.{IsPartitionPoint}
 use Rattle.std.proofs.lemmas.List.{get_or_default}
 use Rattle.std.proofs.lemmas.List.Elements.{All-push}
-use Rattle.go_scan_core.specs.text_core.declared.span.Span.{Span}
-use Rattle.go_scan_core.specs.token_core.declared.token.Comment.{Comment}
+use Rattle.go_tree_nodes.specs.text_core.declared.span.Span.{Span}
+use Rattle.go_tree_nodes.specs.token_core.declared.token.Comment.{Comment}
 use Rattle.go_scan_core.specs.Tokens.{CommentsInOrder}
 use Rattle.go_doc_core.specs.declared.runs.Climb.{Climb}
 use Rattle.go_doc_core.specs.DocComments.{AreAbove, IsAbove, begins_line, first_byte, line_of, top_line}

@@ -1,6 +1,6 @@
 -- The doc comment of what stands at a place of a text, by lines.
 use Rattle.std.specs.Prelude.{◌≡◌, ℕ, zero, suc, ◌+◌, ◌≤◌, Bool, true, ◌&&◌, ◌||◌, nat_eq, List, [], ◌∷◌, take, get_or, count_by, slice_range, All, Contains, ⊤}
-use Rattle.go_scan_core.specs.token_core.declared.token.Comment.{Comment}
+use Rattle.go_tree_nodes.specs.token_core.declared.token.Comment.{Comment}
 
 -- the line of an offset, from 0: how many line ends stand before it
 abbrev pub line_of : List ℕ → ℕ → ℕ

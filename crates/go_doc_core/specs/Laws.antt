@@ -1,6 +1,6 @@
 -- Laws of doc comments.
 use Rattle.std.specs.Prelude.{◌≡◌, ℕ, List, All, length}
-use Rattle.go_scan_core.specs.token_core.declared.token.Comment.{Comment}
+use Rattle.go_tree_nodes.specs.token_core.declared.token.Comment.{Comment}
 use Rattle.go_scan_core.specs.Texts.{CommentHasItsText}
 use Rattle.go_scan_core.specs.Tokens.{CommentsInOrder}
 use Rattle.go_doc_core.specs.DocComments.{IsDocComment}

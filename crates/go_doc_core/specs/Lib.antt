@@ -1,4 +1,4 @@
 pub mod DocComments
 pub mod Laws
 pub mod mirrors
-pub mod scan_core
+pub mod symbol

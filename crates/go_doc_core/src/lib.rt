@@ -6,11 +6,7 @@
 mod laws;
 mod lines;
 mod runs;
+pub mod symbol;
 
 pub use laws::one_doc_comment;
 pub use runs::doc_comment;
-
-/// What the crates above name of `go_scan_core`.
-pub mod scan_core {
-    pub use go_scan_core::comments;
-}

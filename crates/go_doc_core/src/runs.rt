@@ -7,8 +7,8 @@ ghost use Rattle.go_doc_core.specs.DocComments.{IsDocComment};
 ghost use Rattle.go_doc_core.specs.mirrors.Climbing.{IsRunBetween, next_climb, ends_by};
 
 use crate::lines::{begins_line, with_line_ends};
-use go_scan_core::text_core::Span;
-use go_scan_core::token_core::Comment;
+use go_tree_nodes::text_core::Span;
+use go_tree_nodes::token_core::Comment;
 
 // How far a run has been read upwards.
 #[derive(Clone, Copy)]

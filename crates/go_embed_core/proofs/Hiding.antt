@@ -5,14 +5,14 @@ use Rattle.std.specs.Str.{bytes_eq}
 use Rattle.std.proofs.lemmas.Bool.{true≢false, or_parts, or_cases, or_left, or_right, and_from}
 use Rattle.std.proofs.lemmas.List.Elements.{Contains-append_left, Contains-append_right, Contains-append_cases}
 use Rattle.std.proofs.lemmas.Slice.Eq.{bytes_eq-Decides}
-use Rattle.go_term_core.specs.text_core.Text.{SameId, is_blank}
-use Rattle.go_term_core.specs.text_core.declared.rule.Rule.TheVariants as rules
-use Rattle.go_type_core.specs.decl_core.declared.keys.DeclKey.{DeclKey}
+use Rattle.go_collections_core.specs.text_core.Text.{SameId, is_blank}
+use Rattle.go_collections_core.specs.text_core.declared.rule.Rule.TheVariants as rules
+use Rattle.go_term_core.specs.decl_core.declared.keys.DeclKey.{DeclKey}
 use Rattle.go_term_core.specs.declared.term.MemberPlace.{MemberPlace}
 use Rattle.go_term_core.specs.Terms.{Term, StructOf, Fields, NoField, AField}
 use Rattle.go_term_core.proofs.Meanings.{id_back}
-use Rattle.go_type_core.specs.settle_core.declared.kind.Kind.{Kind}
-use Rattle.go_type_core.specs.settle_core.Settled.{is_among_names}
+use Rattle.go_term_core.specs.declared.settling.kind.Kind.{Kind}
+use Rattle.go_term_core.specs.settling.Settled.{is_among_names}
 use Rattle.go_type_core.specs.table_core.Entries.{Member, same_id, has_method}
 use Rattle.go_type_core.specs.table_core.Methods.{is_before, field_before, has_field_before}
 use Rattle.go_type_core.specs.Built.{unrepeated_methods, settled_member}

@@ -3,7 +3,7 @@ use Rattle.std.proofs.Common.{◌≡◌, ℕ, Bool, true, false, ◌||◌, List,
 use Rattle.std.specs.Str.{bytes_eq, chars}
 use Rattle.std.proofs.lemmas.Bool.{and_parts, and_from, or_cases, or_left, or_right}
 use Rattle.std.proofs.lemmas.Slice.Eq.{bytes_eq-Decides}
-use Rattle.go_term_core.specs.text_core.Text.{exported, SameId}
+use Rattle.go_collections_core.specs.text_core.Text.{exported, SameId}
 use Rattle.go_type_core.specs.table_core.Entries.{same_id}
 
 pub same_id_is : (a p b q : List ℕ) → same_id a p b q ≡ true → SameId a p b q

@@ -4,12 +4,12 @@ use Rattle.std.specs.Str.{bytes_eq}
 use Rattle.std.proofs.lemmas.Bool.{true≢false, and_from, or_left, or_parts, or_right}
 use Rattle.std.proofs.lemmas.List.{drop_more, drop_all}
 use Rattle.std.proofs.lemmas.Slice.Eq.{bytes_eq-Decides}
-use Rattle.go_term_core.specs.text_core.declared.rule.Rule.TheVariants as rules
-use Rattle.go_term_core.specs.text_core.Each.{or_false}
+use Rattle.go_collections_core.specs.text_core.declared.rule.Rule.TheVariants as rules
+use Rattle.go_collections_core.specs.text_core.Each.{or_false}
 use Rattle.go_term_core.specs.declared.term.Field.{Field}
 use Rattle.go_term_core.specs.Terms.{Term, NoType, Predeclared, ErrorType, Defined, PointerTo, StructOf, InterfaceOf, Fields, NoField, AField}
 use Rattle.go_term_core.specs.Shapes.{Line, fields_in}
-use Rattle.go_type_core.specs.settle_core.Settled.{is_among_names}
+use Rattle.go_term_core.specs.settling.Settled.{is_among_names}
 use Rattle.go_type_core.specs.table_core.declared.entry.DeclaredMethod.{DeclaredMethod}
 use Rattle.go_type_core.specs.table_core.Entries.{Member}
 use Rattle.go_type_core.specs.table_core.Methods.{field_spelled, term_fields}

@@ -2,14 +2,14 @@
 use Rattle.std.proofs.Common.{ℕ, Bool, true, false, not, ◌&&◌, ◌||◌, List, [], ◌∷◌, ◌++◌, if◌then◌else◌, inl, inr, refl, sym, ap, ◌∙◌, subst}
 use Rattle.std.specs.Prelude.{Contains, Option, None}
 use Rattle.std.proofs.lemmas.List.Elements.{Contains-append_left, Contains-append_right, Contains-append_cases}
-use Rattle.go_term_core.specs.text_core.Text.{is_blank}
-use Rattle.go_term_core.specs.text_core.declared.rule.Rule.{Rule}
-use Rattle.go_term_core.specs.text_core.declared.rule.Rule.TheVariants as rules
-use Rattle.go_type_core.specs.decl_core.declared.keys.DeclKey.{DeclKey}
+use Rattle.go_collections_core.specs.text_core.Text.{is_blank}
+use Rattle.go_collections_core.specs.text_core.declared.rule.Rule.{Rule}
+use Rattle.go_collections_core.specs.text_core.declared.rule.Rule.TheVariants as rules
+use Rattle.go_term_core.specs.decl_core.declared.keys.DeclKey.{DeclKey}
 use Rattle.go_term_core.specs.declared.term.MemberPlace.{MemberPlace}
 use Rattle.go_term_core.specs.Terms.{Term, NoType, Predeclared, ErrorType, Defined, PointerTo, StructOf, InterfaceOf, Fields, NoField, AField, Methods, NoMethod, AMethod, Sign, SignOf, Terms, NoTerm, ATerm}
-use Rattle.go_type_core.specs.settle_core.declared.kind.Kind.{Kind}
-use Rattle.go_type_core.specs.settle_core.Settled.{can_be_embedded, is_among_names, repeats_earlier}
+use Rattle.go_term_core.specs.declared.settling.kind.Kind.{Kind}
+use Rattle.go_term_core.specs.settling.Settled.{can_be_embedded, is_among_names, repeats_earlier}
 use Rattle.go_embed_core.specs.declared.faults.MemberFault.{MemberFault}
 use Rattle.go_embed_core.specs.Faults.{member_fault, member_fault_if, first_place, is_shared, term_faults, fields_faults, methods_faults, sign_faults, terms_faults, line_faults}
 use Rattle.go_embed_core.specs.Laws.{term_places, fields_places, methods_places, sign_places, terms_places, line_places, AreApart, EachFaultOnce}

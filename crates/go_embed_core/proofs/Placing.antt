@@ -4,10 +4,10 @@ use Rattle.std.specs.Prelude.{slice_get, option_map, codes}
 use Rattle.std.specs.Str.{bytes_eq, chars}
 use Rattle.std.proofs.lemmas.Bool.{true≢false}
 use Rattle.std.proofs.lemmas.Slice.Eq.{bytes_eq-Decides}
-use Rattle.go_term_core.specs.text_core.Text.{exported}
+use Rattle.go_collections_core.specs.text_core.Text.{exported}
 use Rattle.go_term_core.specs.Terms.{Term, NoType, Predeclared, ErrorType, Defined, PointerTo, StructOf, InterfaceOf, Fields, NoField, AField, Methods, NoMethod, AMethod}
-use Rattle.go_index_core.specs.declared.spellings.Spelling.{Spelling}
-use Rattle.go_index_core.specs.Spelled.{spelling, joined, spelled_if, spelled_from, spelled, spelled_in, AreSpelled}
+use Rattle.go_collections_core.specs.declared.spelling_index.spellings.Spelling.{Spelling}
+use Rattle.go_collections_core.specs.spelling_index.Spelled.{spelling, joined, spelled_if, spelled_from, spelled, spelled_in, AreSpelled}
 use Rattle.go_type_core.specs.table_core.Entries.{Member, same_id, has_method}
 use Rattle.go_type_core.specs.table_core.MemberNames.{field_names, method_names, term_names}
 use Rattle.go_embed_core.specs.declared.indexed.Place.{Place}

@@ -6,16 +6,16 @@ use Rattle.std.proofs.lemmas.Bool.{true≢false, and_parts, and_from, not-true, 
 use Rattle.std.proofs.lemmas.List.Elements.{Contains-append_left, Contains-append_right, Contains-append_cases}
 use Rattle.std.proofs.lemmas.Slice.Eq.{bytes_eq-Decides}
 use denote.Enum.Bare.{sameb}
-use Rattle.go_term_core.specs.text_core.Text.{is_blank}
-use Rattle.go_term_core.specs.text_core.declared.rule.Rule.{Rule}
-use Rattle.go_term_core.specs.text_core.declared.rule.Rule.TheVariants as rules
-use Rattle.go_term_core.specs.text_core.contracts.rule.Rule as rule_type
-use Rattle.go_type_core.specs.decl_core.declared.keys.DeclKey.{DeclKey}
+use Rattle.go_collections_core.specs.text_core.Text.{is_blank}
+use Rattle.go_collections_core.specs.text_core.declared.rule.Rule.{Rule}
+use Rattle.go_collections_core.specs.text_core.declared.rule.Rule.TheVariants as rules
+use Rattle.go_collections_core.specs.text_core.contracts.rule.Rule as rule_type
+use Rattle.go_term_core.specs.decl_core.declared.keys.DeclKey.{DeclKey}
 use Rattle.go_term_core.specs.declared.term.MemberPlace.{MemberPlace}
 use Rattle.go_term_core.specs.Terms.{Term, NoType, Predeclared, ErrorType, Defined, PointerTo, StructOf, InterfaceOf, Fields, NoField, AField, Methods, NoMethod, AMethod, Sign, SignOf, Terms, NoTerm, ATerm, term_keys, fields_keys, methods_keys, sign_keys, terms_keys}
-use Rattle.go_type_core.specs.settle_core.declared.kind.Kind.{Kind}
-use Rattle.go_type_core.specs.settle_core.declared.kind.Kind.TheVariants as kinds
-use Rattle.go_type_core.specs.settle_core.Settled.{is_no_pointer, can_be_pointed, can_point, can_be_embedded, is_among_names, repeats_earlier}
+use Rattle.go_term_core.specs.declared.settling.kind.Kind.{Kind}
+use Rattle.go_term_core.specs.declared.settling.kind.Kind.TheVariants as kinds
+use Rattle.go_term_core.specs.settling.Settled.{is_no_pointer, can_be_pointed, can_point, can_be_embedded, is_among_names, repeats_earlier}
 use Rattle.go_embed_core.specs.declared.faults.MemberFault.{MemberFault}
 use Rattle.go_embed_core.specs.Faults.{member_fault, member_fault_if, first_place, is_shared, term_faults, fields_faults, methods_faults, sign_faults, terms_faults, line_faults}
 use Rattle.go_embed_core.specs.Laws.{IsField, FaultsAreLocal, term_places, fields_places, methods_places, sign_places, terms_places, line_places, AreApart, IsRepeated, RepeatedIsTold, written_kind, MayNotBeEmbedded, StarredInterfaceIsTold}

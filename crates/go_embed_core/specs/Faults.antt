@@ -1,19 +1,19 @@
 -- The faults of struct types, interface types, methods and receivers: B5, Y2, B6. The terms are as they are written.
 use Rattle.std.specs.Prelude.{ℕ, Bool, true, false, not, ◌&&◌, ◌||◌, List, [], ◌∷◌, ◌++◌, Option, Some, None, nat_eq, if◌then◌else◌}
 use Rattle.std.specs.Str.{bytes_eq}
-use Rattle.go_term_core.specs.text_core.Text.{is_blank}
-use Rattle.go_term_core.specs.text_core.declared.rule.Rule.{Rule}
-use Rattle.go_term_core.specs.text_core.declared.rule.Rule.TheVariants as rules
-use Rattle.go_type_core.specs.decl_core.declared.keys.DeclKey.{DeclKey}
+use Rattle.go_collections_core.specs.text_core.Text.{is_blank}
+use Rattle.go_collections_core.specs.text_core.declared.rule.Rule.{Rule}
+use Rattle.go_collections_core.specs.text_core.declared.rule.Rule.TheVariants as rules
+use Rattle.go_term_core.specs.decl_core.declared.keys.DeclKey.{DeclKey}
 use Rattle.go_term_core.specs.declared.term.MemberPlace.{MemberPlace}
 use Rattle.go_term_core.specs.declared.term.MemberPlace.TheVariants as places
 use Rattle.go_term_core.specs.Terms.{Term, NoType, Predeclared, ErrorType, Defined, PointerTo, StructOf, InterfaceOf, Fields, NoField, AField, Methods, NoMethod, AMethod, Sign, SignOf, Terms, NoTerm, ATerm}
-use Rattle.go_type_core.specs.settle_core.declared.kind.Kind.{Kind}
-use Rattle.go_type_core.specs.settle_core.Settled.{can_be_embedded, is_among_names, repeats_earlier}
+use Rattle.go_term_core.specs.declared.settling.kind.Kind.{Kind}
+use Rattle.go_term_core.specs.settling.Settled.{can_be_embedded, is_among_names, repeats_earlier}
 use Rattle.go_type_core.specs.table_core.Entries.{Member, same_decl}
 use Rattle.go_type_core.specs.table_core.Methods.{has_field_before}
 use Rattle.go_embed_core.specs.declared.faults.MemberFault.{MemberFault}
-use Rattle.go_type_core.specs.settle_core.Settled.{can_be_pointed}
+use Rattle.go_term_core.specs.settling.Settled.{can_be_pointed}
 
 abbrev pub member_fault : MemberPlace → Rule → MemberFault
 member_fault place rule = record { place = place; rule = rule }

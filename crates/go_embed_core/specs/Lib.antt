@@ -3,7 +3,5 @@ pub mod OwnersShown
 pub mod Faults
 pub mod Laws
 pub mod mirrors
-pub mod decl_core
-pub mod settle_core
 pub mod table_core
 pub mod type_core

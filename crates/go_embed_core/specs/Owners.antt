@@ -1,7 +1,7 @@
 -- What a type has of its own: fields, methods, embedded fields.
 use Rattle.std.specs.Prelude.{◌≡◌, ℕ, suc, Bool, true, false, not, ◌&&◌, List, [], ◌∷◌, ◌++◌, Option, Some, None, Contains, codes, nat_eq, if◌then◌else◌}
 use Rattle.std.specs.Str.{bytes_eq}
-use Rattle.go_term_core.specs.text_core.Text.{SameId}
+use Rattle.go_collections_core.specs.text_core.Text.{SameId}
 use Rattle.go_term_core.specs.declared.term.MemberPlace.{MemberPlace}
 use Rattle.go_term_core.specs.Terms.{Term, NoType, Predeclared, ErrorType, Defined, PointerTo, StructOf, InterfaceOf, Fields, NoField, AField, Methods, NoMethod, AMethod, Sign}
 use Rattle.go_type_core.specs.table_core.Entries.{Member, EntryLook, underlying_in, declared_methods, has_method}

@@ -1,6 +1,6 @@
 -- What values of the program hold of the members of types.
 use Rattle.std.specs.Prelude.{◌≡◌, ℕ, List, [], Some, slice_get, codes}
-use Rattle.go_term_core.specs.text_core.Text.{SameId}
+use Rattle.go_collections_core.specs.text_core.Text.{SameId}
 use Rattle.go_term_core.specs.Terms.{NoType}
 use Rattle.go_term_core.specs.Shapes.{shape, sign_of}
 use Rattle.go_type_core.specs.table_core.Entries.{Entry}

@@ -1,18 +1,18 @@
 //! The faults of struct types, interface types, methods and receivers.
 ghost use Rattle.std.specs.Prelude.{◌≡◌, ◌++◌, ◌∷◌, [], true, false, not, ◌&&◌, ◌||◌, IfOk, OnOk, IfErr, map, List};
-ghost use Rattle.go_term_core.specs.text_core.Text.{is_blank};
+ghost use Rattle.go_collections_core.specs.text_core.Text.{is_blank};
 ghost use Rattle.go_term_core.specs.Shapes.{Line, shape, sign_of, fields_in, line_at, line_shapes, method_shapes, term_at, terms_in};
-ghost use Rattle.go_type_core.specs.settle_core.Settled.{can_be_embedded, is_among_names};
+ghost use Rattle.go_term_core.specs.settling.Settled.{can_be_embedded, is_among_names};
 ghost use Rattle.go_type_core.specs.table_core.Methods.{has_field_before};
 ghost use Rattle.go_type_core.specs.table_core.Shown.{member_shown};
 ghost use Rattle.go_embed_core.specs.Faults.{member_fault_if, same_place, first_field, first_method, first_place, is_shared, line_faults, term_faults, fields_faults, methods_faults, sign_faults, terms_faults, declared_faults, can_be_base};
 ghost use Rattle.go_embed_core.specs.mirrors.Passing.{SameNames, field_own, method_own, declared_own};
-ghost use Rattle.go_type_core.specs.settle_core.Settled.{can_be_pointed};
+ghost use Rattle.go_term_core.specs.settling.Settled.{can_be_pointed};
 
+use go_collections_core::text_core::{Name, Rule, add, is_blank};
+use go_path_core::ImportPath;
 use go_term_core::FieldLine;
-use go_term_core::text_core::{Name, Rule, add, is_blank};
-use go_type_core::path_core::ImportPath;
-use go_type_core::settle_core::SeenNames;
+use go_term_core::settling::SeenNames;
 use go_type_core::table_core::FieldTable;
 use go_type_core::{
     DeclaredMethod, Field, Kind, Kinds, MemberPlace, Method, Signature, TypeTerm, can_embed,

@@ -1,16 +1,16 @@
 //! The faults of fields that a method of their type stands before.
 ghost use Rattle.std.specs.Prelude.{◌≡◌, ◌∷◌, IfOk, List, OnOk, map};
 ghost use Rattle.std.specs.Str.{bytes_eq};
-ghost use Rattle.go_term_core.specs.text_core.Text.{is_blank};
+ghost use Rattle.go_collections_core.specs.text_core.Text.{is_blank};
 ghost use Rattle.go_term_core.specs.Shapes.{Line, fields_in};
-ghost use Rattle.go_type_core.specs.settle_core.Settled.{is_among_names};
+ghost use Rattle.go_term_core.specs.settling.Settled.{is_among_names};
 ghost use Rattle.go_type_core.specs.table_core.Shown.{member_shown};
 ghost use Rattle.go_embed_core.specs.Faults.{is_left_out, own_names, named_faults, hidden_faults};
 ghost use Rattle.go_embed_core.specs.mirrors.Passing.{SameNames, is_hiding, is_one_hiding, names_with};
 
 use crate::faults::{MemberFault, note_if};
-use go_term_core::text_core::{Rule, is_blank};
-use go_type_core::path_core::ImportPath;
+use go_collections_core::text_core::{Rule, is_blank};
+use go_path_core::ImportPath;
 use go_type_core::table_core::FieldTable;
 use go_type_core::{DeclaredMethod, Field, TypeTerm};
 use std::alloc::{AllocError, Global};

@@ -1,7 +1,7 @@
 //! The members of types that have many, by an index of their names.
 ghost use Rattle.std.specs.Prelude.{◌≡◌, ◌&&◌, is_some, map, option_map, slice_get};
 ghost use Rattle.go_term_core.specs.Shapes.{line_at, line_shapes, shape, sign_of};
-ghost use Rattle.go_index_core.specs.Spelled.{AreSpelled, places_of, spelled_in};
+ghost use Rattle.go_collections_core.specs.spelling_index.Spelled.{AreSpelled, places_of, spelled_in};
 ghost use Rattle.go_type_core.specs.table_core.Entries.{same_id};
 ghost use Rattle.go_type_core.specs.table_core.MemberNames.{term_names};
 ghost use Rattle.go_embed_core.specs.Owners.{AFieldOf, AMethodOf, AnInterfaces, term_found, nobody};
@@ -9,9 +9,9 @@ ghost use Rattle.go_embed_core.specs.mirrors.Places.{hit_found, place_found};
 ghost use Rattle.go_embed_core.specs.mirrors.Tallies.{hits_shown, tallies, tally_of, method_tally, field_tally, interface_tally};
 
 use crate::member::{Hits, Member, error_hit, is_same_id};
-use go_index_core::Spellings;
+use go_collections_core::spelling_index::Spellings;
+use go_path_core::ImportPath;
 use go_term_core::FieldLine;
-use go_type_core::path_core::ImportPath;
 use go_type_core::table_core::StructField;
 use go_type_core::{DeclaredMethod, Field, Method, TypeTerm};
 

@@ -21,35 +21,9 @@ pub use laws::{
 pub use member::{Hits, Member};
 pub use owner::{Embedded, Owner, embeds, has_own_method};
 
-/// What the crates above name of `go_decl_core`.
-pub mod decl_core {
-    pub use go_type_core::decl_core::{DeclForm, Places, TopDecl};
-}
-
-/// What the crates above name of `go_path_core`.
-pub mod path_core {
-    pub use go_type_core::path_core::ImportPath;
-}
-
-/// What the crates above name of `go_settle_core`.
-pub mod settle_core {
-    pub use go_type_core::settle_core::{
-        Kind, Kinds, SeenNames, kind_of, settle, settle_signature,
-    };
-}
-
-/// What the crates above name of `go_table_core`.
-pub mod table_core {
-    pub use go_type_core::table_core::{
-        DeclaredMethod, DefinedType, FieldTable, PackageTypes, StructField, TypeEntry, TypeTable,
-        identical_under, identical_under_but_for_tags, is_named_type,
-    };
-}
-
 /// What the crates above name of `go_type_core`.
 pub mod type_core {
     pub use go_type_core::{
-        Basic, Kind, Method, PackageTypes, Signature, TypeFault, TypeTable, TypeTerm, build_types,
-        has_same_signature, kind_of,
+        Basic, Kind, Method, Signature, TypeFault, TypeTable, TypeTerm, has_same_signature, kind_of,
     };
 }

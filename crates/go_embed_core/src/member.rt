@@ -2,7 +2,7 @@
 ghost use Rattle.std.specs.Prelude.{◌≡◌, ◌⊎◌, ◌↔◌, IsTrue, map};
 ghost use Rattle.std.specs.List.{list_any};
 ghost use Rattle.std.specs.Str.{bytes_eq, chars};
-ghost use Rattle.go_term_core.specs.text_core.Text.{exported};
+ghost use Rattle.go_collections_core.specs.text_core.Text.{exported};
 ghost use Rattle.go_term_core.specs.Terms.{ErrorType};
 ghost use Rattle.go_term_core.specs.Shapes.{line_shapes, shape};
 ghost use Rattle.go_type_core.specs.table_core.Entries.{same_id, has_method};
@@ -11,9 +11,9 @@ ghost use Rattle.go_embed_core.specs.Owners.{term_found, is_spelled_in, nobody};
 ghost use Rattle.go_embed_core.specs.OwnersShown.{name_shown, member_package_shown};
 ghost use Rattle.go_embed_core.specs.mirrors.Tallies.{together, hits_shown, tallies, tally_of, method_tally, field_tally, interface_tally};
 
+use go_collections_core::text_core::Name;
+use go_path_core::ImportPath;
 use go_term_core::FieldLine;
-use go_term_core::text_core::Name;
-use go_type_core::path_core::ImportPath;
 use go_type_core::table_core::StructField;
 use go_type_core::{DeclaredMethod, Field, Method, TypeTerm};
 
@@ -67,7 +67,7 @@ impl<'a> Member<'a> {
     pub fn is_visible(self, from: &ImportPath) -> bool
         ensures { IsTrue result ↔ (IsTrue (exported (chars (name_shown self.entry))) ⊎ (member_package_shown self.entry ≡ from.now)) }
     {
-        go_term_core::text_core::is_exported(self.name()) || self.package() == from.as_str()
+        go_collections_core::text_core::is_exported(self.name()) || self.package() == from.as_str()
     }
 }
 
@@ -92,7 +92,7 @@ impl<'a> Hits<'a> {
 pub(crate) fn is_same_id(a: &str, a_path: &ImportPath, b: &str, b_path: &ImportPath) -> bool
     ensures { result ≡ same_id a.now a_path.now b.now b_path.now }
 {
-    go_term_core::text_core::same_id(a, a_path.as_str(), b, b_path.as_str())
+    go_collections_core::text_core::same_id(a, a_path.as_str(), b, b_path.as_str())
 }
 
 /// Whether a method of a type has an identifier: `path` is that of the package of the type, and `from` that of the package where the
@@ -215,7 +215,7 @@ fn interface_hits<'a>(
 pub(crate) fn error_hit<'a>(name: &str, from: &ImportPath) -> Hits<'a>
     ensures { hits_shown result ≡ tallies (tally_of name.now from.now) (term_found nobody ErrorType) }
 {
-    if go_term_core::text_core::same_id("Error", "", name, from.as_str()) {
+    if go_collections_core::text_core::same_id("Error", "", name, from.as_str()) {
         Hits::One(Member::ErrorMethod)
     } else {
         Hits::Nothing

@@ -6,8 +6,8 @@ ghost use Rattle.go_embed_core.specs.Owners.{declared_found, methods_found};
 ghost use Rattle.go_embed_core.specs.OwnersShown.{named_shown};
 
 use crate::member::Member;
-use go_term_core::text_core::add;
-use go_type_core::path_core::ImportPath;
+use go_collections_core::text_core::add;
+use go_path_core::ImportPath;
 use go_type_core::{DeclaredMethod, Method};
 use std::alloc::AllocError;
 

@@ -15,10 +15,10 @@ use crate::member::{
     Hits, Member, has_method, is_method_spelled, is_spelled, method_hits, term_hits,
 };
 use crate::members::{add_interface, add_methods};
+use go_collections_core::text_core::add;
+use go_path_core::ImportPath;
 use go_term_core::FieldLine;
-use go_term_core::text_core::add;
-use go_type_core::decl_core::DeclKey;
-use go_type_core::path_core::ImportPath;
+use go_term_core::decl_core::DeclKey;
 use go_type_core::table_core::{StructField, StructFields};
 use go_type_core::{DeclaredMethod, DefinedType, Field, TypeTable, TypeTerm};
 use std::alloc::{AllocError, Global};

@@ -8,9 +8,9 @@ use Rattle.go_tree_core.specs.declared.occurrence.Role.TheVariants as roles
 use Rattle.go_tree_core.specs.declared.occurrence.Occ.{Occ}
 use Rattle.go_tree_core.specs.Laws.{AreWritten, NoneLeft, Passed, Written, IsKindOf, OccurrencesAreWritten}
 use Rattle.go_tree_core.specs.Occurrences.{file_occs}
-use Rattle.go_meaning_core.specs.expr_core.Laws.{use_place, occurrence_place}
-use Rattle.go_meaning_core.specs.body_core.Notes.{TheUse}
-use Rattle.go_meaning_core.specs.part_core.Laws.{PartHasOccurrences}
+use Rattle.go_expr_core.specs.Laws.{use_place, occurrence_place}
+use Rattle.go_package_core.specs.body_core.Notes.{TheUse}
+use Rattle.go_package_core.specs.package_part.Laws.{PartHasOccurrences}
 use Rattle.go_emit_core.specs.Laws.{BodiesAreBetweenBraces}
 use Rattle.go_emit_core.proofs.Between.{RiseFrom, cut_between, rises}
 

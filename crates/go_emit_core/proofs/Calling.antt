@@ -3,17 +3,17 @@ use Rattle.std.proofs.Common.{◌≡◌, ℕ, ◌+◌, ◌-◌, true, List, drop
 use Rattle.std.specs.List.{prefix_len}
 use Rattle.std.proofs.lemmas.List.Elements.{All-drop, All-take, All-weaker}
 use Rattle.std.proofs.lemmas.Option.{get_or_from_slice_get, slice_get_within}
-use Rattle.go_meaning_core.specs.denote_core.declared.things.Outcome.{Outcome}
-use Rattle.go_meaning_core.specs.denote_core.declared.things.Outcome.TheVariants as outcomes
-use Rattle.go_meaning_core.specs.handle_core.Declarations.{Declaration}
-use Rattle.go_meaning_core.specs.body_core.Notes.{TheUse}
-use Rattle.go_meaning_core.specs.used_core.Used.{is_declared}
-use Rattle.go_meaning_core.specs.part_core.Parts.{FileOf}
+use Rattle.go_expr_core.specs.denote_core.declared.things.Outcome.{Outcome}
+use Rattle.go_expr_core.specs.denote_core.declared.things.Outcome.TheVariants as outcomes
+use Rattle.go_declared_core.specs.handle_core.Declarations.{Declaration}
+use Rattle.go_package_core.specs.body_core.Notes.{TheUse}
+use Rattle.go_package_core.specs.report_core.UsageUsed.{is_declared}
+use Rattle.go_package_core.specs.package_part.Parts.{FileOf}
 use Rattle.go_emit_core.specs.Emitted.{body_first, body_uses, outcome_declarations, code_scene_over}
 use Rattle.go_emit_core.specs.Laws.{CallsNameTheirOwn, HasNoFault, declaration_of}
-use Rattle.go_meaning_core.specs.Looking.{locals_meant}
-use Rattle.go_meaning_core.specs.lookup_core.Looking.{place_or_zero}
-use Rattle.go_meaning_core.specs.Scenes.{outcome_meaning}
+use Rattle.go_emit_core.specs.meaning.Looking.{locals_meant}
+use Rattle.go_emit_core.specs.lookup.Looking.{place_or_zero}
+use Rattle.go_emit_core.specs.meaning.Scenes.{outcome_meaning}
 use Rattle.go_emit_core.proofs.Between.{placed}
 use Rattle.go_emit_core.proofs.Faultless.{objects_faultless}
 use Rattle.go_emit_core.proofs.Referring.{GivesOne, given_at, in_drop, in_take}

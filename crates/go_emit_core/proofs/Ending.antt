@@ -1,9 +1,9 @@
 -- Behind the end of the shorter of two lists nothing is left to be made of both.
 use Rattle.std.proofs.Common.{◌≡◌, ◌⊎◌, inl, inr, ℕ, ◌≤◌, List, [], ◌∷◌, length, map, drop, refl, ap, ◌∙◌, arith}
 use Rattle.std.proofs.lemmas.List.{drop_all}
-use Rattle.go_meaning_core.specs.entry_core.Outlines.{FileOutline}
-use Rattle.go_meaning_core.specs.part_core.Parts.{FileOf}
-use Rattle.go_meaning_core.specs.Scenes.{CodeScene}
+use Rattle.go_declared_core.specs.typexpr_core.EntryOutlines.{FileOutline}
+use Rattle.go_package_core.specs.package_part.Parts.{FileOf}
+use Rattle.go_emit_core.specs.meaning.Scenes.{CodeScene}
 use Rattle.go_emit_core.specs.mirrors.Listing.{outlines_functions}
 
 no_files : (s : CodeScene) (n : ℕ) (os : List FileOutline) → outlines_functions s n os [] ≡ []

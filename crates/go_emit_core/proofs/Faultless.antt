@@ -3,21 +3,21 @@ use Rattle.std.proofs.Common.{◌≡◌, ◌↔◌, ◌⊎◌, inl, inr, ℕ, su
 use Rattle.std.proofs.lemmas.Bool.{and_parts, and_from}
 use Rattle.std.proofs.lemmas.List.Elements.{All-nil, All-cons}
 use Rattle.go_tree_nodes.specs.Trees.{FileTree}
-use Rattle.go_needs_core.proofs.Edges.{none_inside}
-use Rattle.go_meaning_core.specs.denote_core.declared.things.Outcome.{Outcome}
-use Rattle.go_meaning_core.specs.denote_core.declared.things.Outcome.TheVariants as outcomes
-use Rattle.go_meaning_core.specs.handle_core.Declarations.{Declaration}
-use Rattle.go_local_core.specs.declared.Fault.{Fault}
-use Rattle.go_meaning_core.specs.summary_core.Summaries.{SummaryModel}
-use Rattle.go_meaning_core.specs.graph_core.Lists.{AllNumbered}
-use Rattle.go_meaning_core.specs.block_core.Blocks.{BlocksModel}
-use Rattle.go_meaning_core.specs.body_core.Notes.{TheUse}
-use Rattle.go_meaning_core.specs.package_core.Checked.{AnswersOf}
-use Rattle.go_meaning_core.specs.ready_core.Packages.{trees_in}
-use Rattle.go_meaning_core.specs.report_core.Faults.{IsSaid}
-use Rattle.go_meaning_core.specs.used_core.Used.{is_declared}
-use Rattle.go_meaning_core.specs.part_core.Inputs.{InputModel}
-use Rattle.go_meaning_core.specs.part_core.Parts.{ContentOf, FileOf, IsFileMadeIn, IsPart}
+use Rattle.go_digraph_core.proofs.NeedsEdges.{none_inside}
+use Rattle.go_expr_core.specs.denote_core.declared.things.Outcome.{Outcome}
+use Rattle.go_expr_core.specs.denote_core.declared.things.Outcome.TheVariants as outcomes
+use Rattle.go_declared_core.specs.handle_core.Declarations.{Declaration}
+use Rattle.go_expr_core.specs.local_core.declared.Fault.{Fault}
+use Rattle.go_package_core.specs.summary_core.Summaries.{SummaryModel}
+use Rattle.go_declared_core.specs.graph_core.Lists.{AllNumbered}
+use Rattle.go_declared_core.specs.block_core.Blocks.{BlocksModel}
+use Rattle.go_package_core.specs.body_core.Notes.{TheUse}
+use Rattle.go_package_core.specs.Checked.{AnswersOf}
+use Rattle.go_package_core.specs.prepare.Packages.{trees_in}
+use Rattle.go_package_core.specs.report_core.Faults.{IsSaid}
+use Rattle.go_package_core.specs.report_core.UsageUsed.{is_declared}
+use Rattle.go_package_core.specs.package_part.Inputs.{InputModel}
+use Rattle.go_package_core.specs.package_part.Parts.{ContentOf, FileOf, IsFileMadeIn, IsPart}
 use Rattle.go_object_core.specs.Objects.{ObjectOf}
 use Rattle.go_emit_core.specs.Emitted.{are_clean, nothing_reported, object_over, code_scene_over, whole_object}
 use Rattle.go_emit_core.specs.Laws.{HasNoFault, ObjectsAreOfFaultless}

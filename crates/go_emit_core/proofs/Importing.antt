@@ -2,11 +2,11 @@
 use Rattle.std.proofs.Common.{◌≡◌, ℕ, zero, suc, ◌<◌, Bool, true, false, if◌then◌else◌, List, [], ◌∷◌, Contains, Some, None, refl, sym, ap, subst, arith}
 use Rattle.std.specs.Prelude.{slice_index_or}
 use Rattle.std.specs.List.{flat_map}
-use Rattle.go_meaning_core.specs.graph_core.PlanEdges.{from_flat, in_flat}
-use Rattle.go_meaning_core.specs.block_core.declared.imports.Imported.{Imported}
-use Rattle.go_meaning_core.specs.block_core.declared.imports.Imported.TheVariants as imported
-use Rattle.go_meaning_core.specs.handle_core.Declarations.{Declaration}
-use Rattle.go_meaning_core.specs.part_core.Inputs.{InputModel}
+use Rattle.go_declared_core.specs.graph_core.PlanEdges.{from_flat, in_flat}
+use Rattle.go_declared_core.specs.block_core.declared.imports.Imported.{Imported}
+use Rattle.go_declared_core.specs.block_core.declared.imports.Imported.TheVariants as imported
+use Rattle.go_declared_core.specs.handle_core.Declarations.{Declaration}
+use Rattle.go_package_core.specs.package_part.Inputs.{InputModel}
 use Rattle.go_object_core.specs.Objects.{ObjectOf}
 use Rattle.go_emit_core.specs.Emitted.{are_clean, code_scene_over, whole_object}
 use Rattle.go_emit_core.specs.Imports.{all_passing, imported_paths}

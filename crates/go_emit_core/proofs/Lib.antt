@@ -11,3 +11,8 @@ mod Passing
 mod Referring
 mod Several
 mod Tabled
+mod LookupFilling
+mod LookupSpots
+mod MeaningEnding
+mod MeaningGiving
+mod MeaningOutlined

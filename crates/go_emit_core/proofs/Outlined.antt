@@ -1,16 +1,16 @@
 -- What is made of a package by the outlines of its files is what its trees give.
 use Rattle.std.proofs.Common.{◌≡◌, ℕ, suc, List, [], ◌∷◌, ◌++◌, map, refl, ap, ◌∙◌}
-use Rattle.go_meaning_core.specs.graph_core.Packages.{Trees, tree_shown, trees_of}
+use Rattle.go_declared_core.specs.graph_core.Packages.{Trees, tree_shown, trees_of}
 use Rattle.go_term_core.specs.decl_core.TopDecls.{top_decls}
-use Rattle.go_meaning_core.specs.entry_core.Outlines.{FileOutline, outline_of}
-use Rattle.go_meaning_core.specs.handle_core.Declarations.{Declaration}
+use Rattle.go_declared_core.specs.typexpr_core.EntryOutlines.{FileOutline, outline_of}
+use Rattle.go_declared_core.specs.handle_core.Declarations.{Declaration}
 use Rattle.go_object_core.specs.Objects.{ObjectOf}
-use Rattle.go_meaning_core.specs.ready_core.Packages.{trees_in}
-use Rattle.go_meaning_core.specs.part_core.Inputs.{InputModel, path_in}
-use Rattle.go_meaning_core.specs.part_core.Parts.{ContentOf, FileOf}
+use Rattle.go_package_core.specs.prepare.Packages.{trees_in}
+use Rattle.go_package_core.specs.package_part.Inputs.{InputModel, path_in}
+use Rattle.go_package_core.specs.package_part.Parts.{ContentOf, FileOf}
 use Rattle.go_emit_core.specs.Emitted.{file_functions, package_functions, whole_object}
 use Rattle.go_emit_core.specs.Imports.{all_passing}
-use Rattle.go_meaning_core.specs.Scenes.{CodeScene}
+use Rattle.go_emit_core.specs.meaning.Scenes.{CodeScene}
 use Rattle.go_emit_core.specs.mirrors.Listing.{outlines_functions}
 
 functions_outlined : (s : CodeScene) (n : ℕ) (ts : Trees) (fs : List FileOf) → outlines_functions s n (map (λ t. outline_of t.1) ts) fs ≡ package_functions s n (map tree_shown ts) fs

@@ -1,10 +1,10 @@
 -- What a package tells itself stands apart from what the packages tell that it reaches.
 use Rattle.std.proofs.Common.{◌≡◌, sym, ap, ◌∙◌}
 use Rattle.std.proofs.lemmas.List.Quantifiers.{all_pairs_push}
-use Rattle.go_meaning_core.specs.summary_core.Summaries.{SummaryModel, path_of}
-use Rattle.go_meaning_core.specs.summary_core.Views.{PathsAreApart}
-use Rattle.go_meaning_core.specs.part_core.Inputs.{InputModel, IsInput, path_in}
-use Rattle.go_meaning_core.specs.part_core.Parts.{ContentOf, IsPart}
+use Rattle.go_package_core.specs.summary_core.Summaries.{SummaryModel, path_of}
+use Rattle.go_package_core.specs.summary_core.Views.{PathsAreApart}
+use Rattle.go_package_core.specs.package_part.Inputs.{InputModel, IsInput, path_in}
+use Rattle.go_package_core.specs.package_part.Parts.{ContentOf, IsPart}
 use Rattle.go_emit_core.specs.Emitted.{told_to}
 
 own_path : (i : InputModel) (c : ContentOf) → IsPart i c → path_of c.summary ≡ path_in i

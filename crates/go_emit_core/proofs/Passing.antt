@@ -3,7 +3,7 @@ use Rattle.std.proofs.Common.{◌≡◌, ℕ, Bool, cond, ◌+◌, ◌-◌, ◌�
 use Rattle.std.specs.List.{prefix_len}
 use Rattle.std.proofs.lemmas.Bool.{le-ltb}
 use Rattle.std.proofs.lemmas.List.Sums.{prefix_len-le-length}
-use Rattle.go_meaning_core.specs.body_core.Notes.{TheUse}
+use Rattle.go_package_core.specs.body_core.Notes.{TheUse}
 use Rattle.go_emit_core.specs.Emitted.{uses_before}
 use Rattle.go_emit_core.proofs.Cutting.{counted_on, sooner}
 

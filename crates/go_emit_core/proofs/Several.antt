@@ -1,13 +1,13 @@
 -- The objects of parts are those of the parts of which nothing is reported.
 use Rattle.std.proofs.Common.{◌≡◌, ℕ, Bool, true, false, cond, if◌then◌else◌, List, [], ◌∷◌, ◌++◌, map, filter, Option, Some, None, refl, sym, ap, ap₂}
-use Rattle.go_meaning_core.specs.handle_core.Declarations.{Declaration}
-use Rattle.go_meaning_core.specs.summary_core.Summaries.{SummaryModel}
+use Rattle.go_declared_core.specs.handle_core.Declarations.{Declaration}
+use Rattle.go_package_core.specs.summary_core.Summaries.{SummaryModel}
 use Rattle.go_object_core.specs.Objects.{ObjectOf}
-use Rattle.go_meaning_core.specs.part_core.Inputs.{path_in}
-use Rattle.go_meaning_core.specs.part_core.Parts.{PartModel}
+use Rattle.go_package_core.specs.package_part.Inputs.{path_in}
+use Rattle.go_package_core.specs.package_part.Parts.{PartModel}
 use Rattle.go_emit_core.specs.Emitted.{object_over, objects_over, code_scene_over, told_by, whole_object}
 use Rattle.go_emit_core.specs.Laws.{ObjectsAreOfTheirParts, is_unreported}
-use Rattle.go_meaning_core.specs.part_core.Slots.{if_there}
+use Rattle.go_package_core.specs.package_part.Slots.{if_there}
 
 module _ (all : List SummaryModel) where
   abbrev object_at : PartModel → Option (ObjectOf Declaration)

@@ -1,19 +1,19 @@
 -- By the tables of what packages tell a package has the object, and parts have the objects, that they have over what these packages tell.
 use Rattle.std.proofs.Common.{◌≡◌, Bool, true, if◌then◌else◌, List, Some, None, sym, ap, ◌∙◌}
 use Rattle.std.specs.List.{flat_map}
-use Rattle.go_meaning_core.specs.handle_core.Declarations.{Declaration}
-use Rattle.go_meaning_core.specs.summary_core.Summaries.{SummaryModel}
-use Rattle.go_meaning_core.specs.summary_core.Views.{faces_told, types_told}
+use Rattle.go_declared_core.specs.handle_core.Declarations.{Declaration}
+use Rattle.go_package_core.specs.summary_core.Summaries.{SummaryModel}
+use Rattle.go_package_core.specs.summary_core.Views.{faces_told, types_told}
 use Rattle.go_object_core.specs.Objects.{ObjectOf}
-use Rattle.go_meaning_core.specs.ready_core.Packages.{trees_in}
-use Rattle.go_meaning_core.specs.part_core.Inputs.{InputModel, path_in}
-use Rattle.go_meaning_core.specs.part_core.Parts.{ContentOf, PartModel}
-use Rattle.go_meaning_core.specs.declared.tables.Tables.{Tables}
+use Rattle.go_package_core.specs.prepare.Packages.{trees_in}
+use Rattle.go_package_core.specs.package_part.Inputs.{InputModel, path_in}
+use Rattle.go_package_core.specs.package_part.Parts.{ContentOf, PartModel}
+use Rattle.go_emit_core.specs.declared.meaning.tables.Tables.{Tables}
 use Rattle.go_emit_core.specs.Emitted.{are_clean, object_in, object_of, objects_over, code_scene_over, told_to, whole_object}
-use Rattle.go_meaning_core.specs.Scenes.{methods_spotted, package_decl_refs}
-use Rattle.go_meaning_core.specs.mirrors.Naming.{scene_from, scene_with}
+use Rattle.go_emit_core.specs.meaning.Scenes.{methods_spotted, package_decl_refs}
+use Rattle.go_emit_core.specs.meaning.mirrors.Naming.{scene_from, scene_with}
 use Rattle.go_emit_core.specs.mirrors.Naming.{objects_with}
-use Rattle.go_meaning_core.specs.part_core.Slots.{if_there}
+use Rattle.go_package_core.specs.package_part.Slots.{if_there}
 
 -- these are the tables of what some packages tell
 module _ (t : Tables) (all : List SummaryModel) (types : t.types.now ≡ types_told all) (methods : t.methods ≡ methods_spotted (types_told all) (types_told all)) (faces : t.faces.now ≡ faces_told all) where

@@ -6,24 +6,24 @@ use Rattle.std.specs.List.{flat_map, prefix_len}
 use Rattle.go_tree_nodes.specs.Trees.{FileTree, FuncTree}
 use Rattle.go_term_core.specs.decl_core.TopDecls.{TopDeclTree, FormTree, ValueForm, TypeForm, FuncForm, top_decls}
 use Rattle.go_term_core.specs.declared.term.MemberPlace.TheVariants as places
-use Rattle.go_meaning_core.specs.denote_core.declared.things.Outcome.{Outcome}
-use Rattle.go_meaning_core.specs.denote_core.declared.things.Outcome.TheVariants as outcomes
-use Rattle.go_meaning_core.specs.handle_core.Declarations.{Declaration, InFile}
-use Rattle.go_local_core.specs.declared.Fault.{Fault}
-use Rattle.go_meaning_core.specs.body_core.Notes.{TheUse}
-use Rattle.go_meaning_core.specs.ready_core.Packages.{trees_in}
-use Rattle.go_meaning_core.specs.summary_core.Summaries.{SummaryModel}
-use Rattle.go_meaning_core.specs.summary_core.Views.{PathsAreApart, faces_told, types_told}
-use Rattle.go_meaning_core.specs.part_core.Inputs.{InputModel, path_in}
-use Rattle.go_meaning_core.specs.part_core.Parts.{ContentOf, FileOf, PartModel}
+use Rattle.go_expr_core.specs.denote_core.declared.things.Outcome.{Outcome}
+use Rattle.go_expr_core.specs.denote_core.declared.things.Outcome.TheVariants as outcomes
+use Rattle.go_declared_core.specs.handle_core.Declarations.{Declaration, InFile}
+use Rattle.go_expr_core.specs.local_core.declared.Fault.{Fault}
+use Rattle.go_package_core.specs.body_core.Notes.{TheUse}
+use Rattle.go_package_core.specs.prepare.Packages.{trees_in}
+use Rattle.go_package_core.specs.summary_core.Summaries.{SummaryModel}
+use Rattle.go_package_core.specs.summary_core.Views.{PathsAreApart, faces_told, types_told}
+use Rattle.go_package_core.specs.package_part.Inputs.{InputModel, path_in}
+use Rattle.go_package_core.specs.package_part.Parts.{ContentOf, FileOf, PartModel}
 use Rattle.go_code_core.specs.Code.{code_of}
-use Rattle.go_fragment_core.specs.Names.{CodeLooks}
-use Rattle.go_fragment_core.specs.Slots.{slots_of}
+use Rattle.go_code_core.specs.fragments.Names.{CodeLooks}
+use Rattle.go_code_core.specs.fragments.Slots.{slots_of}
 use Rattle.go_object_core.specs.Objects.{FunctionOf, ObjectOf}
 use Rattle.go_emit_core.specs.Imports.{all_passing}
-use Rattle.go_meaning_core.specs.Looking.{looks_of}
-use Rattle.go_meaning_core.specs.Scenes.{CodeScene, decl_at, package_decl_refs, scene_by}
-use Rattle.go_meaning_core.specs.part_core.Slots.{if_there}
+use Rattle.go_emit_core.specs.meaning.Looking.{looks_of}
+use Rattle.go_emit_core.specs.meaning.Scenes.{CodeScene, decl_at, package_decl_refs, scene_by}
+use Rattle.go_package_core.specs.package_part.Slots.{if_there}
 
 -- the scene
 

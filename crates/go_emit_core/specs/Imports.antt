@@ -1,8 +1,8 @@
 -- The packages that the imports of a package come to.
 use Rattle.std.specs.Prelude.{ℕ, List, [], ◌∷◌}
 use Rattle.std.specs.List.{flat_map}
-use Rattle.go_meaning_core.specs.block_core.declared.imports.Imported.{Imported}
-use Rattle.go_meaning_core.specs.block_core.declared.imports.Imported.TheVariants as imported
+use Rattle.go_declared_core.specs.block_core.declared.imports.Imported.{Imported}
+use Rattle.go_declared_core.specs.block_core.declared.imports.Imported.TheVariants as imported
 
 -- the package that an import comes to
 abbrev pub imported_paths : Imported → List (List ℕ)

@@ -2,20 +2,20 @@
 use Rattle.std.specs.Prelude.{◌≡◌, ◌↔◌, ◌<◌, ◌&&◌, ℕ, Bool, true, nat_le, nat_lt, List, [], ◌∷◌, Option, Some, None, is_some, slice_get, All, AllPairs, Contains, filter, map}
 use Rattle.go_tree_nodes.specs.Trees.{FileTree, FuncTree}
 use Rattle.go_tree_nodes.specs.Rules.{Wf_file}
-use Rattle.go_meaning_core.specs.denote_core.declared.things.Outcome.{Outcome}
-use Rattle.go_meaning_core.specs.denote_core.declared.things.Outcome.TheVariants as outcomes
-use Rattle.go_meaning_core.specs.handle_core.Declarations.{Declaration}
-use Rattle.go_meaning_core.specs.block_core.declared.imports.Imported.{Imported}
-use Rattle.go_meaning_core.specs.summary_core.Summaries.{SummaryModel}
-use Rattle.go_meaning_core.specs.body_core.Notes.{TheUse}
-use Rattle.go_meaning_core.specs.ready_core.Packages.{trees_in}
-use Rattle.go_meaning_core.specs.used_core.Used.{is_declared}
-use Rattle.go_meaning_core.specs.part_core.Inputs.{InputModel, IsInput, path_in}
-use Rattle.go_meaning_core.specs.part_core.Parts.{ContentOf, FileOf, IsPart, PartModel}
+use Rattle.go_expr_core.specs.denote_core.declared.things.Outcome.{Outcome}
+use Rattle.go_expr_core.specs.denote_core.declared.things.Outcome.TheVariants as outcomes
+use Rattle.go_declared_core.specs.handle_core.Declarations.{Declaration}
+use Rattle.go_declared_core.specs.block_core.declared.imports.Imported.{Imported}
+use Rattle.go_package_core.specs.summary_core.Summaries.{SummaryModel}
+use Rattle.go_package_core.specs.body_core.Notes.{TheUse}
+use Rattle.go_package_core.specs.prepare.Packages.{trees_in}
+use Rattle.go_package_core.specs.report_core.UsageUsed.{is_declared}
+use Rattle.go_package_core.specs.package_part.Inputs.{InputModel, IsInput, path_in}
+use Rattle.go_package_core.specs.package_part.Parts.{ContentOf, FileOf, IsPart, PartModel}
 use Rattle.go_object_core.specs.Objects.{ObjectOf}
 use Rattle.go_emit_core.specs.Emitted.{are_clean, body_first, body_uses, declarations_in, object_of, object_over, objects_of, code_scene_over, told_by}
 use Rattle.go_emit_core.specs.Imports.{imported_paths}
-use Rattle.go_meaning_core.specs.Looking.{looks_of}
+use Rattle.go_emit_core.specs.meaning.Looking.{looks_of}
 use Rattle.go_tree_nodes.specs.Spelling.{IsPlaced}
 
 -- nothing is wrong with a file: each of its occurrences has a declaration, and there is no fault beside

@@ -7,9 +7,9 @@
 --
 -- It is the file `a.go` of the package `ex.com/a`. Offsets count from the file's start; places that no code asks for are one `s`, whatever it is.
 use Rattle.std.specs.Prelude.{◌≡◌, ℕ, List, [], ◌∷◌, Option, Some, None, false, true, pos, codes, map}
-use Rattle.go_text_core.specs.declared.span.Span.{Span}
+use Rattle.go_constant_core.specs.text_core.declared.span.Span.{Span}
 use Rattle.go_tree_nodes.specs.Trees.{Binary, Call, FuncTree, Integer, Lines, NoItems, NoLines, NoParams, OneResult, ParamTrees, ResultTree, Signed}
-use Rattle.go_token_core.specs.declared.kind.Operator.TheVariants as operators
+use Rattle.go_tree_nodes.specs.token_core.declared.kind.Operator.TheVariants as operators
 use Rattle.go_universe_core.specs.declared.Predeclared.TheVariants as predeclared
 use Rattle.go_tree_core.specs.declared.occurrence.Role.{Role}
 use Rattle.go_tree_core.specs.declared.occurrence.Role.TheVariants as roles
@@ -18,19 +18,19 @@ use Rattle.go_term_core.specs.decl_core.TopDecls.{TopDeclTree, FuncForm}
 use Rattle.go_term_core.specs.declared.term.Basic.TheVariants as basics
 use Rattle.go_term_core.specs.declared.term.MemberPlace.TheVariants as places
 use Rattle.go_term_core.specs.Terms.{Term, Predeclared, Sign, SignOf, NoTerm, ATerm}
-use Rattle.go_meaning_core.specs.operand_core.declared.types.ValueType.TheVariants as value_types
-use Rattle.go_meaning_core.specs.denote_core.declared.things.Outcome.TheVariants as outcomes
-use Rattle.go_meaning_core.specs.handle_core.Declarations.{Declaration, Universe, InFile}
-use Rattle.go_meaning_core.specs.face_core.declared.face.Face.TheVariants as faces
-use Rattle.go_meaning_core.specs.face_core.Faces.{TheFace}
-use Rattle.go_meaning_core.specs.face_core.Packages.{PackageFacesModel}
-use Rattle.go_meaning_core.specs.body_core.Notes.{TheUse, TheLocal}
-use Rattle.go_instruction_core.specs.declared.instruction.Instruction.TheVariants as instructions
+use Rattle.go_expr_core.specs.operand_core.declared.types.ValueType.TheVariants as value_types
+use Rattle.go_expr_core.specs.denote_core.declared.things.Outcome.TheVariants as outcomes
+use Rattle.go_declared_core.specs.handle_core.Declarations.{Declaration, Universe, InFile}
+use Rattle.go_declared_core.specs.declared.face.Face.TheVariants as faces
+use Rattle.go_declared_core.specs.Faces.{TheFace}
+use Rattle.go_declared_core.specs.Packages.{PackageFacesModel}
+use Rattle.go_package_core.specs.body_core.Notes.{TheUse, TheLocal}
+use Rattle.go_object_core.specs.declared.instructions.instruction.Instruction.TheVariants as instructions
 use Rattle.go_code_core.specs.Samples.{argument, ident_at, int_written, line, name, paren, returns, two_params}
 use Rattle.go_object_core.specs.Objects.{FunctionOf}
 use Rattle.go_emit_core.specs.Emitted.{functions_of}
-use Rattle.go_meaning_core.specs.Looking.{looks_of}
-use Rattle.go_meaning_core.specs.Scenes.{CodeScene, decl_at, scene_by}
+use Rattle.go_emit_core.specs.meaning.Looking.{looks_of}
+use Rattle.go_emit_core.specs.meaning.Scenes.{CodeScene, decl_at, scene_by}
 
 abbrev pub path : List ℕ
 path = codes "ex.com/a"

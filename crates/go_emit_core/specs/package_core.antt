@@ -1,6 +1,16 @@
 -- What the crates above name of go_package_core.
-pub use Rattle.go_meaning_core.specs.package_core.Checked as Checked
-pub use Rattle.go_meaning_core.specs.package_core.Meanings as Meanings
-pub use Rattle.go_meaning_core.specs.package_core.Numbered as Numbered
-pub use Rattle.go_meaning_core.specs.package_core.Steps as Steps
-pub use Rattle.go_meaning_core.specs.package_core.contracts as contracts
+pub use Rattle.go_package_core.specs.Checked as Checked
+pub use Rattle.go_package_core.proofs.Meanings as Meanings
+pub use Rattle.go_package_core.specs.package_part.Inputs as PackagePartInputs
+pub use Rattle.go_package_core.specs.package_part.Laws as PackagePartLaws
+pub use Rattle.go_package_core.specs.package_part.Parts as PackagePartParts
+pub use Rattle.go_package_core.specs.package_part.Slots as PackagePartSlots
+pub use Rattle.go_package_core.specs.prepare.Inlines as PrepareInlines
+pub use Rattle.go_package_core.specs.prepare.Laws as PrepareLaws
+pub use Rattle.go_package_core.proofs.PrepareLists as PrepareLists
+pub use Rattle.go_package_core.proofs.PrepareMade as PrepareMade
+pub use Rattle.go_package_core.specs.prepare.Packages as PreparePackages
+pub use Rattle.go_package_core.proofs.PrepareTables as PrepareTables
+pub use Rattle.go_package_core.specs.prepare.Types as PrepareTypes
+pub use Rattle.go_package_core.specs.prepare.Values as PrepareValues
+pub use Rattle.go_package_core.proofs.PrepareValues as PrepareValuesProofs

@@ -1,12 +1,12 @@
 //! The packages that imports come to.
 ghost use Rattle.std.specs.Prelude.{◌≡◌, ◌++◌, IfOk, OnOk, map};
 ghost use Rattle.std.specs.List.{flat_map};
-ghost use Rattle.go_meaning_core.specs.block_core.Naming.{imported_in};
+ghost use Rattle.go_declared_core.specs.block_core.Naming.{imported_in};
 ghost use Rattle.go_emit_core.specs.Imports.{all_passing, imported_paths};
 
-use go_meaning_core::block_core::Imported;
-use go_path_core::ImportPath;
-use go_text_core::add;
+use go_constant_core::text_core::add;
+use go_declared_core::block_core::Imported;
+use go_table_core::path_core::ImportPath;
 use std::alloc::{AllocError, Global};
 
 // Adds the package that an import comes to.

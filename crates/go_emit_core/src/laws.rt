@@ -2,7 +2,7 @@
 ghost use Rattle.go_emit_core.specs.Laws.{BodiesAreBetweenBraces, CallsNameTheirOwn, ImportsPass, ObjectsAreOfFaultless, ObjectsAreOfTheirParts, OneObject};
 ghost use Rattle.go_emit_core.specs.Samples.{SampleIsEmitted};
 
-use go_meaning_core::part_core::{one_part, part_has_occurrences};
+use go_package_core::package_part::{one_part, part_has_occurrences};
 use go_tree_core::occurrences_are_written;
 
 /// There is an object of a package exactly where each occurrence of its files has a declaration and there is no fault beside, whatever packages tell.

@@ -8,6 +8,8 @@
 mod functions;
 mod imports;
 mod laws;
+pub mod lookup;
+pub mod meaning;
 mod object;
 mod tables;
 
@@ -17,65 +19,17 @@ pub use laws::{
 };
 pub use object::{emit, emit_all};
 
-/// What the crates above name of `go_answer_core`.
-pub mod answer_core {
-    pub use go_meaning_core::answer_core::{Answer, HeldLocal, Site};
-}
-
-/// What the crates above name of `go_block_core`.
-pub mod block_core {
-    pub use go_meaning_core::block_core::{Imported, import_specs};
-}
-
-/// What the crates above name of `go_denote_core`.
-pub mod denote_core {
-    pub use go_meaning_core::denote_core::Outcome;
-}
-
-/// What the crates above name of `go_face_core`.
-pub mod face_core {
-    pub use go_meaning_core::face_core::{Face, TypesHere};
-}
-
-/// What the crates above name of `go_graph_core`.
-pub mod graph_core {
-    pub use go_meaning_core::graph_core::{
-        ImportAt, ImportOutcome, Package, PackageSource, Plan, SourceFile, Workspace, assemble,
-        plan_imports,
-    };
-}
-
-/// What the crates above name of `go_operand_core`.
-pub mod operand_core {
-    pub use go_meaning_core::operand_core::{Operand, ValueType};
+/// What the crates above name of `go_declared_core`.
+pub mod declared_core {
+    pub use go_declared_core::positions_are_exact;
 }
 
 /// What the crates above name of `go_package_core`.
 pub mod package_core {
-    pub use go_meaning_core::package_core::FileAnswers;
-}
-
-/// What the crates above name of `go_part_core`.
-pub mod part_core {
-    pub use go_meaning_core::part_core::{
-        Part, PartFile, PartInput, Parts, compile_over, compile_part, compile_part_in, one_part,
-        part_has_occurrences, same_imports, types_of,
+    pub use go_package_core::FileAnswers;
+    pub use go_package_core::package_part::{
+        Part, PartFile, PartInput, Parts, compile_over, compile_part, one_part,
+        part_has_occurrences, same_imports,
     };
-}
-
-/// What the crates above name of `go_ready_core`.
-pub mod ready_core {
-    pub use go_meaning_core::ready_core::{PackageAt, package_aliases, package_outlines};
-}
-
-/// What the crates above name of `go_summary_core`.
-pub mod summary_core {
-    pub use go_meaning_core::summary_core::{
-        ReachedSummaries, Summary, SummaryList, View, import_view, view_of,
-    };
-}
-
-/// What the crates above name of `go_table_core`.
-pub mod table_core {
-    pub use go_meaning_core::table_core::{DefinedType, PackageTypes, StructField, TypeTable};
+    pub use go_package_core::prepare::{loops_are_faults, values_are_as_written};
 }

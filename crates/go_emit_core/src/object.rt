@@ -2,28 +2,28 @@
 ghost use Rattle.std.specs.Prelude.{◌≡◌, ◌++◌, [], IfOk, OnOk, map};
 ghost use Rattle.std.specs.List.{flat_map};
 ghost use Rattle.std.specs.Option.{option_map};
-ghost use Rattle.go_meaning_core.specs.entry_core.Outlines.{outline_of, outline_shown};
-ghost use Rattle.go_meaning_core.specs.summary_core.Views.{PathsAreApart, faces_told, types_told};
-ghost use Rattle.go_meaning_core.specs.graph_core.Packages.{trees_of};
+ghost use Rattle.go_declared_core.specs.typexpr_core.EntryOutlines.{outline_of, outline_shown};
+ghost use Rattle.go_package_core.specs.summary_core.Views.{PathsAreApart, faces_told, types_told};
+ghost use Rattle.go_declared_core.specs.graph_core.Packages.{trees_of};
 ghost use Rattle.go_object_core.specs.Objects.{function_shown, object_shown};
-ghost use Rattle.go_meaning_core.specs.part_core.Parts.{file_shown};
+ghost use Rattle.go_package_core.specs.package_part.Parts.{file_shown};
 ghost use Rattle.go_emit_core.specs.Emitted.{AreOfDifferentPackages, are_clean, code_scene_over, object_of, objects_of, told_by, told_to, whole_object};
 ghost use Rattle.go_emit_core.specs.mirrors.Listing.{outlines_functions};
-ghost use Rattle.go_meaning_core.specs.mirrors.Naming.{code_scene_shown, scene_with};
+ghost use Rattle.go_emit_core.specs.meaning.mirrors.Naming.{code_scene_shown, scene_with};
 ghost use Rattle.go_emit_core.specs.mirrors.Naming.{objects_with};
-ghost use Rattle.go_meaning_core.specs.part_core.Slots.{somes};
+ghost use Rattle.go_package_core.specs.package_part.Slots.{somes};
 
 use crate::functions::add_file;
 use crate::imports::passing_of;
+use crate::meaning::{PackageNames, Tables, names_of, shorter};
 use crate::tables::tables_of;
-use go_meaning_core::answer_core::Site;
-use go_meaning_core::entry_core::outlines;
-use go_meaning_core::part_core::{Part, PartFile};
-use go_meaning_core::summary_core::{Summary, View, view_of};
-use go_meaning_core::{PackageNames, Tables, names_of, shorter};
+use go_constant_core::text_core::add;
+use go_declared_core::typexpr_core::outlines;
 use go_object_core::{FunctionCode, Object};
+use go_package_core::package_part::{Part, PartFile};
+use go_package_core::report_core::Site;
+use go_package_core::summary_core::{Summary, View, view_of};
 use go_term_core::decl_core::Outline;
-use go_text_core::add;
 use std::alloc::{AllocError, Global};
 
 // Whether nothing is reported of any of these files.

@@ -1,10 +1,10 @@
 //! What the names of packages are looked up in, by what some packages tell.
 ghost use Rattle.std.specs.Prelude.{◌≡◌, IfOk};
-ghost use Rattle.go_meaning_core.specs.summary_core.Views.{faces_told, types_told};
-ghost use Rattle.go_meaning_core.specs.Scenes.{methods_spotted};
+ghost use Rattle.go_package_core.specs.summary_core.Views.{faces_told, types_told};
+ghost use Rattle.go_emit_core.specs.meaning.Scenes.{methods_spotted};
 
-use go_meaning_core::summary_core::{Summary, View};
-use go_meaning_core::{Tables, methods_of};
+use crate::meaning::{Tables, methods_of};
+use go_package_core::summary_core::{Summary, View};
 use std::alloc::{AllocError, Global};
 
 /// The tables of what some packages tell, by what is seen of these packages. The time that it takes is linear in what they tell, but for a logarithm.

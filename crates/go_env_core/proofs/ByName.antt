@@ -5,16 +5,16 @@ use Rattle.std.specs.Str.{bytes_eq}
 use Rattle.std.proofs.lemmas.Bool.{true≢false}
 use Rattle.std.proofs.lemmas.Slice.Eq.{bytes_eq-Decides}
 use Rattle.go_term_core.specs.Terms.{Term, Defined, StructOf, Fields, NoField, AField}
-use Rattle.go_index_core.specs.declared.spellings.Spelling.{Spelling}
-use Rattle.go_index_core.specs.Spelled.{joined, spelled_if, spelled_from, spelled, spelled_in, AreSpelled}
+use Rattle.go_collections_core.specs.declared.spelling_index.spellings.Spelling.{Spelling}
+use Rattle.go_collections_core.specs.spelling_index.Spelled.{joined, spelled_if, spelled_from, spelled, spelled_in, AreSpelled}
 use Rattle.go_term_core.specs.decl_core.declared.keys.DeclKey.{DeclKey}
-use Rattle.go_face_core.specs.table_core.Entries.{Entry, find_entry, methods_in, term_in}
-use Rattle.go_face_core.specs.table_core.MemberNames.{field_names, term_names}
-use Rattle.go_face_core.specs.table_core.Shown.{hides_some}
-use Rattle.go_face_core.specs.table_core.Tables.{IsPlaceOf}
-use Rattle.go_top_core.specs.literal_core.Marks.{name_number_from}
-use Rattle.go_face_core.specs.embed_core.Owners.{OwnerModel, nobody, owner_in}
-use Rattle.go_face_core.specs.embed_core.OwnersShown.{entry_owner}
+use Rattle.go_table_core.specs.Entries.{Entry, find_entry, methods_in, term_in}
+use Rattle.go_table_core.specs.MemberNames.{field_names, term_names}
+use Rattle.go_table_core.specs.Shown.{hides_some}
+use Rattle.go_table_core.specs.Tables.{IsPlaceOf}
+use Rattle.go_expr_core.specs.denote_core.CompositeMarks.{name_number_from}
+use Rattle.go_select_core.specs.embed_core.Owners.{OwnerModel, nobody, owner_in}
+use Rattle.go_select_core.specs.embed_core.OwnersShown.{entry_owner}
 use Rattle.go_env_core.specs.Scenes.{SceneModel}
 use Rattle.go_env_core.specs.Fields.{TheField, fields_seen, term_seen}
 use Rattle.go_env_core.proofs.Seeing.{none_kept}

@@ -4,8 +4,8 @@ use Rattle.std.proofs.lemmas.Bool.{true≢false}
 use Rattle.go_universe_core.specs.declared.Predeclared.{Predeclared}
 use Rattle.go_universe_core.specs.declared.Predeclared.TheVariants as universe
 use Rattle.go_universe_core.specs.Universe.{kind_of, spelling_of, usable}
-use Rattle.go_top_core.specs.denote_core.declared.things.Builtin.TheVariants as builtins
-use Rattle.go_top_core.specs.denote_core.declared.things.Found.TheVariants as founds
+use Rattle.go_expr_core.specs.denote_core.declared.things.Builtin.TheVariants as builtins
+use Rattle.go_expr_core.specs.denote_core.declared.things.Found.TheVariants as founds
 use Rattle.go_env_core.specs.Found.{found_universe}
 use Rattle.go_env_core.specs.Laws.{IsPredeclared, UniverseIsThis}
 

@@ -9,9 +9,9 @@ use Rattle.std.proofs.lemmas.List.Recursion.{is_count_by}
 use Rattle.go_term_core.specs.declared.term.Field.{Field}
 use Rattle.go_term_core.specs.Terms.{Term, NoType, Predeclared, ErrorType, Defined, PointerTo, StructOf, InterfaceOf, Fields, NoField, AField}
 use Rattle.go_term_core.specs.Shapes.{Line, fields_in}
-use Rattle.go_face_core.specs.table_core.Entries.{has_method}
-use Rattle.go_face_core.specs.table_core.Shown.{hides_field, hides_some}
-use Rattle.go_face_core.specs.embed_core.Owners.{OwnerModel, nobody}
+use Rattle.go_table_core.specs.Entries.{has_method}
+use Rattle.go_table_core.specs.Shown.{hides_field, hides_some}
+use Rattle.go_select_core.specs.embed_core.Owners.{OwnerModel, nobody}
 use Rattle.go_env_core.specs.Scenes.{SceneModel}
 use Rattle.go_env_core.specs.Fields.{TheField, field_seen, fields_seen, term_seen}
 use Rattle.go_env_core.specs.mirrors.Seen.{is_kept, listed_field, name_unless}

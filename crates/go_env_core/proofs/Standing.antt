@@ -4,28 +4,28 @@ use Rattle.std.specs.List.{flat_map}
 use Rattle.go_universe_core.specs.declared.Predeclared.{Predeclared as PredeclaredName}
 use Rattle.go_universe_core.specs.Universe.{found}
 use Rattle.go_term_core.specs.decl_core.declared.keys.DeclRef.{DeclRef}
-use Rattle.go_face_core.specs.block_core.declared.binding.Binding.{Binding}
-use Rattle.go_face_core.specs.block_core.declared.binding.Target.{Target}
-use Rattle.go_face_core.specs.block_core.declared.binding.Target.TheVariants as targets
-use Rattle.go_face_core.specs.block_core.Blocks.{BlocksModel, file_binding}
-use Rattle.go_open_core.specs.declared.DeclId.{DeclId}
-use Rattle.go_open_core.specs.Blocks.{in_block, found_in}
-use Rattle.go_open_core.proofs.Innermost.{found_innermost, innermost_found, found_none, none_found}
-use Rattle.go_face_core.specs.scope_core.Models.{ScopesModel}
-use Rattle.go_face_core.specs.scope_core.Scopes as scopes
-use Rattle.go_face_core.specs.scope_core.Scopes.{Denoted, scope_blocks}
-use Rattle.go_face_core.specs.scope_core.Laws.{denotes}
-use Rattle.go_face_core.specs.scope_core_lemmas.Lookups.{by_parts, in_scope}
+use Rattle.go_declared_core.specs.block_core.declared.binding.Binding.{Binding}
+use Rattle.go_declared_core.specs.block_core.declared.binding.Target.{Target}
+use Rattle.go_declared_core.specs.block_core.declared.binding.Target.TheVariants as targets
+use Rattle.go_declared_core.specs.block_core.Blocks.{BlocksModel, file_binding}
+use Rattle.go_expr_core.specs.scope_stack.declared.DeclId.{DeclId}
+use Rattle.go_expr_core.specs.scope_stack.Blocks.{in_block, found_in}
+use Rattle.go_expr_core.specs.scope_stack.Innermost.{found_innermost, innermost_found, found_none, none_found}
+use Rattle.go_inline_core.specs.scope_core.Models.{ScopesModel}
+use Rattle.go_inline_core.specs.scope_core.Scopes as scopes
+use Rattle.go_inline_core.specs.scope_core.Scopes.{Denoted, scope_blocks}
+use Rattle.go_inline_core.specs.scope_core.Laws.{denotes}
+use Rattle.go_inline_core.specs.scope_core.Lookups.{by_parts, in_scope}
 use Rattle.go_term_core.specs.declared.term.MemberPlace.TheVariants as places
 use Rattle.go_term_core.specs.Terms.{Term, NoType, Predeclared, ErrorType, Defined, PointerTo, StructOf, InterfaceOf, Fields, NoField, AField, Methods, NoMethod, AMethod}
-use Rattle.go_face_core.specs.table_core.Entries.{Member, find_entry, has_method}
-use Rattle.go_face_core.specs.embed_core.Owners.{OwnerModel, Named, AFieldOf, owner_in, fields_found, methods_found, declared_found, term_found}
-use Rattle.go_face_core.specs.handle_core.Declarations.{InFile}
-use Rattle.go_top_core.specs.denote_core.declared.things.Found.TheVariants as founds
-use Rattle.go_top_core.specs.names_core.declared.meaning.Outside.{Outside}
-use Rattle.go_top_core.specs.names_core.declared.meaning.Outside.TheVariants as outsides
-use Rattle.go_top_core.specs.names_core.Scope.{some_meaning}
-use Rattle.go_face_core.specs.Faces.{TheFace}
+use Rattle.go_table_core.specs.Entries.{Member, find_entry, has_method}
+use Rattle.go_select_core.specs.embed_core.Owners.{OwnerModel, Named, AFieldOf, owner_in, fields_found, methods_found, declared_found, term_found}
+use Rattle.go_declared_core.specs.handle_core.Declarations.{InFile}
+use Rattle.go_expr_core.specs.denote_core.declared.things.Found.TheVariants as founds
+use Rattle.go_inline_core.specs.names_core.declared.meaning.Outside.{Outside}
+use Rattle.go_inline_core.specs.names_core.declared.meaning.Outside.TheVariants as outsides
+use Rattle.go_inline_core.specs.names_core.Scope.{some_meaning}
+use Rattle.go_declared_core.specs.Faces.{TheFace}
 use Rattle.go_env_core.specs.declared.meaning.Meaning.{Meaning}
 use Rattle.go_env_core.specs.declared.meaning.Meaning.TheVariants as meanings
 use Rattle.go_env_core.specs.Scenes.{SceneModel}

@@ -4,15 +4,15 @@
 -- identifiers".
 use Rattle.std.specs.Prelude.{ℕ, Bool, ◌||◌, List, [], ◌∷◌, if◌then◌else◌}
 use Rattle.std.specs.Str.{bytes_eq, chars}
-use Rattle.go_text_core.specs.Text.{exported}
+use Rattle.go_collections_core.specs.text_core.Text.{exported}
 use Rattle.go_term_core.specs.declared.term.MemberPlace.{MemberPlace}
 use Rattle.go_term_core.specs.Terms.{Term, NoType, Predeclared, ErrorType, Defined, PointerTo, StructOf, InterfaceOf, Fields, NoField, AField}
-use Rattle.go_face_core.specs.table_core.Entries.{find_entry, has_method}
-use Rattle.go_face_core.specs.embed_core.Owners.{OwnerModel, owner_in}
-use Rattle.go_face_core.specs.decide_core.Rules.{typed}
-use Rattle.go_top_core.specs.literal_core.declared.things.LiteralField.{LiteralField}
-use Rattle.go_top_core.specs.literal_core.Look.{FieldOf, LiteralRules}
-use Rattle.go_face_core.specs.handle_core.Declarations.{Declaration, InFile}
+use Rattle.go_table_core.specs.Entries.{find_entry, has_method}
+use Rattle.go_select_core.specs.embed_core.Owners.{OwnerModel, owner_in}
+use Rattle.go_declared_core.specs.handle_core.DecidingRules.{typed}
+use Rattle.go_expr_core.specs.denote_core.declared.composite.things.LiteralField.{LiteralField}
+use Rattle.go_expr_core.specs.denote_core.CompositeLook.{FieldOf, LiteralRules}
+use Rattle.go_declared_core.specs.handle_core.Declarations.{Declaration, InFile}
 use Rattle.go_env_core.specs.Scenes.{SceneModel}
 
 abbrev pub TheField : Type 0

@@ -6,33 +6,33 @@ use Rattle.std.specs.Prelude.{ℕ, Bool, true, false, List, Option, Some, None, 
 use Rattle.go_universe_core.specs.declared.Predeclared.{Predeclared}
 use Rattle.go_universe_core.specs.declared.Predeclared.TheVariants as universe
 use Rattle.go_term_core.specs.decl_core.declared.keys.DeclRef.{DeclRef}
-use Rattle.go_face_core.specs.block_core.declared.binding.Binding.{Binding}
-use Rattle.go_face_core.specs.block_core.declared.binding.Target.{Target}
-use Rattle.go_face_core.specs.block_core.declared.binding.Target.TheVariants as targets
-use Rattle.go_face_core.specs.block_core.Blocks.{file_binding}
+use Rattle.go_declared_core.specs.block_core.declared.binding.Binding.{Binding}
+use Rattle.go_declared_core.specs.block_core.declared.binding.Target.{Target}
+use Rattle.go_declared_core.specs.block_core.declared.binding.Target.TheVariants as targets
+use Rattle.go_declared_core.specs.block_core.Blocks.{file_binding}
 use Rattle.go_term_core.specs.declared.term.MemberPlace.TheVariants as places
 use Rattle.go_term_core.specs.declared.term.Basic.TheVariants as basics
 use Rattle.go_term_core.specs.Terms.{Term, Predeclared as Basic, ErrorType, InterfaceOf, NoMethod, Sign}
 use Rattle.go_constant_core.specs.declared.values.Constant.{Constant}
 use Rattle.go_constant_core.specs.declared.values.Constant.TheVariants as constants
-use Rattle.go_face_core.specs.operand_core.declared.types.ValueType.{ValueType}
-use Rattle.go_face_core.specs.operand_core.declared.types.ValueType.TheVariants as value_types
-use Rattle.go_face_core.specs.operand_core.declared.types.Operand.{Operand}
-use Rattle.go_top_core.specs.denote_core.declared.things.Found.{Found}
-use Rattle.go_top_core.specs.denote_core.declared.things.Found.TheVariants as founds
-use Rattle.go_top_core.specs.denote_core.declared.things.Builtin.{Builtin}
-use Rattle.go_top_core.specs.denote_core.declared.things.Builtin.TheVariants as builtins
-use Rattle.go_top_core.specs.denote_core.declared.things.Exported.{Exported}
-use Rattle.go_top_core.specs.denote_core.declared.things.Exported.TheVariants as exporteds
-use Rattle.go_face_core.specs.handle_core.Declarations.{Declaration, Universe, OfError, Package, InFile}
-use Rattle.go_top_core.specs.names_core.declared.meaning.Outside.{Outside}
-use Rattle.go_top_core.specs.names_core.declared.meaning.Outside.TheVariants as outsides
-use Rattle.go_face_core.specs.declared.face.Face.TheVariants as faces
-use Rattle.go_face_core.specs.declared.shown.ShownFace.{ShownFace}
-use Rattle.go_face_core.specs.declared.shown.ShownFace.TheVariants as shown_faces
-use Rattle.go_face_core.specs.Faces.{TheFace}
-use Rattle.go_face_core.specs.Written.{position_of}
-use Rattle.go_face_core.specs.Packages.{face_in, exported_in}
+use Rattle.go_expr_core.specs.operand_core.declared.types.ValueType.{ValueType}
+use Rattle.go_expr_core.specs.operand_core.declared.types.ValueType.TheVariants as value_types
+use Rattle.go_expr_core.specs.operand_core.declared.types.Operand.{Operand}
+use Rattle.go_expr_core.specs.denote_core.declared.things.Found.{Found}
+use Rattle.go_expr_core.specs.denote_core.declared.things.Found.TheVariants as founds
+use Rattle.go_expr_core.specs.denote_core.declared.things.Builtin.{Builtin}
+use Rattle.go_expr_core.specs.denote_core.declared.things.Builtin.TheVariants as builtins
+use Rattle.go_expr_core.specs.denote_core.declared.things.Exported.{Exported}
+use Rattle.go_expr_core.specs.denote_core.declared.things.Exported.TheVariants as exporteds
+use Rattle.go_declared_core.specs.handle_core.Declarations.{Declaration, Universe, OfError, Package, InFile}
+use Rattle.go_inline_core.specs.names_core.declared.meaning.Outside.{Outside}
+use Rattle.go_inline_core.specs.names_core.declared.meaning.Outside.TheVariants as outsides
+use Rattle.go_declared_core.specs.declared.face.Face.TheVariants as faces
+use Rattle.go_declared_core.specs.declared.shown.ShownFace.{ShownFace}
+use Rattle.go_declared_core.specs.declared.shown.ShownFace.TheVariants as shown_faces
+use Rattle.go_declared_core.specs.Faces.{TheFace}
+use Rattle.go_declared_core.specs.Written.{position_of}
+use Rattle.go_declared_core.specs.Packages.{face_in, exported_in}
 use Rattle.go_env_core.specs.declared.meaning.Meaning.{Meaning}
 use Rattle.go_env_core.specs.declared.meaning.Meaning.TheVariants as meanings
 use Rattle.go_env_core.specs.Scenes.{SceneModel}

@@ -9,29 +9,29 @@ use Rattle.go_universe_core.specs.declared.Predeclared.{Predeclared}
 use Rattle.go_universe_core.specs.declared.PredeclaredKind.{PredeclaredKind}
 use Rattle.go_universe_core.specs.declared.PredeclaredKind.TheVariants as kinds
 use Rattle.go_universe_core.specs.Universe.{kind_of, spelling_of, usable}
-use Rattle.go_face_core.specs.block_core.declared.binding.Binding.{Binding}
-use Rattle.go_face_core.specs.block_core.declared.binding.Target.{Target}
-use Rattle.go_face_core.specs.block_core.declared.binding.Target.TheVariants as targets
-use Rattle.go_face_core.specs.block_core.Blocks.{file_binding}
-use Rattle.go_open_core.specs.Blocks.{NoneHas, IsInnermost}
-use Rattle.go_face_core.specs.scope_core.Models.{ScopesModel}
-use Rattle.go_face_core.specs.scope_core.Scopes as scopes
-use Rattle.go_face_core.specs.scope_core.Scopes.{Denoted, scope_blocks}
+use Rattle.go_declared_core.specs.block_core.declared.binding.Binding.{Binding}
+use Rattle.go_declared_core.specs.block_core.declared.binding.Target.{Target}
+use Rattle.go_declared_core.specs.block_core.declared.binding.Target.TheVariants as targets
+use Rattle.go_declared_core.specs.block_core.Blocks.{file_binding}
+use Rattle.go_expr_core.specs.scope_stack.Blocks.{NoneHas, IsInnermost}
+use Rattle.go_inline_core.specs.scope_core.Models.{ScopesModel}
+use Rattle.go_inline_core.specs.scope_core.Scopes as scopes
+use Rattle.go_inline_core.specs.scope_core.Scopes.{Denoted, scope_blocks}
 use Rattle.go_term_core.specs.Terms.{Term}
-use Rattle.go_face_core.specs.table_core.Entries.{find_entry}
-use Rattle.go_face_core.specs.embed_core.Owners as owners
-use Rattle.go_face_core.specs.embed_core.Owners.{AFieldOf, AMethodOf, AnInterfaces, TheErrorMethod, members_of, owner_in}
-use Rattle.go_face_core.specs.entry_core.Meanings.{type_of_predeclared}
-use Rattle.go_top_core.specs.denote_core.declared.things.Builtin.{Builtin}
-use Rattle.go_top_core.specs.denote_core.declared.things.Builtin.TheVariants as builtins
-use Rattle.go_top_core.specs.denote_core.declared.things.Found.TheVariants as founds
-use Rattle.go_face_core.specs.operand_core.declared.types.ValueType.TheVariants as value_types
-use Rattle.go_face_core.specs.handle_core.Declarations.{Package}
-use Rattle.go_top_core.specs.names_core.declared.meaning.Outside.{Outside}
-use Rattle.go_top_core.specs.names_core.declared.meaning.Outside.TheVariants as outsides
-use Rattle.go_top_core.specs.names_core.Scope.{look_in_scope}
-use Rattle.go_face_core.specs.Faces.{TheFace}
-use Rattle.go_face_core.specs.Packages.{face_in, exported_in}
+use Rattle.go_table_core.specs.Entries.{find_entry}
+use Rattle.go_select_core.specs.embed_core.Owners as owners
+use Rattle.go_select_core.specs.embed_core.Owners.{AFieldOf, AMethodOf, AnInterfaces, TheErrorMethod, members_of, owner_in}
+use Rattle.go_declared_core.specs.typexpr_core.EntryMeanings.{type_of_predeclared}
+use Rattle.go_expr_core.specs.denote_core.declared.things.Builtin.{Builtin}
+use Rattle.go_expr_core.specs.denote_core.declared.things.Builtin.TheVariants as builtins
+use Rattle.go_expr_core.specs.denote_core.declared.things.Found.TheVariants as founds
+use Rattle.go_expr_core.specs.operand_core.declared.types.ValueType.TheVariants as value_types
+use Rattle.go_declared_core.specs.handle_core.Declarations.{Package}
+use Rattle.go_inline_core.specs.names_core.declared.meaning.Outside.{Outside}
+use Rattle.go_inline_core.specs.names_core.declared.meaning.Outside.TheVariants as outsides
+use Rattle.go_inline_core.specs.names_core.Scope.{look_in_scope}
+use Rattle.go_declared_core.specs.Faces.{TheFace}
+use Rattle.go_declared_core.specs.Packages.{face_in, exported_in}
 use Rattle.go_env_core.specs.declared.meaning.Meaning.{Meaning}
 use Rattle.go_env_core.specs.declared.meaning.Meaning.TheVariants as meanings
 use Rattle.go_env_core.specs.Scenes.{SceneModel}

@@ -1,20 +1,20 @@
 -- All that an expression is judged by at a place of a package, by what names mean where they stand.
 use Rattle.std.specs.Prelude.{◌≡◌, ℕ, List, [], Option, Some, None}
 use Rattle.go_term_core.specs.Terms.{Term, Sign}
-use Rattle.go_face_core.specs.table_core.Entries.{Entry, find_entry}
-use Rattle.go_face_core.specs.operand_core.TypeRules.{TypeRules}
-use Rattle.go_face_core.specs.decide_core.Rules.{term_rules, param_types_of, results_of, typed}
-use Rattle.go_top_core.specs.denote_core.Look.{NameRules}
-use Rattle.go_face_core.specs.handle_core.Declarations.{Declaration}
-use Rattle.go_face_core.specs.handle_core.Names.{selection_in}
-use Rattle.go_top_core.specs.local_core.declared.Fault.{Fault}
-use Rattle.go_top_core.specs.local_core.Binding.{NameLook}
-use Rattle.go_top_core.specs.literal_core.Look.{LiteralRules}
-use Rattle.go_top_core.specs.expr_core.Looks.{Looks, WrittenRules, everywhere}
+use Rattle.go_table_core.specs.Entries.{Entry, find_entry}
+use Rattle.go_expr_core.specs.operand_core.TypeRules.{TypeRules}
+use Rattle.go_declared_core.specs.handle_core.DecidingRules.{term_rules, param_types_of, results_of, typed}
+use Rattle.go_expr_core.specs.denote_core.Look.{NameRules}
+use Rattle.go_declared_core.specs.handle_core.Declarations.{Declaration}
+use Rattle.go_declared_core.specs.handle_core.Names.{selection_in}
+use Rattle.go_expr_core.specs.local_core.declared.Fault.{Fault}
+use Rattle.go_expr_core.specs.local_core.Binding.{NameLook}
+use Rattle.go_expr_core.specs.denote_core.CompositeLook.{LiteralRules}
+use Rattle.go_expr_core.specs.Looks.{Looks, WrittenRules, everywhere}
 use Rattle.go_tree_nodes.specs.Starts.{type_start}
-use Rattle.go_top_core.specs.inline_core.Types.{InlineOf, inline_at}
-use Rattle.go_face_core.specs.Faces.{TheFace}
-use Rattle.go_top_core.specs.names_core.Scope.{open_look}
+use Rattle.go_inline_core.specs.Types.{InlineOf, inline_at}
+use Rattle.go_declared_core.specs.Faces.{TheFace}
+use Rattle.go_inline_core.specs.names_core.Scope.{open_look}
 use Rattle.go_env_core.specs.declared.here.Here.{Here}
 use Rattle.go_env_core.specs.declared.meaning.Meaning.{Meaning}
 use Rattle.go_env_core.specs.declared.meaning.Meaning.TheVariants as meanings

@@ -1,8 +1,8 @@
 -- What is decided of two types of a table.
 use Rattle.std.specs.Prelude.{Bool, List, []}
 use Rattle.go_term_core.specs.Terms.{Term}
-use Rattle.go_face_core.specs.table_core.Entries.{Entry}
-use Rattle.go_face_core.specs.decide_core.Rules.{term_rules}
+use Rattle.go_table_core.specs.Entries.{Entry}
+use Rattle.go_declared_core.specs.handle_core.DecidingRules.{term_rules}
 
 -- whether a value of the first is assignable to a variable of the second
 abbrev pub assignable_in : List Entry → Term → Term → Bool

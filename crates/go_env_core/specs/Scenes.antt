@@ -1,9 +1,9 @@
 -- What is known of a package where its expressions are judged.
 use Rattle.std.specs.Prelude.{ℕ, List}
-use Rattle.go_face_core.specs.block_core.Blocks.{BlocksModel}
-use Rattle.go_face_core.specs.table_core.Entries.{Entry}
-use Rattle.go_face_core.specs.Packages.{PackageFacesModel}
-use Rattle.go_face_core.specs.Written.{WrittenOf}
+use Rattle.go_declared_core.specs.block_core.Blocks.{BlocksModel}
+use Rattle.go_table_core.specs.Entries.{Entry}
+use Rattle.go_declared_core.specs.Packages.{PackageFacesModel}
+use Rattle.go_declared_core.specs.Written.{WrittenOf}
 use Rattle.go_env_core.specs.declared.scene.Scene.{Scene}
 
 pub record SceneModel : Type 0 where

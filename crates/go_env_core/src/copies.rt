@@ -1,9 +1,9 @@
 //! Handles once more.
 ghost use Rattle.std.specs.Prelude.{◌≡◌, IfOk};
 
-use go_face_core::Face;
-use go_face_core::handle_core::{SignatureRef, TypeRef};
-use go_face_core::operand_core::{Operand, ValueType};
+use go_declared_core::Face;
+use go_declared_core::handle_core::{SignatureRef, TypeRef};
+use go_expr_core::operand_core::{Operand, ValueType};
 use std::alloc::AllocError;
 
 // The type of a value once more.

@@ -1,17 +1,17 @@
 //! The fields of struct types that have many, by an index of their names.
 ghost use Rattle.std.specs.Prelude.{◌≡◌, IfSome, map, option_map};
 ghost use Rattle.go_term_core.specs.Shapes.{shape};
-ghost use Rattle.go_index_core.specs.Spelled.{AreSpelled, places_of, spelled_in};
-ghost use Rattle.go_face_core.specs.table_core.Entries.{find_entry};
-ghost use Rattle.go_face_core.specs.embed_core.Owners.{owner_in};
-ghost use Rattle.go_face_core.specs.embed_core.OwnersShown.{entry_owner};
+ghost use Rattle.go_collections_core.specs.spelling_index.Spelled.{AreSpelled, places_of, spelled_in};
+ghost use Rattle.go_table_core.specs.Entries.{find_entry};
+ghost use Rattle.go_select_core.specs.embed_core.Owners.{owner_in};
+ghost use Rattle.go_select_core.specs.embed_core.OwnersShown.{entry_owner};
 ghost use Rattle.go_env_core.specs.Scenes.{SceneModel, scene_shown};
 ghost use Rattle.go_env_core.specs.Fields.{literals_in, owner_seen};
 
 use crate::scene::Scene;
-use go_face_core::handle_core::TypeRef;
-use go_face_core::table_core::{DefinedType, TypeTable};
-use go_index_core::Spellings;
+use go_collections_core::spelling_index::Spellings;
+use go_declared_core::handle_core::TypeRef;
+use go_table_core::{DefinedType, TypeTable};
 use go_term_core::TypeTerm;
 
 // An index of the names of the fields of a defined type, where they are many and none is kept from it.

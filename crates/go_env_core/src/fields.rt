@@ -2,23 +2,23 @@
 ghost use Rattle.std.specs.Prelude.{◌≡◌, ◌<◌, ◌++◌, IfOk, List, OnOk, Some, length, map, not, option_map, slice_get};
 ghost use Rattle.std.specs.List.{count_by};
 ghost use Rattle.go_term_core.specs.Shapes.{Line, fields_in, line_shapes, shape};
-ghost use Rattle.go_face_core.specs.table_core.Entries.{find_entry};
-ghost use Rattle.go_face_core.specs.embed_core.Owners.{owner_in};
-ghost use Rattle.go_face_core.specs.embed_core.OwnersShown.{entry_owner};
+ghost use Rattle.go_table_core.specs.Entries.{find_entry};
+ghost use Rattle.go_select_core.specs.embed_core.Owners.{owner_in};
+ghost use Rattle.go_select_core.specs.embed_core.OwnersShown.{entry_owner};
 ghost use Rattle.go_env_core.specs.Scenes.{SceneModel, scene_shown};
 ghost use Rattle.go_env_core.specs.Fields.{fields_seen, is_visible, literals_in, owner_seen, term_seen};
-ghost use Rattle.go_top_core.specs.literal_core.Marks.{field_number};
+ghost use Rattle.go_expr_core.specs.denote_core.CompositeMarks.{field_number};
 ghost use Rattle.go_env_core.specs.mirrors.Seen.{hider_shown, is_kept, listed_field, name_unless, seen_shown, some_seen};
 
 use crate::field_index::{field_index, first_place};
 use crate::scene::Scene;
-use go_face_core::embed_core::has_own_method;
-use go_face_core::handle_core::{Decl, DeclSite, TypeRef, typed};
-use go_face_core::table_core::{DefinedType, StructField, TypeTable};
-use go_path_core::ImportPath;
+use go_collections_core::text_core::is_exported;
+use go_declared_core::handle_core::{Decl, DeclSite, TypeRef, typed};
+use go_expr_core::denote_core::{LiteralField, first_named};
+use go_select_core::embed_core::has_own_method;
+use go_table_core::path_core::ImportPath;
+use go_table_core::{DefinedType, StructField, TypeTable};
 use go_term_core::{Field, FieldLine, TypeTerm};
-use go_text_core::is_exported;
-use go_top_core::literal_core::{LiteralField, first_named};
 use std::alloc::{AllocError, Global};
 
 /// The fields of a struct type, as a type that lies over it has them.

@@ -1,8 +1,8 @@
 //! What names stand for, by what they mean.
 ghost use Rattle.std.specs.Prelude.{◌≡◌, IfOk, option_copied};
 ghost use Rattle.go_term_core.specs.declared.term.MemberPlace.TheVariants as places;
-ghost use Rattle.go_face_core.specs.handle_core.Declarations.{InFile};
-ghost use Rattle.go_face_core.specs.Packages.{exported_in, face_in};
+ghost use Rattle.go_declared_core.specs.handle_core.Declarations.{InFile};
+ghost use Rattle.go_declared_core.specs.Packages.{exported_in, face_in};
 ghost use Rattle.go_env_core.specs.Scenes.{scene_shown};
 ghost use Rattle.go_env_core.specs.Found.{exported_face, exported_shown, face_at, found_binding, found_bool, found_builtin, found_exported, found_face, found_local, found_of, found_outside, found_own, found_target, found_type, found_universe, found_value};
 
@@ -10,14 +10,14 @@ use crate::copies::face_again;
 use crate::meaning::Meaning;
 use crate::scene::Scene;
 use go_constant_core::Constant;
-use go_face_core::block_core::{Binding, DeclRef, Target};
-use go_face_core::handle_core::{Decl, DeclSite, Home, SignatureRef, TypeRef};
-use go_face_core::operand_core::{Operand, ValueType};
-use go_face_core::{Face, FaceTable, ShownFace};
-use go_path_core::ImportPath;
+use go_declared_core::block_core::{Binding, DeclRef, Target};
+use go_declared_core::handle_core::{Decl, DeclSite, Home, SignatureRef, TypeRef};
+use go_declared_core::{Face, FaceTable, ShownFace};
+use go_expr_core::denote_core::{Builtin, Exported, Found};
+use go_expr_core::operand_core::{Operand, ValueType};
+use go_inline_core::names_core::Outside;
+use go_table_core::path_core::ImportPath;
 use go_term_core::{LocalPlace, MemberPlace};
-use go_top_core::denote_core::{Builtin, Exported, Found};
-use go_top_core::names_core::Outside;
 use go_universe_core::Predeclared;
 use std::alloc::AllocError;
 

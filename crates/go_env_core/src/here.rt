@@ -1,6 +1,6 @@
 //! A place of a package.
 ghost use Rattle.std.specs.Prelude.{◌≡◌, ◌++◌, OnOk, option_map};
-ghost use Rattle.go_top_core.specs.inline_core.Types.{inline_shown};
+ghost use Rattle.go_inline_core.specs.Types.{inline_shown};
 ghost use Rattle.go_env_core.specs.Looks.{inline_faults, inline_type};
 
 use crate::field_index::field_index;
@@ -8,19 +8,18 @@ use crate::fields::{field_at, field_count, field_names, field_number, seen_field
 use crate::found::{found_exported, found_of};
 use crate::meaning::Meaning;
 use crate::scene::Scene;
-use go_face_core::Face;
-use go_face_core::handle_core::{
+use go_declared_core::Face;
+use go_declared_core::handle_core::{
     Decl, SignatureRef, TypeRef, is_assignable, is_convertible, is_identical, selection, typed,
 };
-use go_face_core::operand_core::{TypeForm, TypeLooks};
-use go_face_core::select_core::EmbedPath;
-use go_face_core::table_core::TypeTable;
-use go_top_core::denote_core::{Exported, Found, Names, Selection};
-use go_top_core::expr_core::Exprs;
-use go_top_core::inline_core::{InlineType, InlineTypes};
-use go_top_core::literal_core::{LiteralField, Literals};
-use go_top_core::local_core::Fault;
-use go_top_core::names_core::OpenNames;
+use go_expr_core::Exprs;
+use go_expr_core::denote_core::{Exported, Found, LiteralField, Literals, Names, Selection};
+use go_expr_core::local_core::Fault;
+use go_expr_core::operand_core::{TypeForm, TypeLooks};
+use go_inline_core::names_core::OpenNames;
+use go_inline_core::{InlineType, InlineTypes};
+use go_select_core::EmbedPath;
+use go_table_core::TypeTable;
 use go_tree_nodes::{TypeExpr, type_start};
 use std::alloc::{AllocError, Global};
 

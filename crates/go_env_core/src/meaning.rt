@@ -3,10 +3,10 @@ ghost use Rattle.std.specs.Prelude.{◌≡◌, [], IfOk};
 
 use crate::copies::value_again;
 use crate::scene::Scene;
-use go_face_core::handle_core::TypeRef;
-use go_face_core::operand_core::Operand;
-use go_face_core::scope_core::Scopes;
-use go_top_core::names_core::{Meant, OpenNames, Outside};
+use go_declared_core::handle_core::TypeRef;
+use go_expr_core::operand_core::Operand;
+use go_inline_core::names_core::{Meant, OpenNames, Outside};
+use go_inline_core::scope_core::Scopes;
 use std::alloc::AllocError;
 
 /// What a name means at a place.

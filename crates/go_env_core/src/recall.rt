@@ -2,20 +2,20 @@
 ghost use Rattle.std.specs.Bool.{OnTrue};
 ghost use Rattle.std.specs.Prelude.{◌≡◌, IfSome};
 ghost use Rattle.go_term_core.specs.Shapes.{shape};
-ghost use Rattle.go_level_core.specs.Selectors.{IsSelectorAnswer};
-ghost use Rattle.go_face_core.specs.table_core.Entries.{find_entry};
-ghost use Rattle.go_face_core.specs.handle_core.Stars.{starred};
+ghost use Rattle.go_select_core.specs.levels.Selectors.{IsSelectorAnswer};
+ghost use Rattle.go_table_core.specs.Entries.{find_entry};
+ghost use Rattle.go_declared_core.specs.handle_core.Stars.{starred};
 ghost use Rattle.go_env_core.specs.Recalled.{assignable_in, convertible_in};
 
 use crate::surveys::{AskedTypes, cost_of};
 use crate::ways::place_of;
-use go_face_core::handle_core::{Decl, SignatureRef, TypeParts, TypeRef};
-use go_face_core::select_core::{EmbedPath, Selected};
-use go_face_core::table_core::TypeTable;
-use go_path_core::ImportPath;
+use go_collections_core::text_core::Rule;
+use go_declared_core::handle_core::{Decl, SignatureRef, TypeParts, TypeRef};
+use go_expr_core::denote_core::Selection;
+use go_select_core::{EmbedPath, Selected};
+use go_table_core::TypeTable;
+use go_table_core::path_core::ImportPath;
 use go_term_core::TypeTerm;
-use go_text_core::Rule;
-use go_top_core::denote_core::Selection;
 use std::alloc::Global;
 use std::collections::HashMap;
 use std::marker::{Brand, PhantomData};
@@ -24,7 +24,7 @@ use std::sync::Mutex;
 /// Which table of types it is. A caller with a table picks it.
 pub trait TypesOf {
     ghost use Rattle.std.specs.Prelude.{List};
-    ghost use Rattle.go_face_core.specs.table_core.Entries.{Entry};
+    ghost use Rattle.go_table_core.specs.Entries.{Entry};
 
     ghost types: { List Entry };
 }
@@ -209,7 +209,7 @@ impl<'p, K: TypesOf> Recall<'p, K> {
         }
     }
 
-    /// What a name selects behind an operand of a type, as [`select`](go_face_core::select_core::select) answers it in the package `from`, where
+    /// What a name selects behind an operand of a type, as [`select`](go_select_core::select) answers it in the package `from`, where
     /// that is known of the type, or of one that embeds the same type alone. It takes constant expected time beside that of the path.
     pub fn select(
         &self,

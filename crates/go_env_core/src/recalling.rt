@@ -1,18 +1,17 @@
 //! A place of a package, where what was decided of its types is remembered.
 ghost use Rattle.std.specs.Prelude.{◌≡◌};
 ghost use Rattle.std.specs.Coded.{Coded-set, coded_list};
-ghost use Rattle.go_face_core.specs.table_core.codes.EntryCodes.{coded_entry};
+ghost use Rattle.go_table_core.specs.codes.EntryCodes.{coded_entry};
 
 use crate::here::Here;
 use crate::meaning::Meaning;
 use crate::recall::{Recall, TypesOf};
-use go_face_core::handle_core::{Decl, SignatureRef, TypeRef, chosen};
-use go_face_core::operand_core::{TypeForm, TypeLooks};
-use go_face_core::select_core::EmbedPath;
-use go_top_core::denote_core::{Exported, Found, Names, Selection};
-use go_top_core::expr_core::Exprs;
-use go_top_core::literal_core::{LiteralField, Literals};
-use go_top_core::local_core::Fault;
+use go_declared_core::handle_core::{Decl, SignatureRef, TypeRef, chosen};
+use go_expr_core::Exprs;
+use go_expr_core::denote_core::{Exported, Found, LiteralField, Literals, Names, Selection};
+use go_expr_core::local_core::Fault;
+use go_expr_core::operand_core::{TypeForm, TypeLooks};
+use go_select_core::EmbedPath;
 use go_tree_nodes::TypeExpr;
 use std::alloc::{AllocError, Global};
 

@@ -1,8 +1,8 @@
 //! What is known of a package where its expressions are judged.
-use go_face_core::block_core::Blocks;
-use go_face_core::handle_core::Home;
-use go_face_core::table_core::TypeTable;
-use go_face_core::{FaceTable, WrittenFaces};
+use go_declared_core::block_core::Blocks;
+use go_declared_core::handle_core::Home;
+use go_declared_core::{FaceTable, WrittenFaces};
+use go_table_core::TypeTable;
 
 /// What is known of a package where its expressions are judged. All is lent.
 #[derive(Clone, Copy)]

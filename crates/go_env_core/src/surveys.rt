@@ -1,20 +1,20 @@
 //! Selections from one type, told by a survey of it once they have cost about as much as it does.
 ghost use Rattle.std.specs.Coded.{Coded-set, coded_list};
 ghost use Rattle.std.specs.Prelude.{◌≡◌, IfSome};
-ghost use Rattle.go_level_core.specs.Selectors.{IsSelectorAnswer};
-ghost use Rattle.go_face_core.specs.table_core.Entries.{find_entry};
-ghost use Rattle.go_face_core.specs.table_core.codes.EntryCodes.{coded_entry};
+ghost use Rattle.go_select_core.specs.levels.Selectors.{IsSelectorAnswer};
+ghost use Rattle.go_table_core.specs.Entries.{find_entry};
+ghost use Rattle.go_table_core.specs.codes.EntryCodes.{coded_entry};
 
 use crate::recall::TypesOf;
 use crate::ways::Place;
-use go_face_core::handle_core::{Decl, SignatureRef, TypeRef};
-use go_face_core::select_core::{EmbedPath, Owner, Selected};
-use go_face_core::table_core::TypeTable;
-use go_path_core::ImportPath;
-use go_survey_core::{Survey, breadth};
+use go_collections_core::text_core::Rule;
+use go_declared_core::handle_core::{Decl, SignatureRef, TypeRef};
+use go_expr_core::denote_core::Selection;
+use go_select_core::surveys::{Survey, breadth};
+use go_select_core::{EmbedPath, Owner, Selected};
+use go_table_core::TypeTable;
+use go_table_core::path_core::ImportPath;
 use go_term_core::TypeTerm;
-use go_text_core::Rule;
-use go_top_core::denote_core::Selection;
 use std::alloc::Global;
 use std::collections::BTreeMap;
 use std::marker::PhantomData;

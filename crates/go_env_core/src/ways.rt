@@ -1,8 +1,8 @@
 //! Where selections of a name from a type are looked up: by the type that its only embedded field leads to.
-use go_face_core::handle_core::TypeRef;
-use go_face_core::table_core::TypeTable;
-use go_path_core::ImportPath;
-use go_survey_core::{SoleField, sole_embedded};
+use go_declared_core::handle_core::TypeRef;
+use go_select_core::surveys::{SoleField, sole_embedded};
+use go_table_core::TypeTable;
+use go_table_core::path_core::ImportPath;
 use go_term_core::TypeTerm;
 
 /// How many embedded fields are followed, one behind the other.

@@ -2,8 +2,8 @@
 use Rattle.std.proofs.Common.{◌≡◌, ℕ, suc, Bool, true, List, [], ◌∷◌, ◌++◌, map, refl, sym, ap, ◌∙◌}
 use Rattle.std.specs.Prelude.{Option, Some, None, MatchOption, ⊤, if◌then◌else◌}
 use Rattle.std.proofs.lemmas.List.{map-append}
-use Rattle.go_tree_nodes.specs.text_core.Text.{is_blank}
-use Rattle.go_tree_nodes.specs.text_core.declared.rule.Rule.TheVariants.{N8, F1, F5, F8}
+use Rattle.go_denote_core.specs.text_core.Text.{is_blank}
+use Rattle.go_denote_core.specs.text_core.declared.rule.Rule.TheVariants.{N8, F1, F5, F8}
 use Rattle.go_tree_nodes.specs.declared.names.Ident.{Ident}
 use Rattle.go_tree_nodes.specs.declared.exprs.Key.{Key}
 use Rattle.go_tree_nodes.specs.declared.types.TypeName.{TypeName}
@@ -13,36 +13,36 @@ use Rattle.go_tree_nodes.specs.declared.usage.Usage.TheVariants as usages
 use Rattle.go_tree_nodes.specs.Trees.{TypeTree, FieldTrees, MethodTrees, SignatureTree, ResultTree, ParamTrees, NamedType, Pointer, ParenType, Struct, Interface, NoFields, NamedFields, EmbeddedField, NoMethods, Method, Signed, NoResult, OneResult, Results, NoParams, Param, ExprTree, ItemTrees, Integer, Text, Named, Paren, Unary, Binary, Select, Call, Literal, StructLiteral, NoItems, Item}
 use Rattle.go_tree_nodes.specs.WrittenTypes.{expr_types, items_types}
 use Rattle.go_tree_nodes.specs.Counts.{item_count}
-use Rattle.go_literal_core.specs.tree_core.declared.occurrence.Role.TheVariants as roles
-use Rattle.go_literal_core.specs.operand_core.declared.types.ValueType.{ValueType}
-use Rattle.go_literal_core.specs.operand_core.TypeRules.{TypeRules}
-use Rattle.go_literal_core.specs.operand_core.Values.{default_type}
-use Rattle.go_literal_core.specs.denote_core.declared.things.Stand.{Stand}
-use Rattle.go_literal_core.specs.denote_core.declared.things.Stand.TheVariants as stands
-use Rattle.go_literal_core.specs.denote_core.declared.things.Builtin.TheVariants as builtins
-use Rattle.go_literal_core.specs.denote_core.declared.things.Dot.{Dot}
-use Rattle.go_literal_core.specs.denote_core.declared.things.Dot.TheVariants as dots
-use Rattle.go_literal_core.specs.denote_core.declared.things.Found.{Found}
-use Rattle.go_literal_core.specs.denote_core.declared.things.Argument.{Argument}
-use Rattle.go_literal_core.specs.denote_core.declared.things.Argument.TheVariants as arguments
-use Rattle.go_literal_core.specs.denote_core.declared.things.Denoted as declared_denoted
-use Rattle.go_literal_core.specs.denote_core.declared.things.Denoted.TheVariants as denotes
-use Rattle.go_literal_core.specs.denote_core.declared.things.Answer.{Answer}
-use Rattle.go_literal_core.specs.denote_core.Answers.{refused, found_answer}
-use Rattle.go_literal_core.specs.denote_core.Selectors.{dot_of, selector_answer}
-use Rattle.go_literal_core.specs.denote_core.Arguments.{arguments_of, is_free, single_rule}
-use Rattle.go_literal_core.specs.denote_core.Calls.{call_answer}
-use Rattle.go_literal_core.specs.denote_core.Laws.{ValueAlike, GivenAlike, EachAlike, ArgumentAlike, ArgumentsAlike, CallsAlike}
-use Rattle.go_literal_core.specs.denote_core.Locality.{calls_local}
-use Rattle.go_literal_core.specs.declared.things.KeyAnswer.{KeyAnswer}
-use Rattle.go_literal_core.specs.declared.things.Keys.{Keys}
-use Rattle.go_literal_core.specs.declared.things.Mode.{Mode}
-use Rattle.go_literal_core.specs.declared.things.Mode.TheVariants as modes
-use Rattle.go_literal_core.specs.declared.things.NamedField.{NamedField}
-use Rattle.go_literal_core.specs.declared.things.NamedField.TheVariants as nameds
-use Rattle.go_literal_core.specs.Fields.{named_field}
-use Rattle.go_literal_core.specs.Literals.{is_struct, literal_type, literal_denotes, literal_rule, literal_mode, element_target}
-use Rattle.go_literal_core.specs.Keys.{refused_key, found_key, key_answer}
+use Rattle.go_tree_core.specs.declared.occurrence.Role.TheVariants as roles
+use Rattle.go_denote_core.specs.operand_core.declared.types.ValueType.{ValueType}
+use Rattle.go_denote_core.specs.operand_core.TypeRules.{TypeRules}
+use Rattle.go_denote_core.specs.operand_core.Values.{default_type}
+use Rattle.go_denote_core.specs.declared.things.Stand.{Stand}
+use Rattle.go_denote_core.specs.declared.things.Stand.TheVariants as stands
+use Rattle.go_denote_core.specs.declared.things.Builtin.TheVariants as builtins
+use Rattle.go_denote_core.specs.declared.things.Dot.{Dot}
+use Rattle.go_denote_core.specs.declared.things.Dot.TheVariants as dots
+use Rattle.go_denote_core.specs.declared.things.Found.{Found}
+use Rattle.go_denote_core.specs.declared.things.Argument.{Argument}
+use Rattle.go_denote_core.specs.declared.things.Argument.TheVariants as arguments
+use Rattle.go_denote_core.specs.declared.things.Denoted as declared_denoted
+use Rattle.go_denote_core.specs.declared.things.Denoted.TheVariants as denotes
+use Rattle.go_denote_core.specs.declared.things.Answer.{Answer}
+use Rattle.go_denote_core.specs.Answers.{refused, found_answer}
+use Rattle.go_denote_core.specs.Selectors.{dot_of, selector_answer}
+use Rattle.go_denote_core.specs.Arguments.{arguments_of, is_free, single_rule}
+use Rattle.go_denote_core.specs.Calls.{call_answer}
+use Rattle.go_denote_core.specs.Laws.{ValueAlike, GivenAlike, EachAlike, ArgumentAlike, ArgumentsAlike, CallsAlike}
+use Rattle.go_denote_core.proofs.Locality.{calls_local}
+use Rattle.go_denote_core.specs.declared.composite.things.KeyAnswer.{KeyAnswer}
+use Rattle.go_denote_core.specs.declared.composite.things.Keys.{Keys}
+use Rattle.go_denote_core.specs.declared.composite.things.Mode.{Mode}
+use Rattle.go_denote_core.specs.declared.composite.things.Mode.TheVariants as modes
+use Rattle.go_denote_core.specs.declared.composite.things.NamedField.{NamedField}
+use Rattle.go_denote_core.specs.declared.composite.things.NamedField.TheVariants as nameds
+use Rattle.go_denote_core.specs.composite.Fields.{named_field}
+use Rattle.go_denote_core.specs.composite.Literals.{is_struct, literal_type, literal_denotes, literal_rule, literal_mode, element_target}
+use Rattle.go_denote_core.specs.composite.Keys.{refused_key, found_key, key_answer}
 use Rattle.go_local_core.specs.declared.Fault.{Fault}
 use Rattle.go_expr_core.specs.Looks.{WrittenRules, Looks, look_of_place, literals_at}
 use Rattle.go_expr_core.specs.Places.{inside, under_place, left_place, whole, is_name, is_literal, is_lone_call, is_several, start, item_start, place_role}

@@ -7,18 +7,18 @@ use Rattle.go_tree_nodes.specs.declared.exprs.Expr.TheVariants as expr
 use Rattle.go_tree_nodes.specs.declared.exprs.CallExpr.{CallExpr, out-CallExpr}
 use Rattle.go_tree_nodes.specs.declared.exprs.LiteralExpr.{LiteralExpr, out-LiteralExpr}
 use Rattle.go_tree_nodes.specs.declared.exprs.StructLiteralExpr.{StructLiteralExpr, out-StructLiteralExpr}
-use Rattle.go_tree_nodes.specs.text_core.declared.span.Span.{Span}
+use Rattle.go_denote_core.specs.text_core.declared.span.Span.{Span}
 use Rattle.go_tree_nodes.specs.Trees.{ItemTrees}
 use Rattle.go_tree_nodes.specs.TypeShapes.{shape_type}
 use Rattle.go_tree_nodes.specs.Shapes.{shape, items_of}
-use Rattle.go_literal_core.specs.tree_core.declared.occurrence.Role.TheVariants as roles
-use Rattle.go_literal_core.specs.denote_core.declared.things.Stand.{Stand}
-use Rattle.go_literal_core.specs.denote_core.declared.things.Stand.TheVariants as stands
-use Rattle.go_literal_core.specs.denote_core.declared.things.Denoted as declared_denoted
-use Rattle.go_literal_core.specs.denote_core.declared.things.Answer.{Answer}
-use Rattle.go_literal_core.specs.denote_core.Arguments.{arguments_of, is_free}
-use Rattle.go_literal_core.specs.denote_core.Calls.{call_answer}
-use Rattle.go_literal_core.specs.Literals.{literal_denotes}
+use Rattle.go_tree_core.specs.declared.occurrence.Role.TheVariants as roles
+use Rattle.go_denote_core.specs.declared.things.Stand.{Stand}
+use Rattle.go_denote_core.specs.declared.things.Stand.TheVariants as stands
+use Rattle.go_denote_core.specs.declared.things.Denoted as declared_denoted
+use Rattle.go_denote_core.specs.declared.things.Answer.{Answer}
+use Rattle.go_denote_core.specs.Arguments.{arguments_of, is_free}
+use Rattle.go_denote_core.specs.Calls.{call_answer}
+use Rattle.go_denote_core.specs.composite.Literals.{literal_denotes}
 use Rattle.go_expr_core.specs.declared.things.Use.{Use}
 use Rattle.go_expr_core.specs.Looks.{Looks, look_of_place}
 use Rattle.go_tree_nodes.specs.Starts.{type_name_start, type_start}

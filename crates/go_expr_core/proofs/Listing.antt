@@ -3,7 +3,7 @@ use Rattle.std.proofs.Common.{◌≡◌, Bool, true, List, [], ◌∷◌, ◌++�
 use Rattle.go_tree_nodes.specs.declared.exprs.Expr.{Expr}
 use Rattle.go_tree_nodes.specs.declared.exprs.NextExpr.{NextExpr}
 use Rattle.go_tree_nodes.specs.Shapes.{shape, exprs_from}
-use Rattle.go_literal_core.specs.denote_core.declared.things.Stand.TheVariants as stands
+use Rattle.go_denote_core.specs.declared.things.Stand.TheVariants as stands
 use Rattle.go_expr_core.specs.Looks.{Looks}
 use Rattle.go_expr_core.specs.Denoting.{denoted}
 use Rattle.go_expr_core.specs.Uses.{uses}

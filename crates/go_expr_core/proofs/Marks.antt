@@ -4,16 +4,16 @@ use Rattle.std.specs.Prelude.{Option, Some, None, if◌then◌else◌}
 use Rattle.std.specs.Str.{bytes_eq}
 use Rattle.std.proofs.lemmas.Slice.Eq.{bytes_eq-Decides}
 use Rattle.std.proofs.lemmas.List.{drop_more, take_more}
-use Rattle.go_tree_nodes.specs.text_core.declared.span.Span.{Span}
+use Rattle.go_denote_core.specs.text_core.declared.span.Span.{Span}
 use Rattle.go_tree_nodes.specs.declared.exprs.Key.{Key}
 use Rattle.go_tree_nodes.specs.declared.exprs.«Item» as declared_item
 use Rattle.go_tree_nodes.specs.Trees.{ExprTree, ItemTrees, NoItems, Item}
 use Rattle.go_tree_nodes.specs.Shapes.{shape, items_of, shape_key}
 use Rattle.go_tree_nodes.specs.Counts.{item_count}
-use Rattle.go_literal_core.specs.declared.things.KeyMark.{KeyMark}
-use Rattle.go_literal_core.specs.Look.{FieldOf}
-use Rattle.go_literal_core.specs.Marks.{made_mark, key_marks}
-use Rattle.go_literal_core.specs.Repeats.{has_name, repeats}
+use Rattle.go_denote_core.specs.declared.composite.things.KeyMark.{KeyMark}
+use Rattle.go_denote_core.specs.composite.Look.{FieldOf}
+use Rattle.go_denote_core.specs.composite.Marks.{made_mark, key_marks}
+use Rattle.go_denote_core.specs.composite.Repeats.{has_name, repeats}
 use Rattle.go_expr_core.specs.Elements.{key_names, all_keys}
 use Rattle.go_expr_core.specs.mirrors.Marked.{unmarked, mark_of, marks_of, spread}
 

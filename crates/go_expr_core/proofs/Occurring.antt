@@ -10,13 +10,13 @@ use Rattle.go_tree_nodes.specs.declared.types.TypeName.{TypeName}
 use Rattle.go_tree_nodes.specs.declared.types.TypeName.TheVariants as type_names
 use Rattle.go_tree_nodes.specs.Rules.{Wf, Wf_items}
 use Rattle.go_tree_nodes.specs.Trees.{TypeTree, FieldTrees, MethodTrees, SignatureTree, ResultTree, ParamTrees, NamedType, Pointer, ParenType, Struct, Interface, NoFields, NamedFields, EmbeddedField, NoMethods, Method, Signed, NoResult, OneResult, Results, NoParams, Param, ExprTree, ItemTrees, Integer, Text, Named, Paren, Unary, Binary, Select, Call, Literal, StructLiteral, NoItems, Item}
-use Rattle.go_literal_core.specs.tree_core.declared.occurrence.Role.{Role}
-use Rattle.go_literal_core.specs.tree_core.declared.occurrence.Role.TheVariants as roles
-use Rattle.go_literal_core.specs.tree_core.declared.occurrence.Context.TheVariants as contexts
-use Rattle.go_literal_core.specs.tree_core.declared.occurrence.Occ.{Occ}
-use Rattle.go_literal_core.specs.tree_core.Occurrences as occ
-use Rattle.go_literal_core.specs.denote_core.declared.things.Stand.{Stand}
-use Rattle.go_literal_core.specs.denote_core.declared.things.Stand.TheVariants as stands
+use Rattle.go_tree_core.specs.declared.occurrence.Role.{Role}
+use Rattle.go_tree_core.specs.declared.occurrence.Role.TheVariants as roles
+use Rattle.go_tree_core.specs.declared.occurrence.Context.TheVariants as contexts
+use Rattle.go_tree_core.specs.declared.occurrence.Occ.{Occ}
+use Rattle.go_tree_core.specs.Occurrences as occ
+use Rattle.go_denote_core.specs.declared.things.Stand.{Stand}
+use Rattle.go_denote_core.specs.declared.things.Stand.TheVariants as stands
 use Rattle.go_expr_core.specs.Looks.{Looks}
 use Rattle.go_expr_core.specs.Places.{inside, under_place, left_place, whole, place_role}
 use Rattle.go_expr_core.specs.Uses.{Spot, Identifier, CallAt, role_of, use_of, type_name_spots, type_spots, fields_spots, methods_spots, signature_spots, result_spots, params_spots, key_spots, spots, args_spots, items_spots}

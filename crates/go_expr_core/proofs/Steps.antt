@@ -8,28 +8,28 @@ use Rattle.go_tree_nodes.specs.declared.exprs.Key.{Key}
 use Rattle.go_tree_nodes.specs.declared.exprs.«Item» as declared_item
 use Rattle.go_tree_nodes.specs.declared.usage.Usage.{Usage}
 use Rattle.go_tree_nodes.specs.Shapes.{items_of, shape_key}
-use Rattle.go_literal_core.specs.tree_core.declared.occurrence.Role.TheVariants as roles
-use Rattle.go_literal_core.specs.denote_core.declared.things.Answer.{Answer}
-use Rattle.go_literal_core.specs.denote_core.declared.things.Argument.{Argument}
-use Rattle.go_literal_core.specs.denote_core.declared.things.Denoted.{Denoted}
-use Rattle.go_literal_core.specs.denote_core.declared.things.Dot.{Dot}
-use Rattle.go_literal_core.specs.denote_core.Look.{Look}
-use Rattle.go_literal_core.specs.denote_core.Selectors.{selector_answer}
-use Rattle.go_literal_core.specs.denote_core.Calls.{call_answer}
-use Rattle.go_literal_core.specs.declared.things.KeyAnswer.{KeyAnswer}
-use Rattle.go_literal_core.specs.declared.things.KeyMark.{KeyMark}
-use Rattle.go_literal_core.specs.Marks.{marked_answer}
+use Rattle.go_tree_core.specs.declared.occurrence.Role.TheVariants as roles
+use Rattle.go_denote_core.specs.declared.things.Answer.{Answer}
+use Rattle.go_denote_core.specs.declared.things.Argument.{Argument}
+use Rattle.go_denote_core.specs.declared.things.Denoted.{Denoted}
+use Rattle.go_denote_core.specs.declared.things.Dot.{Dot}
+use Rattle.go_denote_core.specs.Look.{Look}
+use Rattle.go_denote_core.specs.Selectors.{selector_answer}
+use Rattle.go_denote_core.specs.Calls.{call_answer}
+use Rattle.go_denote_core.specs.declared.composite.things.KeyAnswer.{KeyAnswer}
+use Rattle.go_denote_core.specs.declared.composite.things.KeyMark.{KeyMark}
+use Rattle.go_denote_core.specs.composite.Marks.{marked_answer}
 use Rattle.go_expr_core.specs.declared.things.Use.{Use}
 use Rattle.go_expr_core.specs.Looks.{Looks, look_of_place, literals_at}
 use Rattle.go_expr_core.specs.Places.{is_several, is_lone_call}
 use Rattle.go_expr_core.specs.Uses.{made_use, behind_use}
 use Rattle.go_tree_nodes.specs.Trees.{ExprTree}
 use Rattle.go_tree_nodes.specs.Counts.{item_count}
-use Rattle.go_tree_nodes.specs.text_core.declared.rule.Rule.{Rule}
-use Rattle.go_literal_core.specs.denote_core.declared.things.Stand.TheVariants as stands
-use Rattle.go_literal_core.specs.declared.things.Keys.{Keys}
-use Rattle.go_literal_core.specs.declared.things.Mode.{Mode}
-use Rattle.go_literal_core.specs.Literals.{literal_rule, literal_mode, element_target, keys_among}
+use Rattle.go_denote_core.specs.text_core.declared.rule.Rule.{Rule}
+use Rattle.go_denote_core.specs.declared.things.Stand.TheVariants as stands
+use Rattle.go_denote_core.specs.declared.composite.things.Keys.{Keys}
+use Rattle.go_denote_core.specs.declared.composite.things.Mode.{Mode}
+use Rattle.go_denote_core.specs.composite.Literals.{literal_rule, literal_mode, element_target, keys_among}
 use Rattle.go_local_core.specs.declared.Fault.{Fault}
 use Rattle.go_expr_core.specs.Places.{start, item_start}
 use Rattle.go_expr_core.specs.Denoting.{denoted}

@@ -3,24 +3,24 @@ use Rattle.std.proofs.Common.{◌≡◌, ℕ, suc, ◌+◌, ◌<◌, Bool, List,
 use Rattle.std.specs.Prelude.{Option, Some, None}
 use Rattle.std.proofs.lemmas.List.{map-append}
 use Rattle.std.proofs.Math.Seq.{set-append_seam}
-use Rattle.go_tree_nodes.specs.text_core.declared.span.Span.{Span}
+use Rattle.go_denote_core.specs.text_core.declared.span.Span.{Span}
 use Rattle.go_tree_nodes.specs.declared.exprs.Key.{Key}
 use Rattle.go_tree_nodes.specs.declared.exprs.«Item» as declared_item
 use Rattle.go_tree_nodes.specs.Trees.{ExprTree, ItemTrees, Call}
 use Rattle.go_tree_nodes.specs.Shapes.{shape, items_of, shape_key}
-use Rattle.go_literal_core.specs.tree_core.declared.occurrence.Role.TheVariants as roles
-use Rattle.go_literal_core.specs.denote_core.declared.things.Stand.{Stand}
-use Rattle.go_literal_core.specs.denote_core.declared.things.Stand.TheVariants as stands
-use Rattle.go_literal_core.specs.declared.things.Mode.{Mode}
+use Rattle.go_tree_core.specs.declared.occurrence.Role.TheVariants as roles
+use Rattle.go_denote_core.specs.declared.things.Stand.{Stand}
+use Rattle.go_denote_core.specs.declared.things.Stand.TheVariants as stands
+use Rattle.go_denote_core.specs.declared.composite.things.Mode.{Mode}
 use Rattle.go_expr_core.specs.declared.things.Use.{Use}
 use Rattle.go_local_core.specs.declared.Fault.{Fault}
 use Rattle.go_expr_core.specs.Looks.{Looks}
-use Rattle.go_literal_core.specs.declared.things.KeyAnswer.{KeyAnswer}
-use Rattle.go_literal_core.specs.declared.things.KeyMark.{KeyMark}
-use Rattle.go_literal_core.specs.Literals.{element_target}
-use Rattle.go_literal_core.specs.Repeats.{has_name}
-use Rattle.go_literal_core.specs.Marks.{type_fields}
-use Rattle.go_literal_core.proofs.Marking.{marks_tell}
+use Rattle.go_denote_core.specs.declared.composite.things.KeyAnswer.{KeyAnswer}
+use Rattle.go_denote_core.specs.declared.composite.things.KeyMark.{KeyMark}
+use Rattle.go_denote_core.specs.composite.Literals.{element_target}
+use Rattle.go_denote_core.specs.composite.Repeats.{has_name}
+use Rattle.go_denote_core.specs.composite.Marks.{type_fields}
+use Rattle.go_denote_core.proofs.CompositeMarking.{marks_tell}
 use Rattle.go_expr_core.specs.Places.{start, item_start}
 use Rattle.go_expr_core.specs.Denoting.{denoted}
 use Rattle.go_expr_core.specs.Elements.{key_names, all_keys, is_again, key_target_by, element_rule, element_type}

@@ -3,9 +3,9 @@
 -- docs/RULES.md, "Expressions: roles, order, faults of parts". The Go specification, "Expressions".
 use Rattle.std.specs.Prelude.{true, false, List, [], ◌∷◌, Option, Some}
 use Rattle.go_tree_nodes.specs.token_core.declared.kind.Operator.{Operator}
-use Rattle.go_literal_core.specs.constant_core.declared.values.Constant.{Constant}
-use Rattle.go_literal_core.specs.constant_core.declared.values.Constant.TheVariants as constants
-use Rattle.go_literal_core.specs.constant_core.Values.{natural}
+use Rattle.go_constant_core.specs.declared.values.Constant.{Constant}
+use Rattle.go_constant_core.specs.declared.values.Constant.TheVariants as constants
+use Rattle.go_constant_core.specs.Values.{natural}
 use Rattle.go_tree_nodes.specs.declared.names.Ident.{Ident}
 use Rattle.go_tree_nodes.specs.declared.names.TextLiteral.{TextLiteral}
 use Rattle.go_tree_nodes.specs.declared.types.TypeName.{TypeName}
@@ -14,20 +14,20 @@ use Rattle.go_tree_nodes.specs.declared.usage.Usage.{Usage}
 use Rattle.go_tree_nodes.specs.declared.usage.Usage.TheVariants as usages
 use Rattle.go_tree_nodes.specs.Terminals.{value_of}
 use Rattle.go_tree_nodes.specs.Trees.{TypeTree, ExprTree, ItemTrees, Integer, Text, Named, Paren, Unary, Binary, Select, Call, Literal, StructLiteral, NoItems, Item}
-use Rattle.go_tree_nodes.specs.text_core.declared.span.Span.{Span}
-use Rattle.go_literal_core.specs.operand_core.declared.types.ValueType.{ValueType}
-use Rattle.go_literal_core.specs.operand_core.declared.types.ValueType.TheVariants as value_types
-use Rattle.go_literal_core.specs.denote_core.declared.things.Stand.{Stand}
-use Rattle.go_literal_core.specs.denote_core.declared.things.Stand.TheVariants as stands
-use Rattle.go_literal_core.specs.denote_core.declared.things.Dot.{Dot}
-use Rattle.go_literal_core.specs.denote_core.declared.things.Denoted.{Denoted}
-use Rattle.go_literal_core.specs.denote_core.declared.things.Denoted.TheVariants as denotes
-use Rattle.go_literal_core.specs.denote_core.declared.things.Answer.{Answer}
-use Rattle.go_literal_core.specs.denote_core.Answers.{name_answer}
-use Rattle.go_literal_core.specs.denote_core.Selectors.{dot_of, selector_answer}
-use Rattle.go_literal_core.specs.denote_core.Arguments.{arguments_of, is_free}
-use Rattle.go_literal_core.specs.denote_core.Calls.{call_answer}
-use Rattle.go_literal_core.specs.Literals.{literal_type, literal_denotes}
+use Rattle.go_denote_core.specs.text_core.declared.span.Span.{Span}
+use Rattle.go_denote_core.specs.operand_core.declared.types.ValueType.{ValueType}
+use Rattle.go_denote_core.specs.operand_core.declared.types.ValueType.TheVariants as value_types
+use Rattle.go_denote_core.specs.declared.things.Stand.{Stand}
+use Rattle.go_denote_core.specs.declared.things.Stand.TheVariants as stands
+use Rattle.go_denote_core.specs.declared.things.Dot.{Dot}
+use Rattle.go_denote_core.specs.declared.things.Denoted.{Denoted}
+use Rattle.go_denote_core.specs.declared.things.Denoted.TheVariants as denotes
+use Rattle.go_denote_core.specs.declared.things.Answer.{Answer}
+use Rattle.go_denote_core.specs.Answers.{name_answer}
+use Rattle.go_denote_core.specs.Selectors.{dot_of, selector_answer}
+use Rattle.go_denote_core.specs.Arguments.{arguments_of, is_free}
+use Rattle.go_denote_core.specs.Calls.{call_answer}
+use Rattle.go_denote_core.specs.composite.Literals.{literal_type, literal_denotes}
 use Rattle.go_expr_core.specs.declared.things.Judged.{Judged}
 use Rattle.go_expr_core.specs.Looks.{Looks, look_of_place}
 use Rattle.go_expr_core.specs.Places.{inside, under_place, left_place, whole, is_name, is_literal, is_lone_call}

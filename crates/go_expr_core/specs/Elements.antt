@@ -2,18 +2,18 @@
 --
 -- docs/RULES.md, "Composite literals". The Go specification, "Composite literals".
 use Rattle.std.specs.Prelude.{ℕ, Bool, true, false, List, [], ◌∷◌, length, Option, Some, None}
-use Rattle.go_tree_nodes.specs.text_core.declared.rule.Rule.{Rule}
-use Rattle.go_tree_nodes.specs.text_core.declared.rule.Rule.TheVariants.{Y4}
+use Rattle.go_denote_core.specs.text_core.declared.rule.Rule.{Rule}
+use Rattle.go_denote_core.specs.text_core.declared.rule.Rule.TheVariants.{Y4}
 use Rattle.go_tree_nodes.specs.declared.exprs.Key.{Key}
 use Rattle.go_tree_nodes.specs.Trees.{ItemTrees, NoItems, Item}
 use Rattle.go_tree_nodes.specs.Counts.{item_count}
-use Rattle.go_literal_core.specs.denote_core.declared.things.Denoted.{Denoted}
-use Rattle.go_literal_core.specs.declared.things.Keys.{Keys}
-use Rattle.go_literal_core.specs.declared.things.Keys.TheVariants as keys
-use Rattle.go_literal_core.specs.declared.things.Mode.{Mode}
-use Rattle.go_literal_core.specs.Literals.{keys_among, literal_rule, literal_mode, element_target, misfits}
-use Rattle.go_literal_core.specs.Keys.{KeyContext, key_answer}
-use Rattle.go_literal_core.specs.Repeats.{has_name}
+use Rattle.go_denote_core.specs.declared.things.Denoted.{Denoted}
+use Rattle.go_denote_core.specs.declared.composite.things.Keys.{Keys}
+use Rattle.go_denote_core.specs.declared.composite.things.Keys.TheVariants as keys
+use Rattle.go_denote_core.specs.declared.composite.things.Mode.{Mode}
+use Rattle.go_denote_core.specs.composite.Literals.{keys_among, literal_rule, literal_mode, element_target, misfits}
+use Rattle.go_denote_core.specs.composite.Keys.{KeyContext, key_answer}
+use Rattle.go_denote_core.specs.composite.Repeats.{has_name}
 use Rattle.go_expr_core.specs.Looks.{Looks, literals_at}
 
 abbrev pub key_names : Option Key → List (List ℕ)

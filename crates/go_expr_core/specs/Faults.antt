@@ -2,16 +2,16 @@
 --
 -- docs/RULES.md, "Expressions: roles, order, faults of parts". The Go specification, "Operators", "Calls", "Composite literals".
 use Rattle.std.specs.Prelude.{ℕ, suc, Bool, true, false, List, [], ◌∷◌, ◌++◌, Option, Some, None}
-use Rattle.go_tree_nodes.specs.text_core.declared.span.Span.{Span}
-use Rattle.go_tree_nodes.specs.text_core.declared.rule.Rule.{Rule}
+use Rattle.go_denote_core.specs.text_core.declared.span.Span.{Span}
+use Rattle.go_denote_core.specs.text_core.declared.rule.Rule.{Rule}
 use Rattle.go_tree_nodes.specs.token_core.declared.kind.Operator.{Operator}
 use Rattle.go_tree_nodes.specs.Trees.{ExprTree, ItemTrees, Integer, Text, Named, Paren, Unary, Binary, Select, Call, Literal, StructLiteral, NoItems, Item}
 use Rattle.go_tree_nodes.specs.Starts.{type_name_start, type_start}
-use Rattle.go_literal_core.specs.denote_core.declared.things.Stand.{Stand}
-use Rattle.go_literal_core.specs.denote_core.declared.things.Stand.TheVariants as stands
-use Rattle.go_literal_core.specs.denote_core.declared.things.Denoted.{Denoted}
-use Rattle.go_literal_core.specs.denote_core.Arguments.{single_rule}
-use Rattle.go_literal_core.specs.declared.things.Mode.{Mode}
+use Rattle.go_denote_core.specs.declared.things.Stand.{Stand}
+use Rattle.go_denote_core.specs.declared.things.Stand.TheVariants as stands
+use Rattle.go_denote_core.specs.declared.things.Denoted.{Denoted}
+use Rattle.go_denote_core.specs.Arguments.{single_rule}
+use Rattle.go_denote_core.specs.declared.composite.things.Mode.{Mode}
 use Rattle.go_local_core.specs.declared.Fault.{Fault}
 use Rattle.go_expr_core.specs.Looks.{Looks}
 use Rattle.go_expr_core.specs.Places.{inside, under_place, left_place, is_literal, is_several, start, item_start}

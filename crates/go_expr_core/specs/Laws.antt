@@ -5,14 +5,14 @@ use Rattle.go_tree_nodes.specs.declared.types.TypeName.{TypeName}
 use Rattle.go_tree_nodes.specs.declared.types.TypeName.TheVariants as type_names
 use Rattle.go_tree_nodes.specs.Rules.{Wf}
 use Rattle.go_tree_nodes.specs.Trees.{TypeTree, ExprTree}
-use Rattle.go_literal_core.specs.tree_core.declared.occurrence.Role.{Role}
-use Rattle.go_literal_core.specs.tree_core.declared.occurrence.Context as tree_context
-use Rattle.go_literal_core.specs.tree_core.declared.occurrence.Context.TheVariants as contexts
-use Rattle.go_literal_core.specs.tree_core.declared.occurrence.Occ.{Occ}
-use Rattle.go_literal_core.specs.tree_core.Occurrences.{expr_occs, type_occs}
-use Rattle.go_literal_core.specs.denote_core.declared.things.Stand.{Stand}
-use Rattle.go_literal_core.specs.denote_core.declared.things.Stand.TheVariants as stands
-use Rattle.go_literal_core.specs.denote_core.declared.things.Found.{Found}
+use Rattle.go_tree_core.specs.declared.occurrence.Role.{Role}
+use Rattle.go_tree_core.specs.declared.occurrence.Context as tree_context
+use Rattle.go_tree_core.specs.declared.occurrence.Context.TheVariants as contexts
+use Rattle.go_tree_core.specs.declared.occurrence.Occ.{Occ}
+use Rattle.go_tree_core.specs.Occurrences.{expr_occs, type_occs}
+use Rattle.go_denote_core.specs.declared.things.Stand.{Stand}
+use Rattle.go_denote_core.specs.declared.things.Stand.TheVariants as stands
+use Rattle.go_denote_core.specs.declared.things.Found.{Found}
 use Rattle.go_expr_core.specs.declared.things.Use.{Use}
 use Rattle.go_expr_core.specs.Looks.{WrittenRules, Looks}
 use Rattle.go_expr_core.specs.Denoting.{denoted}

@@ -13,10 +13,8 @@ pub mod Locality
 pub mod Respelling
 pub mod Samples
 pub mod mirrors
-pub mod constant_core
+pub mod decl_core
 pub mod denote_core
-pub mod literal_core
 pub mod local_core
 pub mod operand_core
-pub mod token_core
-pub mod tree_core
+pub mod scope_stack

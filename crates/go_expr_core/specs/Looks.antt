@@ -2,12 +2,12 @@
 use Rattle.std.specs.Prelude.{ℕ, List, Option}
 use Rattle.go_tree_nodes.specs.declared.types.TypeName.{TypeName}
 use Rattle.go_tree_nodes.specs.Trees.{TypeTree}
-use Rattle.go_literal_core.specs.operand_core.TypeRules.{TypeRules}
-use Rattle.go_literal_core.specs.denote_core.declared.things.Found.{Found}
-use Rattle.go_literal_core.specs.denote_core.declared.things.Exported.{Exported}
-use Rattle.go_literal_core.specs.denote_core.declared.things.Selection.{Selection}
-use Rattle.go_literal_core.specs.denote_core.Look.{NameRules, Look, look_of}
-use Rattle.go_literal_core.specs.Look.{LiteralRules, LiteralLook, literal_look_of}
+use Rattle.go_denote_core.specs.operand_core.TypeRules.{TypeRules}
+use Rattle.go_denote_core.specs.declared.things.Found.{Found}
+use Rattle.go_denote_core.specs.declared.things.Exported.{Exported}
+use Rattle.go_denote_core.specs.declared.things.Selection.{Selection}
+use Rattle.go_denote_core.specs.Look.{NameRules, Look, look_of}
+use Rattle.go_denote_core.specs.composite.Look.{LiteralRules, LiteralLook, literal_look_of}
 use Rattle.go_local_core.specs.declared.Fault.{Fault}
 
 -- struct types that are written out in expressions

@@ -3,15 +3,15 @@
 -- docs/RULES.md, "Operands and operators". The Go specification, "Operators", "Address operators"; "Conversions": `(*T)(x)` writes a
 -- pointer type with a star.
 use Rattle.std.specs.Prelude.{Bool, true, false, if◌then◌else◌, Option, Some, None, Result, Ok, Err}
-use Rattle.go_tree_nodes.specs.text_core.declared.rule.Rule.{Rule}
+use Rattle.go_denote_core.specs.text_core.declared.rule.Rule.{Rule}
 use Rattle.go_tree_nodes.specs.token_core.declared.kind.Operator.{Operator}
 use Rattle.go_tree_nodes.specs.token_core.declared.kind.Operator.TheVariants as operators
-use Rattle.go_literal_core.specs.operand_core.declared.types.Operand.{Operand}
-use Rattle.go_literal_core.specs.operand_core.TypeRules.{TypeRules}
-use Rattle.go_literal_core.specs.operand_core.Operators.{binary_operand, refused_binary}
-use Rattle.go_literal_core.specs.operand_core.Prefixes.{unary_operand, refused_unary}
-use Rattle.go_literal_core.specs.denote_core.declared.things.Denoted.{Denoted}
-use Rattle.go_literal_core.specs.denote_core.declared.things.Denoted.TheVariants as denotes
+use Rattle.go_denote_core.specs.operand_core.declared.types.Operand.{Operand}
+use Rattle.go_denote_core.specs.operand_core.TypeRules.{TypeRules}
+use Rattle.go_denote_core.specs.operand_core.Operators.{binary_operand, refused_binary}
+use Rattle.go_denote_core.specs.operand_core.Prefixes.{unary_operand, refused_unary}
+use Rattle.go_denote_core.specs.declared.things.Denoted.{Denoted}
+use Rattle.go_denote_core.specs.declared.things.Denoted.TheVariants as denotes
 use Rattle.go_expr_core.specs.declared.things.Judged.{Judged}
 
 abbrev pub of_operand : {T S D : Type 0} → Result (Operand T) Rule → Judged T S D

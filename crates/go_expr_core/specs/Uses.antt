@@ -3,7 +3,7 @@
 --
 -- docs/RULES.md, "Occurrences", "Expressions: roles, order, faults of parts".
 use Rattle.std.specs.Prelude.{ℕ, Bool, true, List, [], ◌∷◌, ◌++◌, map, Option, Some, None}
-use Rattle.go_tree_nodes.specs.text_core.declared.span.Span.{Span}
+use Rattle.go_denote_core.specs.text_core.declared.span.Span.{Span}
 use Rattle.go_tree_nodes.specs.declared.names.Ident.{Ident}
 use Rattle.go_tree_nodes.specs.declared.types.TypeName.{TypeName}
 use Rattle.go_tree_nodes.specs.declared.types.TypeName.TheVariants as type_names
@@ -11,17 +11,17 @@ use Rattle.go_tree_nodes.specs.declared.exprs.Key.{Key}
 use Rattle.go_tree_nodes.specs.declared.usage.Usage.{Usage}
 use Rattle.go_tree_nodes.specs.declared.usage.Usage.TheVariants as usages
 use Rattle.go_tree_nodes.specs.Trees.{TypeTree, FieldTrees, MethodTrees, SignatureTree, ResultTree, ParamTrees, NamedType, Pointer, ParenType, Struct, Interface, NoFields, NamedFields, EmbeddedField, NoMethods, Method, Signed, NoResult, OneResult, Results, NoParams, Param, ExprTree, ItemTrees, Integer, Text, Named, Paren, Unary, Binary, Select, Call, Literal, StructLiteral, NoItems, Item}
-use Rattle.go_literal_core.specs.tree_core.declared.occurrence.Role.{Role}
-use Rattle.go_literal_core.specs.tree_core.declared.occurrence.Role.TheVariants as roles
-use Rattle.go_literal_core.specs.denote_core.declared.things.Stand.{Stand}
-use Rattle.go_literal_core.specs.denote_core.declared.things.Stand.TheVariants as stands
-use Rattle.go_literal_core.specs.denote_core.declared.things.Dot.{Dot}
-use Rattle.go_literal_core.specs.denote_core.declared.things.Outcome.{Outcome}
-use Rattle.go_literal_core.specs.denote_core.Answers.{name_answer}
-use Rattle.go_literal_core.specs.denote_core.Selectors.{dot_of, selector_answer}
-use Rattle.go_literal_core.specs.denote_core.Arguments.{arguments_of, is_free}
-use Rattle.go_literal_core.specs.denote_core.Calls.{call_answer}
-use Rattle.go_literal_core.specs.Keys.{KeyContext, key_rule}
+use Rattle.go_tree_core.specs.declared.occurrence.Role.{Role}
+use Rattle.go_tree_core.specs.declared.occurrence.Role.TheVariants as roles
+use Rattle.go_denote_core.specs.declared.things.Stand.{Stand}
+use Rattle.go_denote_core.specs.declared.things.Stand.TheVariants as stands
+use Rattle.go_denote_core.specs.declared.things.Dot.{Dot}
+use Rattle.go_denote_core.specs.declared.things.Outcome.{Outcome}
+use Rattle.go_denote_core.specs.Answers.{name_answer}
+use Rattle.go_denote_core.specs.Selectors.{dot_of, selector_answer}
+use Rattle.go_denote_core.specs.Arguments.{arguments_of, is_free}
+use Rattle.go_denote_core.specs.Calls.{call_answer}
+use Rattle.go_denote_core.specs.composite.Keys.{KeyContext, key_rule}
 use Rattle.go_expr_core.specs.declared.things.Use.{Use}
 use Rattle.go_expr_core.specs.Looks.{Looks, look_of_place, literals_at}
 use Rattle.go_expr_core.specs.Places.{inside, under_place, left_place, whole, is_name, is_lone_call, place_role}

@@ -1,10 +1,10 @@
 //! Keys and elements of composite literals, and lists of arguments.
 ghost use Rattle.std.specs.Prelude.{◌≡◌, ◌++◌, [], ◌∷◌, map, get_or, IfOk, OnOk};
 ghost use Rattle.go_tree_nodes.specs.Shapes.{items_of, shape_key};
-ghost use Rattle.go_literal_core.specs.denote_core.Arguments as arguments;
-ghost use Rattle.go_literal_core.specs.denote_core.Calls as calls;
-ghost use Rattle.go_literal_core.specs.denote_core.Look.{look_of};
-ghost use Rattle.go_literal_core.specs.Marks.{type_fields};
+ghost use Rattle.go_denote_core.specs.Arguments as arguments;
+ghost use Rattle.go_denote_core.specs.Calls as calls;
+ghost use Rattle.go_denote_core.specs.Look.{look_of};
+ghost use Rattle.go_denote_core.specs.composite.Marks.{type_fields};
 ghost use Rattle.go_expr_core.specs.Looks.{everywhere};
 ghost use Rattle.go_expr_core.specs.Places as places;
 ghost use Rattle.go_expr_core.specs.Elements as elements;
@@ -16,11 +16,11 @@ use crate::looks::Exprs;
 use crate::notes::{note_fault, note_use};
 use crate::places::is_call;
 use crate::things::Use;
-use go_literal_core::denote_core::{Answer, Denoted, arguments_of, call_answer, is_free};
-use go_literal_core::tree_core::Role;
-use go_literal_core::{KeyMark, Keys, key_answer, key_marks, keys_among, misfits};
+use go_denote_core::composite::{KeyMark, Keys, key_answer, key_marks, keys_among, misfits};
+use go_denote_core::text_core::Rule;
+use go_denote_core::{Answer, Denoted, arguments_of, call_answer, is_free};
 use go_local_core::Fault;
-use go_tree_nodes::text_core::Rule;
+use go_tree_core::Role;
 use go_tree_nodes::{Item, Key};
 use std::alloc::{AllocError, Global};
 

@@ -26,39 +26,30 @@ pub use things::{Notes, Use};
 pub use types::{check_signature, check_type};
 pub use walk::{check_called, check_expr, check_operand};
 
-/// What the crates above name of `go_constant_core`.
-pub mod constant_core {
-    pub use go_literal_core::constant_core::Constant;
-}
-
 /// What the crates above name of `go_denote_core`.
 pub mod denote_core {
-    pub use go_literal_core::denote_core::{
+    pub use go_denote_core::composite::{Keys, LiteralField, Literals, first_named, keys_among};
+    pub use go_denote_core::{
         Argument, Builtin, Denoted, Dot, Exported, Found, Names, Outcome, Selection, Stand,
         argument_of, arguments_of, dot_of, fits_type, is_free, is_refused, name_answer,
-        single_rule,
     };
-}
-
-/// What the crates above name of `go_literal_core`.
-pub mod literal_core {
-    pub use go_literal_core::{Keys, LiteralField, Literals, first_named, keys_among};
 }
 
 /// What the crates above name of `go_local_core`.
 pub mod local_core {
     pub use go_local_core::Fault;
+    pub use go_local_core::walks::is_blank_target;
 }
 
 /// What the crates above name of `go_operand_core`.
 pub mod operand_core {
-    pub use go_literal_core::operand_core::{
+    pub use go_denote_core::operand_core::{
         Operand, TypeForm, TypeLooks, ValueType, assignable_to, basic_under, default_type,
         form_basic, increment, is_condition, update,
     };
 }
 
-/// What the crates above name of `go_token_core`.
-pub mod token_core {
-    pub use go_tree_nodes::token_core::Operator;
+/// What the crates above name of `go_scope_stack`.
+pub mod scope_stack {
+    pub use go_local_core::scope_stack::{DeclId, NameList};
 }

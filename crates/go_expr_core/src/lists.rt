@@ -7,7 +7,7 @@ ghost use Rattle.go_expr_core.specs.Lists as lists;
 use crate::looks::Exprs;
 use crate::things::Notes;
 use crate::walk::check_member;
-use go_literal_core::denote_core::Denoted;
+use go_denote_core::Denoted;
 use std::alloc::{AllocError, Global};
 
 /// Whether a list has more than one expression.

@@ -4,7 +4,7 @@ ghost use Rattle.go_tree_nodes.specs.TypeShapes.{shape_type};
 ghost use Rattle.go_expr_core.specs.Looks.{WrittenRules, everywhere};
 ghost use Rattle.go_expr_core.specs.Denoting.{named_type};
 
-use go_literal_core::Literals;
+use go_denote_core::composite::Literals;
 use go_local_core::Fault;
 use go_tree_nodes::TypeExpr;
 use std::alloc::{AllocError, Global};

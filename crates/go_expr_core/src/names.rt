@@ -8,9 +8,9 @@ use crate::looks::Exprs;
 use crate::notes::note_answer;
 use crate::places::place_role;
 use crate::things::Use;
-use go_literal_core::denote_core::{Denoted, Dot, Stand, dot_of, name_answer, selector_answer};
-use go_literal_core::literal_type;
-use go_literal_core::tree_core::Role;
+use go_denote_core::composite::literal_type;
+use go_denote_core::{Denoted, Dot, Stand, dot_of, name_answer, selector_answer};
+use go_tree_core::Role;
 use go_tree_nodes::{Ident, TypeName, Usage};
 use std::alloc::{AllocError, Global};
 

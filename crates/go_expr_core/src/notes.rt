@@ -1,17 +1,17 @@
 //! What is noted on the way.
 ghost use Rattle.std.specs.Prelude.{◌≡◌, ◌<◌, ◌++◌, [], ◌∷◌, length, slice_set, IfOk, OnOk};
-ghost use Rattle.go_literal_core.specs.tree_core.declared.occurrence.Role.TheVariants as roles;
-ghost use Rattle.go_literal_core.specs.denote_core.declared.things.Outcome.TheVariants as outcomes;
-ghost use Rattle.go_literal_core.specs.denote_core.Arguments.{single_rule};
-ghost use Rattle.go_tree_nodes.specs.text_core.declared.rule.Rule.TheVariants as rules;
+ghost use Rattle.go_tree_core.specs.declared.occurrence.Role.TheVariants as roles;
+ghost use Rattle.go_denote_core.specs.declared.things.Outcome.TheVariants as outcomes;
+ghost use Rattle.go_denote_core.specs.Arguments.{single_rule};
+ghost use Rattle.go_denote_core.specs.text_core.declared.rule.Rule.TheVariants as rules;
 ghost use Rattle.go_expr_core.specs.Uses as all_uses;
 ghost use Rattle.go_expr_core.specs.Faults as all_faults;
 
 use crate::things::{Judged, Notes, Use};
-use go_literal_core::denote_core::{Answer, Denoted, Outcome, single_rule};
-use go_literal_core::tree_core::Role;
+use go_denote_core::text_core::{Rule, Span};
+use go_denote_core::{Answer, Denoted, Outcome, single_rule};
 use go_local_core::Fault;
-use go_tree_nodes::text_core::{Rule, Span};
+use go_tree_core::Role;
 use std::alloc::AllocError;
 
 /// Notes a rule that is broken at an offset in bytes from the file's start, if one is.

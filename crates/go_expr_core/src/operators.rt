@@ -3,9 +3,9 @@ ghost use Rattle.std.specs.Prelude.{◌≡◌, IfOk};
 ghost use Rattle.go_expr_core.specs.Operators as operators;
 
 use crate::things::Judged;
-use go_literal_core::denote_core::{Denoted, Names};
-use go_literal_core::operand_core::{Operand, binary, refused_binary, refused_unary, unary};
-use go_tree_nodes::text_core::Rule;
+use go_denote_core::operand_core::{Operand, binary, refused_binary, refused_unary, unary};
+use go_denote_core::text_core::Rule;
+use go_denote_core::{Denoted, Names};
 use go_tree_nodes::token_core::Operator;
 use std::alloc::{AllocError, Global};
 

@@ -3,8 +3,8 @@ ghost use Rattle.std.specs.Prelude.{◌≡◌};
 ghost use Rattle.go_tree_nodes.specs.Shapes.{shape, shape_key};
 ghost use Rattle.go_expr_core.specs.Places as places;
 
-use go_literal_core::denote_core::Stand;
-use go_literal_core::tree_core::Role;
+use go_denote_core::Stand;
+use go_tree_core::Role;
 use go_tree_nodes::token_core::Operator;
 use go_tree_nodes::{Expr, Key, Usage, type_name_start, type_start};
 

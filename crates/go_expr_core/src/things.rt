@@ -1,8 +1,8 @@
 //! What is noted of an expression.
-use go_literal_core::denote_core::{Denoted, Outcome};
-use go_literal_core::tree_core::Role;
+use go_denote_core::text_core::Rule;
+use go_denote_core::{Denoted, Outcome};
 use go_local_core::Fault;
-use go_tree_nodes::text_core::Rule;
+use go_tree_core::Role;
 
 /// What an occurrence has: an identifier at its first byte, or a call at its opening parenthesis.
 ///

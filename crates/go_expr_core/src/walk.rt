@@ -1,15 +1,15 @@
 //! The walk over an expression.
 ghost use Rattle.std.specs.Prelude.{◌≡◌, ◌<◌, ◌++◌, [], ◌∷◌, length, slice_set, IfOk, OnOk};
-ghost use Rattle.go_literal_core.specs.tree_core.declared.occurrence.Role.TheVariants as roles;
-ghost use Rattle.go_literal_core.specs.denote_core.declared.things.Stand.TheVariants as stands;
-ghost use Rattle.go_literal_core.specs.Literals.{literal_denotes as type_denotes};
+ghost use Rattle.go_tree_core.specs.declared.occurrence.Role.TheVariants as roles;
+ghost use Rattle.go_denote_core.specs.declared.things.Stand.TheVariants as stands;
+ghost use Rattle.go_denote_core.specs.composite.Literals.{literal_denotes as type_denotes};
 ghost use Rattle.go_tree_nodes.specs.Shapes.{shape, items_of, shape_key};
 ghost use Rattle.go_tree_nodes.specs.Starts as starts;
 ghost use Rattle.go_tree_nodes.specs.TypeShapes.{shape_type};
-ghost use Rattle.go_literal_core.specs.Marks.{type_fields};
-ghost use Rattle.go_literal_core.specs.denote_core.Arguments as arguments;
-ghost use Rattle.go_literal_core.specs.denote_core.Calls as calls;
-ghost use Rattle.go_literal_core.specs.denote_core.Look.{look_of};
+ghost use Rattle.go_denote_core.specs.composite.Marks.{type_fields};
+ghost use Rattle.go_denote_core.specs.Arguments as arguments;
+ghost use Rattle.go_denote_core.specs.Calls as calls;
+ghost use Rattle.go_denote_core.specs.Look.{look_of};
 ghost use Rattle.go_expr_core.specs.Operators as operators;
 ghost use Rattle.go_expr_core.specs.Looks.{everywhere};
 ghost use Rattle.go_expr_core.specs.Places as places;
@@ -32,12 +32,14 @@ use crate::places::{
 };
 use crate::things::{Notes, Use};
 use crate::types::check_type;
-use go_literal_core::constant_core::{Constant, ConstantText, natural};
-use go_literal_core::denote_core::{Denoted, Stand, dot_of};
-use go_literal_core::operand_core::{Operand, ValueType};
-use go_literal_core::{KeyMark, Mode, element_target, literal_denotes, literal_mode, literal_rule};
+use go_constant_core::{Constant, ConstantText, natural};
+use go_denote_core::composite::{
+    KeyMark, Mode, element_target, literal_denotes, literal_mode, literal_rule,
+};
+use go_denote_core::operand_core::{Operand, ValueType};
+use go_denote_core::text_core::Span;
+use go_denote_core::{Denoted, Stand, dot_of};
 use go_local_core::Fault;
-use go_tree_nodes::text_core::Span;
 use go_tree_nodes::token_core::Operator;
 use go_tree_nodes::{
     Expr, Ident, Item, Key, TextLiteral, TypeExpr, TypeName, type_name_start, type_start,

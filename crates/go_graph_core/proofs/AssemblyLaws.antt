@@ -3,8 +3,8 @@ use Rattle.std.proofs.Common.{◌≡◌, ℕ, zero, suc, All, ◌≤◌, inl, in
 use Rattle.std.specs.List.{position}
 use Rattle.std.proofs.lemmas.Bool.{ltb-true, ltb-false}
 use lib.Dec.{ltb}
-use Rattle.go_path_core.specs.text_core.declared.rule.Rule.TheVariants.{K2, K3, K4}
-use Rattle.go_path_core.specs.text_core.Each.{true_or_false}
+use Rattle.go_collections_core.specs.text_core.declared.rule.Rule.TheVariants.{K2, K3, K4}
+use Rattle.go_collections_core.specs.text_core.Each.{true_or_false}
 use Rattle.go_graph_core.specs.declared.assembly.KFault.{KFault}
 use Rattle.go_graph_core.specs.Sources.{SourceModel, clause_of}
 use Rattle.go_graph_core.specs.mirrors.Clauses.{place_in, lacks_clause, is_named, is_other}

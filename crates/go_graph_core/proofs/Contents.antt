@@ -9,7 +9,7 @@ use Rattle.std.proofs.lemmas.List.Elements.{All-push}
 use lib.Dec.{eqb}
 use denote.Ref.{Bor}
 use denote.Enum.Bare.{sameb, same_true, true_same}
-use Rattle.go_path_core.specs.text_core.contracts.rule.Rule as rule
+use Rattle.go_collections_core.specs.text_core.contracts.rule.Rule as rule
 use Rattle.go_tree_nodes.specs.declared.files.File.{File}
 use Rattle.go_tree_nodes.specs.Trees.{FileTree}
 use Rattle.go_parse_core.specs.declared.error.SynFault.{SynFault}

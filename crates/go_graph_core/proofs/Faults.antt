@@ -7,8 +7,8 @@ use Rattle.std.proofs.lemmas.Option.{slice_get-get_or, get_or_from_slice_get}
 use Rattle.std.proofs.lemmas.Bool.{ltb-true, ltb-false, lt-ltb}
 use lib.Dec.{ltb}
 use denote.Ref.{Bor}
-use Rattle.go_path_core.specs.text_core.declared.rule.Rule.TheVariants.{K2, K3, K4}
-use Rattle.go_path_core.specs.text_core.Each.{true_or_false}
+use Rattle.go_collections_core.specs.text_core.declared.rule.Rule.TheVariants.{K2, K3, K4}
+use Rattle.go_collections_core.specs.text_core.Each.{true_or_false}
 use Rattle.go_graph_core.specs.declared.assembly.ClauseFlaw.{ClauseFlaw}
 use Rattle.go_graph_core.specs.declared.assembly.ClauseFlaw.TheVariants.{NotNamed}
 use Rattle.go_graph_core.specs.declared.assembly.KFault.{KFault}

@@ -1,6 +1,6 @@
 -- The imports of a file and its import occurrences.
 use Rattle.std.proofs.Common.{◌≡◌, ◌++◌, List, [], ◌∷◌, Option, map, refl, sym, ◌∙◌, ap}
-use Rattle.go_path_core.specs.text_core.declared.span.Span.{Span}
+use Rattle.go_collections_core.specs.text_core.declared.span.Span.{Span}
 use Rattle.go_tree_nodes.specs.Terminals.{value_of}
 use Rattle.go_tree_nodes.specs.Trees.{ImportTree, ImportSpecTree, Specs, Single, Group}
 use Rattle.go_parse_core.specs.tree_core.Names.{import_strings, take_group, take_specs}

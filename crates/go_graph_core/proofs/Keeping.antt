@@ -19,7 +19,7 @@ use Rattle.std.proofs.lemmas.Map.Text.{is_eq-slice_cmp}
 use Rattle.std.proofs.lemmas.Slice.Eq.{bytes_eq-Decides}
 use Rattle.std.specs.declared.string.String.{String}
 use lib.Dec.{eqb}
-use Rattle.go_path_core.specs.text_core.Each.{true_or_false}
+use Rattle.go_collections_core.specs.text_core.Each.{true_or_false}
 use Rattle.go_path_core.specs.Path.{elements, IsPath, IsPrefix}
 use Rattle.go_path_core.proofs.Paths.{begins_is}
 use Rattle.go_graph_core.specs.Sources.{SourceModel}

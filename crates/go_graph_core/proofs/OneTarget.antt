@@ -1,7 +1,7 @@
 -- An import comes to one target at most, cycles left aside.
 use Rattle.std.proofs.Common.{◌≡◌, ℕ, ◌⊎◌, inl, inr, List, Option, Some, Ok, Err, Result, slice_get, refl, sym, ◌∙◌, ap, subst, arith}
 use Rattle.std.proofs.lemmas.Bool.{cases_lt}
-use Rattle.go_path_core.specs.text_core.declared.rule.Rule.TheVariants.{I1, I2, I3, I5, I6}
+use Rattle.go_collections_core.specs.text_core.declared.rule.Rule.TheVariants.{I1, I2, I3, I5, I6}
 use Rattle.go_path_core.specs.Path.{elements, IsPath, MayImport}
 use Rattle.go_graph_core.specs.declared.assembly.KFault.{KFault}
 use Rattle.go_graph_core.specs.declared.imports.ImportOutcome.{ImportOutcome}

@@ -7,12 +7,12 @@ use Rattle.std.proofs.lemmas.List.{get_or_past}
 use Rattle.std.proofs.lemmas.List.Elements.{All-cons, All-weaker}
 use Rattle.std.proofs.lemmas.List.FromFn.{get_or-map-range_with_len, length-map-range_with_len}
 use Rattle.std.proofs.lemmas.List.Sorted.{All-permutation, IsNonDecreasingBy-short, IsPermutation-cons, IsPermutation-middle, IsPermutation-refl, IsPermutation-sym, IsPermutation-trans}
-use Rattle.go_reach_core.specs.cycle_core.declared.edge.Edge.{Edge}
-use Rattle.go_reach_core.specs.cycle_core.Cycle.{InRange, Reaches, IsRanking, IsAfter}
-use Rattle.go_reach_core.specs.cycle_core.mirrors.Search.{IsReach, IsReachCount}
-use Rattle.go_reach_core.specs.cycle_core.Counts.{ranking_from_counts}
-use Rattle.go_reach_core.specs.cycle_core.Sorts.{after_by_rank}
-use Rattle.go_reach_core.specs.cycle_core.Walks.{reach_stays}
+use Rattle.go_digraph_core.specs.declared.cycle.edge.Edge.{Edge}
+use Rattle.go_digraph_core.specs.cycle.Cycle.{InRange, Reaches, IsRanking, IsAfter}
+use Rattle.go_digraph_core.specs.cycle.mirrors.Search.{IsReach, IsReachCount}
+use Rattle.go_digraph_core.proofs.CycleCounts.{ranking_from_counts}
+use Rattle.go_digraph_core.proofs.CycleSorts.{after_by_rank}
+use Rattle.go_digraph_core.proofs.CycleWalks.{reach_stays}
 use Rattle.go_graph_core.proofs.Reaching.{reach_decided}
 
 -- whether a fact that is decided holds

@@ -5,13 +5,13 @@ use Rattle.std.proofs.lemmas.Bool.{cases_lt, cases_eq}
 use Rattle.std.proofs.lemmas.List.Elements.{All-nil, All-cons, All-head, All-tail, All-contains}
 use Rattle.std.proofs.lemmas.Option.{get_or_from_slice_get, slice_get_within}
 use Rattle.std.proofs.lemmas.Slice.Eq.{bytes_eq-Decides}
-use Rattle.go_path_core.specs.text_core.declared.rule.Rule.{Rule}
-use Rattle.go_path_core.specs.text_core.declared.rule.Rule.TheVariants.{I1, I2, I3, I5, I6}
+use Rattle.go_collections_core.specs.text_core.declared.rule.Rule.{Rule}
+use Rattle.go_collections_core.specs.text_core.declared.rule.Rule.TheVariants.{I1, I2, I3, I5, I6}
 use Rattle.go_path_core.specs.Path.{elements, IsPath, IsElement, IsPathByte, MayImport}
 use Rattle.go_path_core.specs.mirrors.Steps.{importable}
 use Rattle.go_path_core.proofs.Paths.{may_import_is}
-use Rattle.go_reach_core.specs.cycle_core.declared.edge.Edge.{Edge}
-use Rattle.go_reach_core.specs.cycle_core.Cycle.{Leads}
+use Rattle.go_digraph_core.specs.declared.cycle.edge.Edge.{Edge}
+use Rattle.go_digraph_core.specs.cycle.Cycle.{Leads}
 use Rattle.go_graph_core.specs.declared.assembly.KFault.{KFault}
 use Rattle.go_graph_core.specs.declared.imports.ImportAt.{ImportAt}
 use Rattle.go_graph_core.specs.declared.imports.ImportOutcome.{ImportOutcome}

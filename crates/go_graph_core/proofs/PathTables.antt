@@ -9,8 +9,8 @@ use Rattle.std.proofs.lemmas.Iterator.Adapters.{position_from-zero}
 use Rattle.std.proofs.lemmas.List.{take_more, take_all, map-append, length-map, length-take-le}
 use Rattle.std.proofs.lemmas.Map.Keys.{sorted_tail}
 use Rattle.std.proofs.lemmas.Slice.Eq.{bytes_eq-Decides}
-use Rattle.go_path_core.specs.text_core.Each.{true_or_false}
-use Rattle.go_named_core.specs.Named.{value_at}
+use Rattle.go_collections_core.specs.text_core.Each.{true_or_false}
+use Rattle.go_collections_core.specs.name_table.Named.{value_at}
 use Rattle.go_graph_core.specs.Workspaces.{PackageModel, by_bytes}
 use Rattle.go_graph_core.specs.mirrors.Placed.{placed}
 use Rattle.go_graph_core.proofs.Places.{IsOrdered, same_text, path_below}

@@ -5,9 +5,9 @@ use Rattle.std.proofs.lemmas.List.{take_more, length-take, append_assoc, append-
 use Rattle.std.proofs.lemmas.Grind.{flat_map-append}
 use Rattle.std.proofs.lemmas.List.Elements.{Contains-append_left, Contains-append_right, Contains-append_cases, Contains-push_cases, Contains-get_or, All-weaker}
 use Rattle.std.proofs.lemmas.Option.{slice_get_within}
-use Rattle.go_reach_core.specs.cycle_core.declared.edge.Edge.{Edge}
-use Rattle.go_reach_core.specs.cycle_core.Cycle.{InRange, IsOnCycle}
-use Rattle.go_reach_core.specs.cycle_core.Walks.{by_more}
+use Rattle.go_digraph_core.specs.declared.cycle.edge.Edge.{Edge}
+use Rattle.go_digraph_core.specs.cycle.Cycle.{InRange, IsOnCycle}
+use Rattle.go_digraph_core.proofs.CycleWalks.{by_more}
 use Rattle.go_graph_core.specs.declared.imports.ImportAt.{ImportAt}
 use Rattle.go_graph_core.specs.declared.imports.ImportOutcome.{ImportOutcome}
 use Rattle.go_graph_core.specs.declared.imports.ImportOutcome.TheVariants.{Package, Refused}

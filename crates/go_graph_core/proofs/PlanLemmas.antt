@@ -4,8 +4,8 @@ use Rattle.std.specs.List.{AllZip, Contains, filter, range_with_len}
 use Rattle.std.specs.List.Sorted.{IsPermutation}
 use Rattle.std.specs.Option.{option_and_then}
 use Rattle.std.proofs.lemmas.List.{length-map}
-use Rattle.go_reach_core.specs.cycle_core.declared.edge.Edge.{Edge}
-use Rattle.go_reach_core.specs.cycle_core.Cycle.{IsRanking, IsAfter}
+use Rattle.go_digraph_core.specs.declared.cycle.edge.Edge.{Edge}
+use Rattle.go_digraph_core.specs.cycle.Cycle.{IsRanking, IsAfter}
 use Rattle.go_graph_core.specs.declared.imports.ImportAt.{ImportAt}
 use Rattle.go_graph_core.specs.declared.imports.ImportOutcome.{ImportOutcome}
 use Rattle.go_graph_core.specs.declared.imports.ImportOutcome.TheVariants.{Package, Refused}

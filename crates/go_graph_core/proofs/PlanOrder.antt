@@ -13,9 +13,9 @@ use Rattle.std.proofs.lemmas.List.Sorted.{Contains-permutation}
 use Rattle.std.proofs.lemmas.Map.Keys.{IsDistinct-from_apart, IsDistinct-IsPermutation}
 use Rattle.std.proofs.lemmas.Map.Made.{AllPairs-from_IsDistinct, IsDistinct-from_AllPairs}
 use Rattle.std.proofs.lemmas.Option.{slice_get_within}
-use Rattle.go_path_core.specs.text_core.Each.{true_or_false}
-use Rattle.go_reach_core.specs.cycle_core.declared.edge.Edge.{Edge}
-use Rattle.go_reach_core.specs.cycle_core.Cycle.{IsOnCycle, IsAfter}
+use Rattle.go_collections_core.specs.text_core.Each.{true_or_false}
+use Rattle.go_digraph_core.specs.declared.cycle.edge.Edge.{Edge}
+use Rattle.go_digraph_core.specs.cycle.Cycle.{IsOnCycle, IsAfter}
 use Rattle.go_graph_core.specs.declared.imports.Standing.{Standing}
 use Rattle.go_graph_core.specs.declared.imports.Standing.TheVariants.{Library, Main, Faulty}
 use Rattle.go_graph_core.specs.Sources.{SourceModel}

@@ -5,11 +5,11 @@ use Rattle.std.specs.Prelude.{IfOk}
 use Rattle.std.proofs.lemmas.List.{length-map}
 use Rattle.std.proofs.lemmas.List.Elements.{All-contains, Contains-get_or}
 use Rattle.std.proofs.lemmas.Option.{slice_get_within}
-use Rattle.go_reach_core.specs.cycle_core.declared.edge.Edge.{Edge}
-use Rattle.go_reach_core.specs.cycle_core.Cycle.{InRange}
-use Rattle.go_reach_core.specs.cycle_core.Walks.{by_more}
-use Rattle.go_reach_core.specs.Numbers.{Numbers}
-use Rattle.go_reach_core.specs.Reach.{ReachesByEdges, AreReachSets, AreStarts, EndsStandBefore}
+use Rattle.go_digraph_core.specs.declared.cycle.edge.Edge.{Edge}
+use Rattle.go_digraph_core.specs.cycle.Cycle.{InRange}
+use Rattle.go_digraph_core.proofs.CycleWalks.{by_more}
+use Rattle.go_digraph_core.specs.reach.Numbers.{Numbers}
+use Rattle.go_digraph_core.specs.reach.Reach.{ReachesByEdges, AreReachSets, AreStarts, EndsStandBefore}
 use Rattle.go_graph_core.specs.declared.imports.ImportAt.{ImportAt}
 use Rattle.go_graph_core.specs.declared.imports.ImportOutcome.{ImportOutcome}
 use Rattle.go_graph_core.specs.declared.imports.ImportOutcome.TheVariants.{Package}

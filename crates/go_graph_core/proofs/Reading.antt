@@ -15,7 +15,7 @@ use Rattle.std.proofs.lemmas.List.{append-nil}
 use Rattle.std.proofs.lemmas.List.Sorted.{IsPermutation-map, All-permutation}
 use Rattle.std.proofs.lemmas.Map.Keys.{sorted_from_all_adjacent, apart_from_distinct, IsDistinct-IsPermutation}
 use Rattle.std.proofs.lemmas.Slice.Eq.{bytes_eq-Decides}
-use Rattle.go_path_core.specs.text_core.declared.rule.Rule.TheVariants.{K4}
+use Rattle.go_collections_core.specs.text_core.declared.rule.Rule.TheVariants.{K4}
 use Rattle.go_graph_core.specs.Sources.{SourceModel, source, IsRead}
 use Rattle.go_graph_core.specs.Workspaces.{by_bytes, names_of_files, given_files, HaveDistinctNames, AreReadFrom}
 use Rattle.go_graph_core.proofs.Places.{turned, equal_texts}

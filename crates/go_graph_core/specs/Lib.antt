@@ -6,8 +6,5 @@ pub mod Plans
 pub mod Sources
 pub mod Workspaces
 pub mod mirrors
-pub mod cycle_core
+pub mod collections_core
 pub mod parse_core
-pub mod path_core
-pub mod scan_core
-pub mod token_core

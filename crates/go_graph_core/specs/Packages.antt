@@ -1,6 +1,6 @@
 -- Which files make a package.
 use Rattle.std.specs.Prelude.{◌≡◌, ◌≢◌, ◌<◌, ◌⊎◌, ℕ, List, [], ◌∷◌, length, Result, Ok, Err, Some, None, All, slice_get, codes}
-use Rattle.go_path_core.specs.text_core.declared.rule.Rule.TheVariants.{K2, K3, K4}
+use Rattle.go_collections_core.specs.text_core.declared.rule.Rule.TheVariants.{K2, K3, K4}
 use Rattle.go_tree_nodes.specs.declared.names.Ident.{Ident}
 use Rattle.go_tree_nodes.specs.Trees.{FileTree}
 use Rattle.go_parse_core.specs.declared.error.SynFault.{SynFault}

@@ -9,8 +9,8 @@ ghost use Rattle.go_tree_nodes.specs.Spelling.{IsPlaced};
 
 use crate::source::SourceFile;
 use crate::workspace::PackageSource;
+use go_collections_core::text_core::Rule;
 use go_path_core::ImportPath;
-use go_path_core::text_core::Rule;
 use go_tree_nodes::{File, Ident};
 use std::alloc::AllocError;
 use std::marker::Model;

@@ -25,27 +25,18 @@ pub use planning::{Plan, plan_imports};
 pub use source::SourceFile;
 pub use workspace::{PackageSource, Workspace, read_files};
 
-/// What the crates above name of `go_cycle_core`.
-pub mod cycle_core {
-    pub use go_reach_core::cycle_core::leading_to;
+/// What the crates above name of `go_collections_core`.
+pub mod collections_core {
+    pub use go_collections_core::name_table::NameTable;
+    pub use go_collections_core::persistent_list::Pieces;
 }
 
 /// What the crates above name of `go_parse_core`.
 pub mod parse_core {
-    pub use go_parse_core::{one_rule, one_tree};
-}
-
-/// What the crates above name of `go_parse_types`.
-pub mod parse_types {
-    pub use go_parse_core::parse_types::add;
+    pub use go_parse_core::{ParseError, Parsed, SynFault, one_rule, one_tree, parse, tree_of};
 }
 
 /// What the crates above name of `go_path_core`.
 pub mod path_core {
-    pub use go_path_core::{ImportPath, PathText, may_import, may_import_text};
-}
-
-/// What the crates above name of `go_token_core`.
-pub mod token_core {
-    pub use go_parse_core::token_core::{KEYWORDS, characters_of};
+    pub use go_path_core::ImportPath;
 }

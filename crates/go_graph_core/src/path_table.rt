@@ -7,7 +7,7 @@ ghost use Rattle.go_graph_core.specs.Workspaces.{by_bytes};
 ghost use Rattle.go_graph_core.specs.mirrors.Placed.{placed};
 
 use crate::workspace::PackageSource;
-use go_named_core::NameTable;
+use go_collections_core::name_table::NameTable;
 use std::alloc::{AllocError, Global};
 use std::marker::Model;
 

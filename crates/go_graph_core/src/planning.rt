@@ -1,15 +1,15 @@
 //! The import plan of a workspace: what each import comes to, and an order of the packages.
 ghost use Rattle.std.specs.Prelude.{◌≡◌, ◌++◌, [], All, IfOk, OnOk, length, map};
 ghost use Rattle.std.specs.List.{AllZip, flat_map, filter};
-ghost use Rattle.go_reach_core.specs.cycle_core.Cycle.{InRange};
+ghost use Rattle.go_digraph_core.specs.cycle.Cycle.{InRange};
 ghost use Rattle.go_graph_core.specs.Plans.{IsPlan, IsOrderly, AreImporters, AreReached, outcome_at, outcomes_shown, plan_of, plan_with};
 ghost use Rattle.go_graph_core.specs.mirrors.Targets.{IsSettled, AreSettled, AreAllSettled, edge_of, package_edges, edges_from, is_assembled};
 
 use crate::imports::{ImportAt, ImportOutcome, Standing, standings, targets};
 use crate::workspace::Workspace;
-use go_path_core::text_core::Rule;
-use go_reach_core::cycle_core::{Edge, Ranked, rank_and_order};
-use go_reach_core::{Reached, find_reached, starts_of};
+use go_collections_core::text_core::Rule;
+use go_digraph_core::cycle::{Edge, Ranked, rank_and_order};
+use go_digraph_core::reach::{Reached, find_reached, starts_of};
 use std::alloc::{AllocError, Global};
 use std::marker::Model;
 use std::sync::Arc;
@@ -148,7 +148,7 @@ impl Drop for Plan {
 impl Model for Plan {
     ghost use Rattle.std.specs.Prelude.{length};
     ghost use Rattle.std.specs.Arc.{arc_value};
-    ghost use Rattle.go_reach_core.specs.cycle_core.Cycle.{InRange};
+    ghost use Rattle.go_digraph_core.specs.cycle.Cycle.{InRange};
     ghost use Rattle.go_graph_core.specs.Plans.{PlanModel, plan_of, plan_with, outcomes_shown, IsOrderly};
 
     ghost Value = { PlanModel };

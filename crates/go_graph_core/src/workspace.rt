@@ -8,8 +8,8 @@ ghost use Rattle.go_graph_core.specs.Sources.{IsRead, IsPlacedSource};
 ghost use Rattle.go_graph_core.specs.Workspaces.{by_bytes, names_of_files, IsWorkspace, IsPackage, AreAllRead, HaveDistinctNames, given_files, texts_of_files, AreReadFrom, Puts, Replaces, put_all, packages_inside, is_path_inside};
 
 use crate::source::SourceFile;
-use go_parse_core::parse_types::add;
-use go_path_core::text_core::Rule;
+use go_collections_core::text_core::Rule;
+use go_parse_core::parse_reader::add;
 use go_path_core::{ImportPath, Module};
 use std::alloc::{AllocError, Global};
 use std::marker::Model;

@@ -1,7 +1,7 @@
 -- What the lock's value tells of a refusal.
 use Rattle.std.proofs.Common.{◌≡◌, ◌⊎◌, ℕ, List, [], Option, Some, None, inl, inr, ⊎_elim, subst}
-use Rattle.go_text_core.specs.declared.rule.Rule.{Rule}
-use Rattle.go_text_core.specs.declared.rule.Rule.TheVariants.{M0}
+use Rattle.go_path_core.specs.text_core.declared.rule.Rule.{Rule}
+use Rattle.go_path_core.specs.text_core.declared.rule.Rule.TheVariants.{M0}
 use Rattle.go_graph_core.specs.Workspaces.{PackageModel}
 use Rattle.go_hall_core.specs.sched_core.Service.{Service, empty, open_rule, submit_rule}
 use Rattle.go_hall_core.specs.sched_core.Steps.{Replay}

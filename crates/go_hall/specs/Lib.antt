@@ -2,9 +2,6 @@ pub mod Coding
 pub mod Refusals
 pub mod Seat
 pub mod batch_core
-pub mod board_core
-pub mod draft_core
 pub mod hall_core
 pub mod sched_core
-pub mod snap_core
-pub mod submit_core
+pub mod session_core

@@ -1,7 +1,7 @@
 -- What refuses an open and a build.
 use Rattle.std.specs.Prelude.{◌≡◌, ◌⊎◌, ℕ, Bool, List, Option, Some}
-use Rattle.go_text_core.specs.declared.rule.Rule.{Rule}
-use Rattle.go_text_core.specs.declared.rule.Rule.TheVariants.{M0, H2}
+use Rattle.go_path_core.specs.text_core.declared.rule.Rule.{Rule}
+use Rattle.go_path_core.specs.text_core.declared.rule.Rule.TheVariants.{M0, H2}
 use Rattle.go_hall_core.specs.sched_core.Service.{Service, empty, open_rule, submit_rule}
 use Rattle.go_hall_core.specs.sched_core.Steps.{Replay}
 use Rattle.go_hall_core.specs.sched_core.declared.event.Event.{Event}

@@ -1,2 +1,2 @@
 -- What the crates above name of go_batch_core.
-pub use Rattle.go_hall_core.specs.batch_core.contracts as contracts
+pub use Rattle.go_batch_core.specs.contracts as contracts

@@ -14,7 +14,7 @@ use go_hall_core::sched_core::{Event, SessionId, TicketState};
 use go_hall_core::submit_core::{ModuleTree, Ticket};
 use go_hall_core::{Counted, Named, Stamps, Submits};
 use go_path_core::Module;
-use go_text_core::Rule;
+use go_path_core::text_core::Rule;
 use std::alloc::Global;
 use std::sync::atomic::{AtomicU64, Ordering};
 use std::sync::ledger::Blank;

@@ -6,13 +6,20 @@ mod hall;
 mod session;
 mod worker;
 
-pub use go_look_core::draft_core::edits_change_one_file;
-pub use go_look_core::{Fault, Look};
+pub use go_session_core::overlay::edits_change_one_file;
+pub use go_session_core::queries::{Fault, Look};
 pub use hall::Hall;
 pub use session::{Built, Session};
 pub use worker::{Gate, OpenGate, WorkEnd, work};
 
 /// What the crates above name of `go_hall_core`.
 pub mod hall_core {
-    pub use go_hall_core::{Named, Stamps};
+    pub use go_hall_core::{Errand, Named, Seen, Stamps, Submits};
+}
+
+/// What the crates above name of `go_sched_core`.
+pub mod sched_core {
+    pub use go_hall_core::sched_core::{
+        Action, Committed, Core, Event, MAX_EVENTS, Ran, Reply, SessionId, TicketState, run_events,
+    };
 }

@@ -1,21 +1,21 @@
 //! Sessions, which read the board with no lock.
 ghost use Rattle.std.specs.Prelude.{◌≡◌, ◌+◌, IfErr, IfOk, OnOk, option_map, string_bytes};
 ghost use Rattle.go_hall_core.specs.submit_core.Published.{BeginsWith};
-ghost use Rattle.go_look_core.specs.Asked.{BeginsTold, IsAnswer, IsPartAnswer};
-ghost use Rattle.go_look_core.specs.Built.{IsBuilt};
-ghost use Rattle.go_look_core.specs.draft_core.Edits.{IsEditOf, IsEditRefusal};
+ghost use Rattle.go_session_core.specs.queries.Asked.{BeginsTold, IsAnswer, IsPartAnswer};
+ghost use Rattle.go_session_core.specs.queries.Built.{IsBuilt};
+ghost use Rattle.go_session_core.specs.overlay.Edits.{IsEditOf, IsEditRefusal};
 ghost use Rattle.go_hall.specs.Refusals.{IsBuildRefusal};
-ghost use Rattle.go_look_core.specs.Looked.{looked_with};
+ghost use Rattle.go_session_core.specs.queries.Looked.{looked_with};
 
 use crate::hall::Hall;
 use go_hall_core::board_core::{Board, BoardReader, Sees};
-use go_hall_core::part_core::Part;
 use go_hall_core::sched_core::SessionId;
 use go_hall_core::submit_core::ModuleTree;
 use go_hall_core::{Named, Submits};
-use go_look_core::draft_core::edited;
-use go_look_core::{Fault, Look, faults_built};
-use go_text_core::Rule;
+use go_package_core::package_part::Part;
+use go_path_core::text_core::Rule;
+use go_session_core::overlay::edited;
+use go_session_core::queries::{Fault, Look, faults_built};
 use std::alloc::{AllocError, Global};
 use std::marker::Model;
 use std::sync::Wait;

@@ -2,10 +2,10 @@
 ghost use Rattle.std.specs.Prelude.{◌≡◌, IfErr, IfOk, IfSome};
 
 use crate::hall::Hall;
-use go_hall_core::batch_core::{ReadPart, rebuild};
+use go_batch_core::ReadPart;
 use go_hall_core::sched_core::{Action, Reply};
-use go_hall_core::{Errand, Named};
-use go_text_core::Rule;
+use go_hall_core::{Errand, Named, Seen};
+use go_path_core::text_core::Rule;
 use std::alloc::Global;
 use std::sync::{CondvarTimeouts, Wait};
 use std::thread::Threads;
@@ -13,18 +13,19 @@ use std::time::{Clock, Duration};
 
 /// Does an action's work, with no lock held. It is not asked of an action that was finished by its earlier part.
 pub trait Gate {
-    /// A part of the action's input, or `None` where the gate is closed.
+    /// A part of the action's input, made over what the worker sees, or `None` where the gate is closed.
     ///
     /// # Errors
     ///
     /// `Rule::M0` where memory is wanting.
-    fn part<R: Threads + Sync>(
+    fn part<L: Named, R: Threads + Sync>(
         &self,
         rt: &R,
         alloc: Global,
-        action: &Action,
+        errand: &Errand<L>,
+        seen: &mut Seen<L>,
     ) -> Result<Option<ReadPart>, Rule>
-        ensures ok { IfOk result (λ o. IfSome o (λ p. p.input ≡ action.now.input)) }
+        ensures ok { IfOk result (λ o. IfSome o (λ p. p.input ≡ errand.now.action.input)) }
         ensures err { IfErr result (λ rule. rule ≡ Rule.M0) };
 }
 
@@ -34,18 +35,19 @@ pub trait Gate {
 pub struct OpenGate;
 
 impl Gate for OpenGate {
-    fn part<R: Threads + Sync>(
+    fn part<L: Named, R: Threads + Sync>(
         &self,
         _rt: &R,
         alloc: Global,
-        action: &Action,
+        errand: &Errand<L>,
+        seen: &mut Seen<L>,
     ) -> Result<Option<ReadPart>, Rule> {
-        let earlier = if action.other {
+        let earlier = if errand.action.other {
             None
         } else {
-            action.earlier.as_ref()
+            errand.action.earlier.as_ref()
         };
-        match rebuild(alloc, &action.input, earlier, action.generation) {
+        match seen.rebuild(alloc, errand, earlier) {
             Ok(part) => Ok(Some(part)),
             Err(_) => Err(Rule::M0),
         }
@@ -108,8 +110,9 @@ fn next<L: Named, R: Wait + Clock>(rt: &R, hall: &Hall<L>) -> Option<Errand<L>> 
     unreachable!()
 }
 
-// Hands a part in. Where memory is wanting, its batch is given back. Workers are waked for the actions behind it, and builds where a batch is over.
-fn finish<L: Named, R: Wait>(rt: &R, hall: &Hall<L>, errand: &Errand<L>, part: ReadPart)
+// Hands a part in, and tells whether its batch is over. Where memory is wanting, the batch is given back. Workers are waked for the actions after it, and
+// builds where the batch is over.
+fn finish<L: Named, R: Wait>(rt: &R, hall: &Hall<L>, errand: &Errand<L>, part: ReadPart) -> bool
     requires { part.input ≡ errand.now.action.input }
 {
     let mut state = hall.state.lock(rt);
@@ -126,6 +129,7 @@ fn finish<L: Named, R: Wait>(rt: &R, hall: &Hall<L>, errand: &Errand<L>, part: R
     if is_over {
         hall.built.notify_all();
     }
+    is_over
 }
 
 // Gives the batch of an action back.
@@ -141,12 +145,17 @@ pub fn work<L: Named, G: Gate, R: Threads + Wait + Clock + Sync>(
     hall: &Hall<L>,
     gate: &G,
 ) -> WorkEnd {
+    let mut seen = Seen::new();
     for _ in rt.forever() {
         let Some(errand) = next(rt, hall) else {
             return WorkEnd::Stopped;
         };
-        match gate.part(rt, hall.alloc, &errand.action) {
-            Ok(Some(part)) => finish(rt, hall, &errand, part),
+        match gate.part(rt, hall.alloc, &errand, &mut seen) {
+            Ok(Some(part)) => {
+                if finish(rt, hall, &errand, part) {
+                    seen.forget();
+                }
+            }
             Ok(None) => {
                 give_back(rt, hall, &errand.action);
                 return WorkEnd::GateClosed;

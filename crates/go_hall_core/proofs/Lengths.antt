@@ -2,8 +2,8 @@
 use Rattle.std.proofs.Common.{◌≡◌, ◌⊎◌, ℕ, suc, ◌+◌, ◌≤◌, ◌<◌, Bool, true, false, true≢false, List, [], ◌∷◌, ◌++◌, length, Option, Some, None, refl, sym, ap, ◌∙◌, subst, inl, inr, ⊎_elim, arith}
 use Rattle.std.specs.Prelude.{nat_lt, nat_le, if◌then◌else◌}
 use Rattle.std.proofs.lemmas.List.{length_push}
-use Rattle.go_text_core.specs.declared.rule.Rule.TheVariants.{O1, O3, O4, H1}
-use Rattle.go_board_core.specs.part_core.Parts.{PartModel}
+use Rattle.go_path_core.specs.text_core.declared.rule.Rule.TheVariants.{O1, O3, O4, H1}
+use Rattle.go_package_core.specs.package_part.Parts.{PartModel}
 use Rattle.go_board_core.specs.submit_core.Trees.{TreeModel}
 use Rattle.go_sched_core.specs.Service.{Service, counted, empty, is_full, is_history_full, is_held, clashes, history_rule, most_events, open_rule, taken_modules}
 use Rattle.go_sched_core.specs.Steps.{Finishes, Replay, Step, Takes, TakesNew, TakesOf, accepts}

@@ -3,4 +3,7 @@ pub mod Pushes
 pub mod Refusals
 pub mod Replays
 pub mod Rooms
+pub mod Seeing
 pub mod Stamps
+pub mod StampingAdding
+pub mod StampingBeginnings

@@ -1,7 +1,7 @@
 -- One more event in a history.
 use Rattle.std.proofs.Common.{◌≡◌, ℕ, ◌+◌, ◌≤◌, ◌<◌, Bool, true, false, List, [], ◌∷◌, ◌++◌, length, Option, Some, None, refl, ap, ◌∙◌, arith}
 use Rattle.std.specs.Prelude.{MatchOption}
-use Rattle.go_board_core.specs.part_core.Parts.{PartModel}
+use Rattle.go_package_core.specs.package_part.Parts.{PartModel}
 use Rattle.go_sched_core.specs.Steps.{accepts}
 use Rattle.go_sched_core.specs.declared.event.Event.{Event}
 use Rattle.go_sched_core.specs.declared.event.Event.TheVariants.{Finish, Open}

@@ -1,8 +1,8 @@
 -- What a refused open or submission breaks.
 use Rattle.std.proofs.Common.{◌≡◌, ◌⊎◌, ℕ, Bool, true, false, true≢false, List, Option, Some, refl, sym, ap, inl, inr, ⊎_elim, subst}
 use Rattle.std.specs.Prelude.{if◌then◌else◌}
-use Rattle.go_text_core.specs.declared.rule.Rule.{Rule}
-use Rattle.go_text_core.specs.declared.rule.Rule.TheVariants.{M0}
+use Rattle.go_path_core.specs.text_core.declared.rule.Rule.{Rule}
+use Rattle.go_path_core.specs.text_core.declared.rule.Rule.TheVariants.{M0}
 use Rattle.go_board_core.specs.submit_core.Trees.{TreeModel}
 use Rattle.go_sched_core.specs.Service.{Service, open_rule, submit_rule}
 use Rattle.go_sched_core.specs.Steps.{Step, accepts}

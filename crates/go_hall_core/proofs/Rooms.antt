@@ -6,8 +6,8 @@ use Rattle.std.proofs.lemmas.List.{length_push}
 use Rattle.std.proofs.lemmas.List.Folds.{find_at}
 use Rattle.std.proofs.lemmas.List.Edits.{length-remove}
 use Rattle.go_sched_core.specs.Prepared.{IsAllowed}
-use Rattle.go_text_core.specs.declared.rule.Rule.TheVariants.{M0, O5, Z1}
-use Rattle.go_board_core.specs.part_core.Parts.{PartModel}
+use Rattle.go_path_core.specs.text_core.declared.rule.Rule.TheVariants.{M0, O5, Z1}
+use Rattle.go_package_core.specs.package_part.Parts.{PartModel}
 use Rattle.go_board_core.specs.submit_core.Trees.{TreeModel}
 use Rattle.go_sched_core.specs.Service.{Service, module_held}
 use Rattle.go_sched_core.specs.Steps.{Finishes, Step, Takes, TakesNew, TakesOf, runs, without_at}

@@ -1,7 +1,7 @@
 -- What the lock keeps.
 use Rattle.std.specs.Prelude.{◌≡◌, ◌⊎◌, ℕ, ◌+◌, ◌≤◌, Bool, true, false, List, [], ◌∷◌, ◌++◌, length, Option, Some, None}
-use Rattle.go_text_core.specs.declared.rule.Rule.{Rule}
-use Rattle.go_text_core.specs.declared.rule.Rule.TheVariants.{M0, H1, H2}
+use Rattle.go_path_core.specs.text_core.declared.rule.Rule.{Rule}
+use Rattle.go_path_core.specs.text_core.declared.rule.Rule.TheVariants.{M0, H1, H2}
 use Rattle.go_sched_core.specs.Service.{Service, empty, most_events}
 use Rattle.go_sched_core.specs.Steps.{Replay, Step, accepts}
 use Rattle.go_sched_core.specs.declared.event.Event.{Event}

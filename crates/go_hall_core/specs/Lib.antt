@@ -1,9 +1,9 @@
 pub mod Coding
 pub mod Counts
 pub mod Kept
-pub mod batch_core
+pub mod mirrors
+pub mod stamping
 pub mod board_core
 pub mod board_core_lemmas
-pub mod mirrors
 pub mod sched_core
 pub mod submit_core

@@ -1,2 +1,3 @@
 -- What the types keep of their fields.
+pub mod Known
 pub mod Stamped

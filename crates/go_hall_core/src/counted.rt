@@ -1,7 +1,7 @@
 //! The lock's value, with the ledger of the submits, and with stamps for the actions that are handed out.
 ghost use Rattle.std.specs.Prelude.{◌≡◌, ◌⊎◌, ℕ, ◌<◌, ◌+◌, [], false, true, IfErr, IfOk, IsTrue, MatchOption, MatchResult, OnErr, OnOk, length};
 ghost use Rattle.std.specs.Option.{ForSome};
-ghost use Rattle.go_board_core.specs.part_core.Parts.{PartModel};
+ghost use Rattle.go_package_core.specs.package_part.Parts.{PartModel};
 ghost use Rattle.std.specs.List.{sum_by};
 ghost use Rattle.go_sched_core.specs.Outs.{KnowsInput};
 ghost use Rattle.go_sched_core.specs.Service.{Service, empty, open_rule, submit_rule, ticket_of};
@@ -10,14 +10,15 @@ ghost use Rattle.go_sched_core.specs.declared.event.Action.{Action};
 ghost use Rattle.go_hall_core.specs.Counts.{opens_in, submits_in};
 ghost use Rattle.go_hall_core.specs.Kept.{IsRefusal, Recorded};
 
+use crate::known::Known;
+use crate::stamping::{NamesBook, Stamp, StampBook, Stamper};
 use crate::state::HallState;
 use go_board_core::BoardReader;
 use go_board_core::submit_core::{ModuleTree, Ticket};
 use go_path_core::Module;
+use go_path_core::text_core::Rule;
 use go_sched_core::batch_core::ReadPart;
 use go_sched_core::{Action, Event, Reply, SessionId, TicketState};
-use go_stamp_core::{NamesBook, Stamp, StampBook, Stamper};
-use go_text_core::Rule;
 use std::alloc::Global;
 use std::marker::{Brand, Model};
 use std::sync::Wait;
@@ -44,11 +45,13 @@ pub struct Submits<L: Named> {
     ghost counted: { share.amount ≡ count },
 }
 
-/// An action that was handed out, with the hall's stamp where there is one.
+/// An action that was handed out, with the hall's stamp where there is one, and with what it knows of those that were stamped before it.
 pub struct Errand<L: Named> {
     pub action: Action,
     stamp: Option<Stamp<L, Action>>,
+    pub(crate) known: Known<L>,
     ghost stamped: { ForSome stamp (λ a. a ≡ action) },
+    ghost of_action: { known.action ≡ action },
 }
 
 impl<L: Named> Drop for Errand<L> {
@@ -56,6 +59,7 @@ impl<L: Named> Drop for Errand<L> {
         let Errand {
             action: _,
             stamp: _,
+            known: _,
         } = self;
     }
 }
@@ -197,7 +201,14 @@ impl<L: Named> Counted<L> {
         match self.state.take(rt) {
             Reply::Act(action) => {
                 let stamp = self.stamper.stamp(&action);
-                Ok(Errand { action, stamp })
+                self.state.is_told_once();
+                let seal = self.stamper.seal();
+                let known = Known::new(&action, stamp.is_some(), seal);
+                Ok(Errand {
+                    action,
+                    stamp,
+                    known,
+                })
             }
             reply => Err(reply),
         }

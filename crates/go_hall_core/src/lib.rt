@@ -3,32 +3,29 @@
 
 mod counted;
 mod desk;
+mod known;
 mod laws;
+mod seen;
+pub mod stamping;
 mod state;
 
 pub use counted::{Counted, Errand, Named, Stamps, Submits};
 pub use desk::Desk;
+pub use known::Known;
 pub use laws::replay_counts;
+pub use seen::Seen;
 pub use state::HallState;
-
-/// What the crates above name of `go_batch_core`.
-pub mod batch_core {
-    pub use go_sched_core::batch_core::{ReadPart, rebuild};
-}
 
 /// What the crates above name of `go_board_core`.
 pub mod board_core {
     pub use go_board_core::{Board, BoardReader, Sees};
 }
 
-/// What the crates above name of `go_part_core`.
-pub mod part_core {
-    pub use go_board_core::part_core::Part;
-}
-
 /// What the crates above name of `go_sched_core`.
 pub mod sched_core {
-    pub use go_sched_core::{Action, Event, Reply, SessionId, TicketState};
+    pub use go_sched_core::{
+        Action, Committed, Core, Event, MAX_EVENTS, Ran, Reply, SessionId, TicketState, run_events,
+    };
 }
 
 /// What the crates above name of `go_submit_core`.

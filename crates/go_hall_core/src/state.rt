@@ -1,8 +1,9 @@
 //! The lock's value.
 ghost use Rattle.std.specs.Prelude.{if◌then◌else◌, ◌+◌, ◌≡◌, ◌⊎◌, ◌<◌, ◌≤◌, ◌++◌, ◌∷◌, [], false, true, IfErr, IfOk, MatchOption, OnOk, length, vec_capacity, vec_len};
-ghost use Rattle.go_board_core.specs.part_core.Parts.{PartModel};
+ghost use Rattle.go_package_core.specs.package_part.Parts.{PartModel};
 ghost use Rattle.go_sched_core.specs.Outs.{KnowsInput};
 ghost use Rattle.go_sched_core.specs.Service.{Service, empty, open_rule, submit_rule, ticket_of};
+ghost use Rattle.go_sched_core.specs.Sights.{RunsOnce};
 ghost use Rattle.go_sched_core.specs.Steps.{Replay, Step, accepts};
 ghost use Rattle.go_hall_core.specs.Kept.{IsRefusal, Recorded, late, owed};
 
@@ -10,9 +11,9 @@ use crate::desk::{Desk, seats, show};
 use go_board_core::BoardReader;
 use go_board_core::submit_core::{ModuleTree, Ticket};
 use go_path_core::Module;
+use go_path_core::text_core::Rule;
 use go_sched_core::batch_core::ReadPart;
 use go_sched_core::{Committed, Core, Event, Ready, Reply, SessionId, TicketState};
-use go_text_core::Rule;
 use std::alloc::Global;
 use std::marker::Model;
 use std::sync::Wait;
@@ -335,6 +336,13 @@ impl HallState {
             ready,
             Event::GiveBack(generation),
         )
+    }
+
+    /// What the packages of the batch that runs tell is one summary for each path.
+    pub fn is_told_once(&self)
+        ensures { RunsOnce self.now.service.running }
+    {
+        self.core.is_told_once();
     }
 
     /// From now on nothing is opened or submitted.

@@ -1,3 +1,16 @@
 pub mod Starred
 pub mod Listed
 pub mod Telling
+pub mod DecidingTests
+pub mod DecidingAlike
+pub mod DecidingConverting
+pub mod DecidingLists
+pub mod DecidingShortening
+pub mod DecidingMatching
+pub mod DecidingSearching
+pub mod DecidingChoosing
+pub mod DecidingImplementing
+pub mod DecidingAssigning
+pub mod DecidingLocalities
+pub mod DecidingWorked
+pub mod DecidingHanding

@@ -4,8 +4,8 @@ use Rattle.std.specs.Prelude.{map, slice_get, option_map}
 use Rattle.std.proofs.lemmas.List.{length-map}
 use Rattle.std.proofs.lemmas.Option.{slice_get-map}
 use Rattle.go_term_core.specs.Terms.{Term, Terms, NoTerm, ATerm, term_list}
-use Rattle.go_decide_core.specs.table_core.Entries.{EntryLook}
-use Rattle.go_decide_core.specs.Rules.{typed, all_typed}
+use Rattle.go_table_core.specs.Entries.{EntryLook}
+use Rattle.go_handle_core.specs.deciding.Rules.{typed, all_typed}
 
 typed_list : (look : EntryLook) (ts : Terms) → all_typed look ts ≡ map (typed look) (term_list ts)
 typed_list look NoTerm = refl

@@ -1,7 +1,7 @@
 -- Types under stars.
 use Rattle.std.proofs.Common.{◌≡◌, ◌↔◌, ℕ, zero, suc, ◌-◌, ◌<◌, ◌≤◌, Bool, true, false, IsTrue, refl, sym, ap, ◌∙◌, arith}
 use Rattle.go_term_core.specs.Terms.{Term, NoType, Predeclared, ErrorType, Defined, PointerTo, StructOf, InterfaceOf}
-use Rattle.go_decide_core.specs.Identity.{identical_by, identical_under_of}
+use Rattle.go_handle_core.specs.deciding.Identity.{identical_by, identical_under_of}
 use Rattle.go_handle_core.specs.Stars.{starred, star_count}
 
 -- two tests of one thing

@@ -2,21 +2,21 @@
 use Rattle.std.proofs.Common.{◌≡◌, ◌↔◌, ℕ, zero, suc, Bool, true, false, ◌&&◌, List, [], ◌∷◌, length, IsTrue, Result, Ok, Err, inl, inr, refl, sym, ap, ◌∙◌, subst, ◌<◌, arith}
 use borrow.Author.Tests.{eqb-true}
 use Rattle.std.specs.Prelude.{nat_eq, codes, if◌then◌else◌}
-use Rattle.go_text_core.specs.Text.{is_blank}
-use Rattle.go_text_core.specs.declared.rule.Rule.{Rule}
-use Rattle.go_text_core.specs.declared.rule.Rule.TheVariants.{M0, S6, S8}
+use Rattle.go_denote_core.specs.text_core.Text.{is_blank}
+use Rattle.go_denote_core.specs.text_core.declared.rule.Rule.{Rule}
+use Rattle.go_denote_core.specs.text_core.declared.rule.Rule.TheVariants.{M0, S6, S8}
 use Rattle.go_term_core.specs.declared.term.Method.{Method}
 use Rattle.go_term_core.specs.Terms.{Term, NoType, Predeclared, ErrorType, Defined, PointerTo, StructOf, InterfaceOf, NoMethod, AMethod, Sign}
 use Rattle.go_term_core.specs.Shapes.{method_shapes}
-use Rattle.go_decide_core.specs.table_core.Entries.{Entry, find_entry, underlying_in}
-use Rattle.go_decide_core.specs.level_core.declared.search.Selected.{Selected}
-use Rattle.go_decide_core.specs.level_core.Selectors.{IsSelectorAnswer, Refused, searched}
-use Rattle.go_decide_core.specs.mset_core.declared.interface.Missing.{Missing}
-use Rattle.go_decide_core.specs.mset_core.Implementing.{error_sign, Implements, IsImplementing}
-use Rattle.go_decide_core.specs.Selecting.{selected_of, chosen_of}
-use Rattle.go_decide_core.specs.Implementing.{is_method_chosen, has_method_of, has_methods, has_methods_under, implements_of}
-use Rattle.go_decide_core.proofs.Choosing.{selectors_decided}
-use Rattle.go_decide_core.proofs.Implementing.{implementation_decided}
+use Rattle.go_table_core.specs.Entries.{Entry, find_entry, underlying_in}
+use Rattle.go_mset_core.specs.select_core.declared.levels.search.Selected.{Selected}
+use Rattle.go_mset_core.specs.select_core.LevelsSelectors.{IsSelectorAnswer, Refused, searched}
+use Rattle.go_mset_core.specs.declared.interface.Missing.{Missing}
+use Rattle.go_mset_core.specs.Implementing.{error_sign, Implements, IsImplementing}
+use Rattle.go_handle_core.specs.deciding.Selecting.{selected_of, chosen_of}
+use Rattle.go_handle_core.specs.deciding.Implementing.{is_method_chosen, has_method_of, has_methods, has_methods_under, implements_of}
+use Rattle.go_handle_core.proofs.DecidingChoosing.{selectors_decided}
+use Rattle.go_handle_core.proofs.DecidingImplementing.{implementation_decided}
 use Rattle.go_handle_core.specs.Stars.{starred}
 use Rattle.go_handle_core.specs.mirrors.Bare.{is_none, asks_nothing}
 

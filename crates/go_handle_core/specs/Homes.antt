@@ -2,7 +2,7 @@
 use Rattle.std.specs.Prelude.{◌≡◌, ℕ, List}
 use Rattle.go_term_core.specs.declared.term.Basic.TheVariants as basics
 use Rattle.go_term_core.specs.Terms.{Term, Predeclared, ErrorType, InterfaceOf, NoMethod, Sign}
-use Rattle.go_decide_core.specs.mset_core.Implementing.{error_sign}
+use Rattle.go_mset_core.specs.Implementing.{error_sign}
 
 -- the predeclared types of a package, and the signature of the method of `error`
 pub record IsHome (path : List ℕ) (int text boolean any error : Term) (of_error : Sign) : Type 0 where

@@ -3,13 +3,5 @@ pub mod Homes
 pub mod Declarations
 pub mod Names
 pub mod mirrors
-pub mod constant_core
-pub mod decide_core
-pub mod denote_core
-pub mod embed_core
-pub mod level_core
-pub mod operand_core
-pub mod select_core
-pub mod settle_core
+pub mod deciding
 pub mod table_core
-pub mod type_core

@@ -1,11 +1,11 @@
 -- What a selector chooses, with declarations.
 use Rattle.std.specs.Prelude.{ℕ, List, Result}
-use Rattle.go_text_core.specs.declared.rule.Rule.{Rule}
+use Rattle.go_denote_core.specs.text_core.declared.rule.Rule.{Rule}
 use Rattle.go_term_core.specs.Terms.{Term, Sign}
-use Rattle.go_decide_core.specs.table_core.Entries.{Entry, EntryLook, find_entry}
-use Rattle.go_decide_core.specs.denote_core.declared.things.Selection.{Selection}
-use Rattle.go_decide_core.specs.Selecting.{Choice, selected_of}
-use Rattle.go_decide_core.specs.Rules.{selection_of}
+use Rattle.go_table_core.specs.Entries.{Entry, EntryLook, find_entry}
+use Rattle.go_denote_core.specs.declared.things.Selection.{Selection}
+use Rattle.go_handle_core.specs.deciding.Selecting.{Choice, selected_of}
+use Rattle.go_handle_core.specs.deciding.Rules.{selection_of}
 use Rattle.go_handle_core.specs.Declarations.{Declaration, declaration_found}
 
 -- a choice, as names have it: with the declaration of the member; embedded fields by their places among the fields of their struct types

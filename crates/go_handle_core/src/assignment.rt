@@ -1,19 +1,19 @@
 //! Which values are assignable to variables of a type.
 ghost use Rattle.std.specs.Prelude.{◌≡◌, ◌&&◌, not, true, false, MatchOption, IfOk};
 ghost use Rattle.go_term_core.specs.Shapes.{shape};
-ghost use Rattle.go_decide_core.specs.table_core.Entries.{find_entry, underlying_in};
-ghost use Rattle.go_decide_core.specs.table_core.Assign.{AValue, is_named};
-ghost use Rattle.go_decide_core.specs.Identity.{identical_under_of};
-ghost use Rattle.go_decide_core.specs.Assigning.{is_interface, value_fits, assignable_of};
-ghost use Rattle.go_decide_core.specs.Implementing.{implements_of};
+ghost use Rattle.go_table_core.specs.Entries.{find_entry, underlying_in};
+ghost use Rattle.go_table_core.specs.Assign.{AValue, is_named};
+ghost use Rattle.go_handle_core.specs.deciding.Identity.{identical_under_of};
+ghost use Rattle.go_handle_core.specs.deciding.Assigning.{is_interface, value_fits, assignable_of};
+ghost use Rattle.go_handle_core.specs.deciding.Implementing.{implements_of};
 
 use crate::conversion::is_type;
 use crate::identity::{is_identical, is_identical_under};
 use crate::implementing::is_implementing;
 use crate::types::TypeRef;
-use go_decide_core::settle_core::{Kind, kind_of};
-use go_decide_core::table_core::{TypeTable, is_named_type};
+use go_table_core::{TypeTable, is_named_type};
 use go_term_core::TypeTerm;
+use go_term_core::settling::{Kind, kind_of};
 use std::alloc::{AllocError, Global};
 
 // Whether a type is a name, declared or predeclared.

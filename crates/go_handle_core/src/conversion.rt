@@ -1,13 +1,13 @@
 //! Which types are convertible to one another.
 ghost use Rattle.std.specs.Prelude.{◌≡◌};
-ghost use Rattle.go_decide_core.specs.table_core.Entries.{find_entry};
+ghost use Rattle.go_table_core.specs.Entries.{find_entry};
 ghost use Rattle.go_term_core.specs.Terms.{is_no_type};
-ghost use Rattle.go_decide_core.specs.Conversion.{is_type_term, are_alike, pointers_alike, convertible_of};
+ghost use Rattle.go_handle_core.specs.deciding.Conversion.{is_type_term, are_alike, pointers_alike, convertible_of};
 
 use crate::identity::is_identical_under;
 use crate::types::TypeRef;
-use go_decide_core::settle_core::{Kind, kind_of};
-use go_decide_core::table_core::TypeTable;
+use go_table_core::TypeTable;
+use go_term_core::settling::{Kind, kind_of};
 
 // Whether it is no type.
 fn is_nothing(t: &TypeRef<'_>) -> bool

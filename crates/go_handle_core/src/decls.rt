@@ -1,11 +1,11 @@
 //! Declarations.
 ghost use Rattle.std.specs.Prelude.{◌≡◌};
 ghost use Rattle.go_handle_core.specs.Declarations.{site_shown, declaration_found};
-ghost use Rattle.go_decide_core.specs.embed_core.OwnersShown.{found_shown};
+ghost use Rattle.go_mset_core.specs.embed_core.OwnersShown.{found_shown};
 
 use crate::inside::member_site;
-use go_decide_core::path_core::ImportPath;
-use go_decide_core::select_core::Member;
+use go_mset_core::select_core::Member;
+use go_table_core::path_core::ImportPath;
 use go_term_core::MemberPlace;
 use go_universe_core::Predeclared;
 use std::marker::Model;

@@ -1,13 +1,13 @@
 //! Types as they are seen from a place.
-ghost use Rattle.go_decide_core.specs.Rules.{term_rules};
+ghost use Rattle.go_handle_core.specs.deciding.Rules.{term_rules};
 
 use crate::assignment::is_assignable;
 use crate::conversion::is_convertible;
 use crate::home::Home;
 use crate::identity::is_identical;
 use crate::types::TypeRef;
-use go_decide_core::operand_core::{TypeForm, TypeLooks};
-use go_decide_core::table_core::TypeTable;
+use go_denote_core::operand_core::{TypeForm, TypeLooks};
+use go_table_core::TypeTable;
 use std::alloc::{AllocError, Global};
 
 /// The types of a table, as a place of a package sees them.

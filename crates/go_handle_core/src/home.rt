@@ -2,12 +2,12 @@
 ghost use Rattle.std.specs.Prelude.{◌≡◌, IfOk};
 ghost use Rattle.go_term_core.specs.Terms.{Predeclared, ErrorType, InterfaceOf, NoMethod};
 ghost use Rattle.go_term_core.specs.declared.term.Basic.TheVariants as basics;
-ghost use Rattle.go_decide_core.specs.mset_core.Implementing.{error_sign};
+ghost use Rattle.go_mset_core.specs.Implementing.{error_sign};
 
 use crate::inside::error_signature;
 use crate::signatures::SignatureRef;
 use crate::types::TypeRef;
-use go_decide_core::path_core::ImportPath;
+use go_table_core::path_core::ImportPath;
 use go_term_core::{Basic, Signature, TypeTerm};
 use std::alloc::{AllocError, Global};
 use std::marker::Model;

@@ -1,11 +1,11 @@
 //! Identity of types under stars.
 ghost use Rattle.std.specs.Prelude.{◌≡◌};
 ghost use Rattle.go_term_core.specs.Shapes.{shape};
-ghost use Rattle.go_decide_core.specs.Identity.{identical_by, identical_of, identical_under_of};
+ghost use Rattle.go_handle_core.specs.deciding.Identity.{identical_by, identical_of, identical_under_of};
 ghost use Rattle.go_handle_core.specs.Stars.{starred};
 
 use crate::types::TypeRef;
-use go_decide_core::table_core::{identical_under, identical_under_but_for_tags};
+use go_table_core::{identical_under, identical_under_but_for_tags};
 use go_term_core::{TypeTerm, identical, identical_but_for_tags};
 
 // Whether two types as they stand are identical, where tags count or do not.

@@ -2,12 +2,12 @@
 ghost use Rattle.std.specs.Prelude.{◌≡◌, IfOk};
 ghost use Rattle.go_term_core.specs.Shapes.{shape};
 ghost use Rattle.go_term_core.specs.Terms.{PointerTo};
-ghost use Rattle.go_decide_core.specs.Implementing.{implements_of};
+ghost use Rattle.go_handle_core.specs.deciding.Implementing.{implements_of};
 ghost use Rattle.go_handle_core.specs.mirrors.Bare.{asks_nothing};
 
 use crate::types::TypeRef;
-use go_decide_core::mset_core::{implements, implements_by_pointer};
-use go_decide_core::table_core::TypeTable;
+use go_mset_core::{implements, implements_by_pointer};
+use go_table_core::TypeTable;
 use go_term_core::TypeTerm;
 use std::alloc::{AllocError, Global};
 

@@ -1,12 +1,12 @@
 //! The signature of the method of `error`, and where members are declared.
 ghost use Rattle.std.specs.Prelude.{◌≡◌, IfOk};
 ghost use Rattle.go_term_core.specs.Shapes.{sign_of};
-ghost use Rattle.go_decide_core.specs.mset_core.Implementing.{error_sign};
-ghost use Rattle.go_decide_core.specs.embed_core.OwnersShown.{found_shown};
+ghost use Rattle.go_mset_core.specs.Implementing.{error_sign};
+ghost use Rattle.go_mset_core.specs.embed_core.OwnersShown.{found_shown};
 ghost use Rattle.go_handle_core.specs.Declarations.{site_shown, declaration_found};
 
 use crate::decls::DeclSite;
-use go_decide_core::select_core::Member;
+use go_mset_core::select_core::Member;
 use go_term_core::{Basic, Params, Signature, TypeTerm};
 use std::alloc::{AllocError, Global};
 

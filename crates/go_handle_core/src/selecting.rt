@@ -1,20 +1,20 @@
 //! What selectors choose.
 ghost use Rattle.std.specs.Prelude.{◌≡◌, ◌↔◌, ℕ, List, IsTrue, IfOk, Ok};
 ghost use Rattle.go_term_core.specs.Terms.{Term};
-ghost use Rattle.go_decide_core.specs.table_core.Entries.{find_entry};
-ghost use Rattle.go_decide_core.specs.level_core.Selectors.{IsSelectorAnswer};
-ghost use Rattle.go_decide_core.specs.Selecting.{chosen_of};
+ghost use Rattle.go_table_core.specs.Entries.{find_entry};
+ghost use Rattle.go_mset_core.specs.select_core.LevelsSelectors.{IsSelectorAnswer};
+ghost use Rattle.go_handle_core.specs.deciding.Selecting.{chosen_of};
 ghost use Rattle.go_handle_core.specs.Names.{shown_choice, selection_in};
 
 use crate::decls::{Decl, member_decl};
 use crate::home::Home;
 use crate::signatures::{SignatureRef, typed};
 use crate::types::TypeRef;
-use go_decide_core::denote_core::Selection;
-use go_decide_core::path_core::ImportPath;
-use go_decide_core::select_core::{EmbedPath, Member, Selected, select, select_behind_pointer};
-use go_decide_core::table_core::TypeTable;
-use go_text_core::Rule;
+use go_denote_core::Selection;
+use go_denote_core::text_core::Rule;
+use go_mset_core::select_core::{EmbedPath, Member, Selected, select, select_behind_pointer};
+use go_table_core::TypeTable;
+use go_table_core::path_core::ImportPath;
 use std::alloc::{AllocError, Global};
 
 // Whether memory was wanting.
@@ -76,7 +76,7 @@ fn shown<'a>(
     }
 }
 
-/// What a selector denotes, with its declaration, by how it is answered: as [`select`](go_decide_core::select_core::select) answers it
+/// What a selector denotes, with its declaration, by how it is answered: as [`select`](go_mset_core::select_core::select) answers it
 /// in the package of a place.
 ///
 /// # Errors

@@ -1,12 +1,12 @@
 //! Signatures that are lent.
 ghost use Rattle.std.specs.Prelude.{◌≡◌, ◌<◌, length, slice_get, Some};
 ghost use Rattle.go_term_core.specs.Shapes.{sign_of, shape_found};
-ghost use Rattle.go_decide_core.specs.table_core.Entries.{find_entry};
-ghost use Rattle.go_decide_core.specs.Rules.{typed, param_types_of, results_of};
+ghost use Rattle.go_table_core.specs.Entries.{find_entry};
+ghost use Rattle.go_handle_core.specs.deciding.Rules.{typed, param_types_of, results_of};
 
 use crate::conversion::is_type;
 use crate::types::TypeRef;
-use go_decide_core::table_core::TypeTable;
+use go_table_core::TypeTable;
 use go_term_core::{Signature, TypeTerm};
 use std::marker::Model;
 

@@ -2,12 +2,12 @@
 ghost use Rattle.std.specs.Prelude.{◌≡◌, ◌≤◌, ◌^◌, suc, IfOk, OnErr};
 ghost use Rattle.go_term_core.specs.Shapes.{shape};
 ghost use Rattle.go_term_core.specs.Terms.{PointerTo};
-ghost use Rattle.go_decide_core.specs.table_core.Entries.{find_entry, underlying_in};
+ghost use Rattle.go_table_core.specs.Entries.{find_entry, underlying_in};
 ghost use Rattle.go_handle_core.specs.Stars.{base_in, star_count, starred};
-ghost use Rattle.go_decide_core.specs.Rules.{form_of, form_under};
+ghost use Rattle.go_handle_core.specs.deciding.Rules.{form_of, form_under};
 
-use go_decide_core::operand_core::TypeForm;
-use go_decide_core::table_core::TypeTable;
+use go_denote_core::operand_core::TypeForm;
+use go_table_core::TypeTable;
 use go_term_core::TypeTerm;
 use std::alloc::AllocError;
 use std::marker::Model;

@@ -1,11 +1,11 @@
 -- Each occurrence of a snapshot has the answer that the rules give, and nothing else has one.
 use Rattle.std.proofs.Common.{ℕ, List, subst}
-use Rattle.go_snap_core.specs.graph_core.Workspaces.{IsWorkspace, PackageModel}
-use Rattle.go_snap_core.specs.used_core.Used.{FileUse}
-use Rattle.go_snap_core.specs.Snapshots.{IsAnswerAt, IsSnapshot, SnapshotModel}
+use Rattle.go_graph_core.specs.Workspaces.{IsWorkspace, PackageModel}
+use Rattle.go_workspace_laws.specs.report_core.UsageUsed.{FileUse}
+use Rattle.go_submit_core.specs.snap_core.Snapshots.{IsAnswerAt, IsSnapshot, SnapshotModel}
 use Rattle.go_submit_core.specs.Laws.{OneWorker}
 use Rattle.go_submit_core.specs.Published.{IsOneWorker}
-use Rattle.go_laws_core.specs.AnswerLaws.{AnswersOccurrences, OutcomesAreOfOccurrences}
+use Rattle.go_workspace_laws.specs.AnswerLaws.{AnswersOccurrences, OutcomesAreOfOccurrences}
 use Rattle.go_headline_laws.specs.Headline.{HasAnswers, RulesGive}
 
 module _ (outcomes : OutcomesAreOfOccurrences) (one : OneWorker) (ps : List PackageModel) (well : IsWorkspace ps) where

@@ -4,21 +4,21 @@ use Rattle.std.specs.Prelude.{slice_get}
 use Rattle.std.proofs.lemmas.List.{take_more}
 use Rattle.std.proofs.lemmas.List.Elements.{All-contains, All-head, All-tail, Contains-get_or}
 use Rattle.std.proofs.lemmas.Option.{get_or_from_slice_get, slice_get_within}
-use Rattle.go_text_core.proofs.Each.{true_or_false}
+use Rattle.go_path_core.specs.text_core.Each.{true_or_false}
 use Rattle.go_term_core.proofs.Members.{In, contained_in, in_at, in_contained}
-use Rattle.go_snap_core.specs.graph_core.Sources.{SourceModel}
-use Rattle.go_snap_core.specs.graph_core.Workspaces.{PackageModel, files_at, is_path_inside}
+use Rattle.go_graph_core.specs.Sources.{SourceModel}
+use Rattle.go_graph_core.specs.Workspaces.{PackageModel, files_at, is_path_inside}
 use Rattle.go_submit_core.specs.Laws.{AreWorkspaces, BatchesReplace, LastTrees, LiesInNoOther, last_files, submissions_of}
 use Rattle.go_submit_core.specs.Published.{sources_of}
 use Rattle.go_submit_core.specs.declared.published.PublishedBatch.{PublishedBatch}
 use Rattle.go_submit_core.specs.declared.submission.Submission.{Submission}
-use Rattle.go_draft_core.specs.Laws.{EditsChangeOneFile}
+use Rattle.go_session_core.specs.overlay.Laws.{EditsChangeOneFile}
 use Rattle.go_sched_core.specs.Service.{Service, empty}
 use Rattle.go_sched_core.specs.Steps.{Run}
 use Rattle.go_sched_core.specs.declared.event.Event.{Event}
 use Rattle.go_sched_core.specs.declared.event.Reply.{Reply}
-use Rattle.go_apart_laws.specs.Laws.{AreHandedIn, OwnPaths, PublishedTrees, SubmissionsAreOwn, TreesAreWell}
-use Rattle.go_apart_laws.proofs.Trees.{batch_well, of_batch}
+use Rattle.go_headline_laws.specs.separation.Laws.{AreHandedIn, OwnPaths, PublishedTrees, SubmissionsAreOwn, TreesAreWell}
+use Rattle.go_headline_laws.proofs.SeparationTrees.{batch_well, of_batch}
 use Rattle.go_headline_laws.specs.Headline.{ChangesOwnAlone, Leaves}
 
 -- where no tree is of a module in which the path lies, no files of it are put

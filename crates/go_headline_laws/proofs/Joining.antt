@@ -1,12 +1,12 @@
 -- The headline, from the laws that it joins.
 use Rattle.std.proofs.Common.{◌+◌}
-use Rattle.go_list_core.specs.Added.{AddedImportsAreJudged}
-use Rattle.go_snap_core.specs.graph_core.Workspaces.{IsWorkspace}
+use Rattle.go_import_core.specs.list.Added.{AddedImportsAreJudged}
+use Rattle.go_graph_core.specs.Workspaces.{IsWorkspace}
 use Rattle.go_submit_core.specs.Laws.{BatchesReplace, LastTrees, OneWorker}
 use Rattle.go_submit_core.specs.Published.{IsOneWorker}
-use Rattle.go_draft_core.specs.Laws.{EditsChangeOneFile}
-use Rattle.go_laws_core.specs.AnswerLaws.{OutcomesAreOfOccurrences}
-use Rattle.go_apart_laws.specs.Laws.{OwnPaths, PublishedTrees, RunsAreSound, SourcesAreWell, SubmissionsAreOwn, TreesAreWell}
+use Rattle.go_session_core.specs.overlay.Laws.{EditsChangeOneFile}
+use Rattle.go_workspace_laws.specs.AnswerLaws.{OutcomesAreOfOccurrences}
+use Rattle.go_headline_laws.specs.separation.Laws.{OwnPaths, PublishedTrees, RunsAreSound, SourcesAreWell, SubmissionsAreOwn, TreesAreWell}
 use Rattle.go_headline_laws.specs.Headline.{Headline, sources_at}
 use Rattle.go_headline_laws.proofs.Answering.{has_answers}
 use Rattle.go_headline_laws.proofs.Changing.{changes_own_alone}

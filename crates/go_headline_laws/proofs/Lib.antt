@@ -3,3 +3,9 @@ mod Changing
 mod Joining
 mod Ordering
 mod Showing
+mod SeparationApart
+mod SeparationCases
+mod SeparationLists
+mod SeparationSounds
+mod SeparationTaken
+pub mod SeparationTrees

@@ -2,14 +2,14 @@
 use Rattle.std.proofs.Common.{◌≡◌, ◌+◌, List, [], ◌∷◌, map, take, refl, sym, ap, ◌∙◌, subst}
 use Rattle.std.specs.List.{fold}
 use Rattle.std.proofs.lemmas.List.Sums.{fold-append}
-use Rattle.go_snap_core.specs.graph_core.Workspaces.{PackageModel, replaced}
+use Rattle.go_graph_core.specs.Workspaces.{PackageModel, replaced}
 use Rattle.go_submit_core.specs.Laws.{OneWorker, submissions_of}
 use Rattle.go_submit_core.specs.Published.{IsOneWorker, sources_of}
 use Rattle.go_submit_core.specs.Submitted.{submitted}
 use Rattle.go_submit_core.specs.Trees.{TreeModel}
 use Rattle.go_submit_core.specs.declared.published.PublishedBatch.{PublishedBatch}
 use Rattle.go_submit_core.specs.declared.submission.Submission.{Submission}
-use Rattle.go_apart_laws.specs.Laws.{RunsAreSound, SourcesAreWell}
+use Rattle.go_headline_laws.specs.separation.Laws.{RunsAreSound, SourcesAreWell}
 use Rattle.go_headline_laws.specs.Headline.{OrderDoesNotCount, built}
 
 -- trees put into packages one after another

@@ -2,16 +2,16 @@
 use Rattle.std.proofs.Common.{◌≡◌, ℕ, List, sym, ap, subst}
 use Rattle.std.specs.Prelude.{Contains}
 use Rattle.std.proofs.lemmas.List.Elements.{All-contains}
-use Rattle.go_text_core.specs.declared.rule.Rule.{Rule}
-use Rattle.go_list_core.specs.Added.{AddedImportsAreJudged, AddsImport, added_at}
-use Rattle.go_list_core.specs.Importing.{IsImportable, IsJudgedAt}
-use Rattle.go_snap_core.specs.graph_core.declared.imports.ImportOutcome.TheVariants as come
-use Rattle.go_snap_core.specs.graph_core.Imports.{IsNumbered, IsOutcome}
-use Rattle.go_snap_core.specs.graph_core.Numbers.{has_one_number, has_one_package}
-use Rattle.go_snap_core.specs.graph_core.Sources.{SourceModel}
-use Rattle.go_snap_core.specs.graph_core.Workspaces.{IsWorkspace, PackageModel}
-use Rattle.go_snap_core.specs.part_core.Parts.{PartModel}
-use Rattle.go_snap_core.specs.Snapshots.{SnapshotModel}
+use Rattle.go_path_core.specs.text_core.declared.rule.Rule.{Rule}
+use Rattle.go_import_core.specs.list.Added.{AddedImportsAreJudged, AddsImport, added_at}
+use Rattle.go_import_core.specs.list.Importing.{IsImportable, IsJudgedAt}
+use Rattle.go_graph_core.specs.declared.imports.ImportOutcome.TheVariants as come
+use Rattle.go_graph_core.specs.Imports.{IsNumbered, IsOutcome}
+use Rattle.go_graph_core.proofs.Numbers.{has_one_number, has_one_package}
+use Rattle.go_graph_core.specs.Sources.{SourceModel}
+use Rattle.go_graph_core.specs.Workspaces.{IsWorkspace, PackageModel}
+use Rattle.go_submit_core.specs.package_core.PackagePartParts.{PartModel}
+use Rattle.go_submit_core.specs.snap_core.Snapshots.{SnapshotModel}
 use Rattle.go_query_core.specs.Documenting.{IsImportRefused}
 use Rattle.go_query_core.specs.Entries.{EntryOf}
 use Rattle.go_query_core.specs.Listing.{IsEntryOf, IsListing}

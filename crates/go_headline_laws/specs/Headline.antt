@@ -3,16 +3,16 @@
 -- docs/RULES.md, "Whole workspaces", "The service", "Queries". The Go specification, "Declarations and scope", "Import declarations", "Qualified
 -- identifiers", "Selectors", "Calls", "Composite literals".
 use Rattle.std.specs.Prelude.{◌≡◌, ◌≢◌, ◌↔◌, ◌+◌, ℕ, true, false, List, Option, Some, All, Contains, map, slice_get, take}
-use Rattle.go_text_core.specs.declared.rule.Rule.{Rule}
+use Rattle.go_path_core.specs.text_core.declared.rule.Rule.{Rule}
 use Rattle.go_tree_core.specs.declared.occurrence.Occ.{Occ}
-use Rattle.go_list_core.specs.Added.{AddsImport, added_at}
-use Rattle.go_snap_core.specs.graph_core.declared.imports.ImportOutcome.TheVariants as come
-use Rattle.go_snap_core.specs.graph_core.Imports.{IsNumbered, IsOutcome}
-use Rattle.go_snap_core.specs.graph_core.Sources.{SourceModel}
-use Rattle.go_snap_core.specs.graph_core.Workspaces.{PackageModel, files_at, is_path_inside}
-use Rattle.go_snap_core.specs.part_core.Parts.{PartModel}
-use Rattle.go_snap_core.specs.used_core.Used.{FileUse}
-use Rattle.go_snap_core.specs.Snapshots.{IsAnswerAt, SnapshotModel}
+use Rattle.go_import_core.specs.list.Added.{AddsImport, added_at}
+use Rattle.go_graph_core.specs.declared.imports.ImportOutcome.TheVariants as come
+use Rattle.go_graph_core.specs.Imports.{IsNumbered, IsOutcome}
+use Rattle.go_graph_core.specs.Sources.{SourceModel}
+use Rattle.go_graph_core.specs.Workspaces.{PackageModel, files_at, is_path_inside}
+use Rattle.go_submit_core.specs.package_core.PackagePartParts.{PartModel}
+use Rattle.go_workspace_laws.specs.report_core.UsageUsed.{FileUse}
+use Rattle.go_submit_core.specs.snap_core.Snapshots.{IsAnswerAt, SnapshotModel}
 use Rattle.go_query_core.specs.Documenting.{IsImportRefused}
 use Rattle.go_query_core.specs.Entries.{EntryOf}
 use Rattle.go_query_core.specs.Listing.{IsListing}
@@ -23,8 +23,8 @@ use Rattle.go_submit_core.specs.Trees.{TreeModel}
 use Rattle.go_submit_core.specs.declared.published.PublishedBatch.{PublishedBatch}
 use Rattle.go_submit_core.specs.declared.submission.Submission.{Submission}
 use Rattle.go_submit_core.specs.declared.submission.Ticket.{Ticket}
-use Rattle.go_draft_core.specs.Edits.{IsEditOf}
-use Rattle.go_draft_core.specs.Laws.{ChangesOneFile}
+use Rattle.go_session_core.specs.overlay.Edits.{IsEditOf}
+use Rattle.go_session_core.specs.overlay.Laws.{ChangesOneFile}
 use Rattle.go_sched_core.specs.Service.{Service, empty, module_held, taken_modules}
 use Rattle.go_sched_core.specs.Steps.{Run, Step}
 use Rattle.go_sched_core.specs.declared.event.Event.{Event}
@@ -33,8 +33,8 @@ use Rattle.go_sched_core.specs.declared.event.Held.{Held}
 use Rattle.go_sched_core.specs.declared.event.Reply.{Reply}
 use Rattle.go_sched_core.specs.declared.event.Reply.TheVariants.{Submitted}
 use Rattle.go_sched_core.specs.declared.event.SessionId.{SessionId}
-use Rattle.go_laws_core.specs.AnswerLaws.{IsOccurrenceAt, IsUseOfOccurrence}
-use Rattle.go_apart_laws.specs.Laws.{AreHandedIn}
+use Rattle.go_workspace_laws.specs.AnswerLaws.{IsOccurrenceAt, IsUseOfOccurrence}
+use Rattle.go_headline_laws.specs.separation.Laws.{AreHandedIn}
 
 -- ---- 1. each import, name, selector, key and call has one answer
 
@@ -112,7 +112,7 @@ OrderDoesNotCount =
 -- package is refused by exactly the rule that an import of it would break; an edit changes its session's module alone; every answer is the one that one
 -- worker gives
 --
--- That each submitted tree is a workspace (`AreHandedIn`) every list of events fulfils that a caller can have: `are_handed_in` of `go_apart_laws`.
+-- That each submitted tree is a workspace (`AreHandedIn`) every list of events fulfils that a caller can have: `are_handed_in` of `go_headline_laws::separation`.
 pub record Headline : Type 0 where
   pub snapshots : (es : List Event) (rs : List Reply) (t : Service) → AreHandedIn es → Run empty es rs t → (k : ℕ) (b : PublishedBatch) → slice_get t.published k ≡ Some b
       → HasAnswers (sources_at t (k + 1)) b.snapshot × ShowsWhatResolves (sources_at t (k + 1)) b.snapshot

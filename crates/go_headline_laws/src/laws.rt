@@ -1,13 +1,13 @@
 //! The headline, with nothing to run.
 ghost use Rattle.go_headline_laws.specs.Headline.{Headline};
 
-use go_apart_laws::{
+use crate::separation::{
     own_paths, published_trees, runs_are_sound, submissions_are_own, trees_are_well,
 };
-use go_draft_core::edits_change_one_file;
-use go_laws_core::outcomes_are_of_occurrences;
-use go_list_core::added_imports_are_judged;
+use go_import_core::list::added_imports_are_judged;
+use go_session_core::overlay::edits_change_one_file;
 use go_submit_core::{batches_replace, last_trees, one_worker};
+use go_workspace_laws::outcomes_are_of_occurrences;
 
 /// After any list of what sessions send and workers do, in every published snapshot each import, name, selector, key and call has exactly the declaration
 /// that the written rules give it, or the number of the rule it breaks. `list` shows exactly the packages that an import could name, and `doc` of another

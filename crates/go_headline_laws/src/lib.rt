@@ -4,5 +4,6 @@
 #![tactic(auto)]
 
 mod laws;
+pub mod separation;
 
 pub use laws::headline;

@@ -3,9 +3,9 @@ use Rattle.std.proofs.Common.{◌≡◌, ℕ, ◌+◌, ◌≤◌, nat_eq, true, 
 use Rattle.std.proofs.lemmas.Bool.{eq-eqb, ne_eqb}
 use Rattle.std.proofs.lemmas.List.Elements.{Contains-append_cases, Contains-push_cases}
 use Rattle.go_tree_nodes.specs.Trees.{TypeTree}
-use Rattle.go_embed_core.specs.decl_core.declared.keys.DeclKey.{DeclKey}
-use Rattle.go_embed_core.specs.settle_core.declared.kind.Kind.{Kind}
-use Rattle.go_entry_core.specs.written_core.Written.{InFile, Meaning}
+use Rattle.go_term_core.specs.decl_core.declared.keys.DeclKey.{DeclKey}
+use Rattle.go_term_core.specs.declared.settling.kind.Kind.{Kind}
+use Rattle.go_typexpr_core.specs.written.Written.{InFile, Meaning}
 use Rattle.go_inline_core.specs.Types.{inline_at}
 use Rattle.go_tree_nodes.specs.Starts.{type_start}
 use Rattle.go_inline_core.specs.Inline.{inline_of, inlines}

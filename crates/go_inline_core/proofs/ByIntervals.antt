@@ -2,14 +2,14 @@
 use Rattle.std.proofs.Common.{◌≡◌, ℕ, List, [], ◌∷◌, ◌++◌, Option, Some, None, refl, ap, sym, ◌∙◌, append_assoc, append-nil}
 use Rattle.std.specs.List.{flat_map}
 use Rattle.std.proofs.lemmas.List.{map-append}
-use Rattle.go_text_core.specs.declared.span.Span.{Span}
+use Rattle.go_tree_nodes.specs.text_core.declared.span.Span.{Span}
 use Rattle.go_tree_nodes.specs.declared.decls.ValueKind.{ValueKind}
 use Rattle.go_tree_nodes.specs.Trees as tree
 use Rattle.go_tree_nodes.specs.Trees.{TypeTree, ExprTree, ValueSpecTree, Specs, Single, Group, SimpleTree, Alone, Step, Assign, Update, Define, IfTree, ForTree, Forever, While, Clauses, StmtTree, BranchTree, ElseTree, Lines, Empty, Simple, Return, Break, Continue, Block, If, For, Branch, NoElse, ElseBlock, ElseIf, NoLines, Line, FuncTree}
 use Rattle.go_tree_nodes.specs.WrittenTypes.{expr_types, spec_types, specs_types, simple_types, some_expr_types}
-use Rattle.go_embed_core.specs.decl_core.declared.keys.DeclKey.{DeclKey}
-use Rattle.go_embed_core.specs.settle_core.declared.kind.Kind.{Kind}
-use Rattle.go_entry_core.specs.written_core.Written.{InFile, Meaning}
+use Rattle.go_term_core.specs.decl_core.declared.keys.DeclKey.{DeclKey}
+use Rattle.go_term_core.specs.declared.settling.kind.Kind.{Kind}
+use Rattle.go_typexpr_core.specs.written.Written.{InFile, Meaning}
 use Rattle.go_names_core.specs.local_core.Steps.{Steps, Done, Check, Declare, Inner}
 use Rattle.go_names_core.specs.local_core.Binding.{Local, bound}
 use Rattle.go_names_core.specs.local_core.Law.{law_out}

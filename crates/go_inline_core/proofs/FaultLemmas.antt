@@ -4,8 +4,8 @@ use Rattle.std.specs.Prelude.{if◌then◌else◌, not, ◌&&◌}
 use Rattle.std.specs.List.{flat_map}
 use Rattle.std.specs.Str.{bytes_eq}
 use Rattle.std.proofs.lemmas.List.{drop_more}
-use Rattle.go_text_core.specs.Text.{is_blank}
-use Rattle.go_text_core.specs.declared.rule.Rule.TheVariants as rules
+use Rattle.go_tree_nodes.specs.text_core.Text.{is_blank}
+use Rattle.go_tree_nodes.specs.text_core.declared.rule.Rule.TheVariants as rules
 use Rattle.go_tree_nodes.specs.declared.names.Ident.{Ident}
 use Rattle.go_tree_nodes.specs.declared.types.Signature.{Signature, out-Signature}
 use Rattle.go_tree_nodes.specs.declared.types.Results as declared_results
@@ -19,7 +19,7 @@ use Rattle.go_tree_nodes.specs.declared.types.«Param» as declared_param
 use Rattle.go_tree_nodes.specs.Trees.{FieldTrees}
 use Rattle.go_tree_nodes.specs.TypeShapes.{shape_type, shape_signature, shape_results, fields_before, fields_of, methods_of, params_of}
 use Rattle.go_tree_nodes.proofs.TypeShapes.{listed_parts, signature_parts}
-use Rattle.go_embed_core.specs.settle_core.Settled.{repeats_earlier}
+use Rattle.go_term_core.specs.settling.Settled.{repeats_earlier}
 use Rattle.go_names_core.specs.local_core.declared.Fault.{Fault}
 use Rattle.go_names_core.specs.local_core.Faults.{ident_fault}
 use Rattle.go_names_core.specs.local_core.Outline.{signature_idents}

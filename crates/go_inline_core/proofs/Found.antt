@@ -1,10 +1,10 @@
 -- The types of a function, and of a file, are found.
 use Rattle.std.proofs.Common.{◌≡◌, ℕ, List, Option, ap, ◌∙◌}
 use Rattle.go_tree_nodes.specs.Trees.{FuncTree, FileTree}
-use Rattle.go_embed_core.specs.decl_core.declared.keys.DeclKey.{DeclKey}
-use Rattle.go_embed_core.specs.decl_core.TopDecls.{TopDeclTree, top_decls}
-use Rattle.go_embed_core.specs.settle_core.declared.kind.Kind.{Kind}
-use Rattle.go_entry_core.specs.written_core.Written.{InFile, Meaning}
+use Rattle.go_term_core.specs.decl_core.declared.keys.DeclKey.{DeclKey}
+use Rattle.go_term_core.specs.decl_core.TopDecls.{TopDeclTree, top_decls}
+use Rattle.go_term_core.specs.declared.settling.kind.Kind.{Kind}
+use Rattle.go_typexpr_core.specs.written.Written.{InFile, Meaning}
 use Rattle.go_names_core.specs.local_core.declared.Fault.{Fault}
 use Rattle.go_names_core.specs.local_core.Binding.{bound}
 use Rattle.go_names_core.specs.local_core.Outline.{func_opens, func_closes, func_steps}

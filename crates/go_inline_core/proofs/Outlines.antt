@@ -7,13 +7,13 @@ use Rattle.go_tree_nodes.specs.declared.names.Ident.{Ident}
 use Rattle.go_tree_nodes.specs.declared.decls.ValueKind.{ValueKind}
 use Rattle.go_tree_nodes.specs.Trees.{Separated, One, Then, TypeTree, ValueSpecTree, TypeSpecTree, Specs, Single, Group, DeclTree, Value, Types, Func, FileTree}
 use Rattle.go_tree_nodes.specs.WrittenTypes.{spec_types, specs_types}
-use Rattle.go_embed_core.specs.decl_core.declared.places.DeclKind.{DeclKind}
-use Rattle.go_embed_core.specs.decl_core.declared.places.Place.{Place}
-use Rattle.go_embed_core.specs.decl_core.declared.tops.TopDecl.{TopDecl}
-use Rattle.go_embed_core.specs.decl_core.Shown.{decl_shown, form_shown}
-use Rattle.go_embed_core.specs.decl_core.Outer.{Outer, value_spec_outers, type_spec_outers, decl_outers}
-use Rattle.go_embed_core.specs.decl_core.TopDecls.{TopDeclTree, ValueForm, numbered, named_decls, value_spec_decls, type_spec_decls, specs_decls, decl_decls, top_decls}
-use Rattle.go_entry_core.specs.written_core.Written.{InFile, number_from, written_member_place, member_place}
+use Rattle.go_term_core.specs.decl_core.declared.places.DeclKind.{DeclKind}
+use Rattle.go_term_core.specs.decl_core.declared.places.Place.{Place}
+use Rattle.go_term_core.specs.decl_core.declared.tops.TopDecl.{TopDecl}
+use Rattle.go_term_core.specs.decl_core.Shown.{decl_shown, form_shown}
+use Rattle.go_term_core.specs.decl_core.Outer.{Outer, value_spec_outers, type_spec_outers, decl_outers}
+use Rattle.go_term_core.specs.decl_core.TopDecls.{TopDeclTree, ValueForm, numbered, named_decls, value_spec_decls, type_spec_decls, specs_decls, decl_decls, top_decls}
+use Rattle.go_typexpr_core.specs.written.Written.{InFile, number_from, written_member_place, member_place}
 use Rattle.go_inline_core.specs.Trees.{form_types, outline_types, decl_types, file_types}
 use Rattle.go_inline_core.specs.Inline.{at_place, member_offset}
 

@@ -5,7 +5,7 @@ use Rattle.std.specs.List.{list_any, list_all}
 use Rattle.std.specs.Option.{option_map}
 use Rattle.std.specs.Str.{bytes_eq}
 use Rattle.std.proofs.lemmas.List.{map-append}
-use Rattle.go_text_core.specs.Text.{is_blank}
+use Rattle.go_tree_nodes.specs.text_core.Text.{is_blank}
 use Rattle.go_tree_nodes.specs.declared.names.Ident.{Ident}
 use Rattle.go_tree_nodes.specs.Trees.{FuncTree}
 use Rattle.go_names_core.specs.local_core.Steps.{Steps, Done, Check, Declare, Inner}
@@ -13,7 +13,7 @@ use Rattle.go_names_core.specs.local_core.Binding.{Local, region_has, is_second,
 use Rattle.go_names_core.specs.local_core.Law.{Rules, locals_of_names, declared_from, law_out}
 use Rattle.go_names_core.specs.local_core.Outline.{func_opens, func_closes, func_steps}
 use Rattle.go_names_core.specs.local_core.Tables.{IsTable}
-use Rattle.go_names_core.specs.open_core.Blocks.{or_else}
+use Rattle.go_names_core.specs.scope_stack.Blocks.{or_else}
 use Rattle.go_names_core.specs.local_core.Binding.{bound}
 use Rattle.go_names_core.specs.local_core.Tables.{walked}
 use Rattle.go_names_core.specs.local_core.TablesProofs.{one_table}
@@ -22,10 +22,10 @@ use Rattle.go_names_core.specs.scope_core.Scopes.{Denoted}
 use Rattle.go_names_core.specs.scope_core.Models.{scopes_model}
 use Rattle.go_names_core.specs.scope_core.Laws.{denotes}
 use Rattle.go_tree_nodes.specs.declared.types.TypeName.{TypeName}
-use Rattle.go_embed_core.specs.decl_core.declared.keys.DeclKey.{DeclKey}
+use Rattle.go_term_core.specs.decl_core.declared.keys.DeclKey.{DeclKey}
 use Rattle.go_term_core.specs.Terms.{NoType}
-use Rattle.go_embed_core.specs.settle_core.declared.kind.Kind.{Kind}
-use Rattle.go_entry_core.specs.written_core.Written.{InFile, Meaning}
+use Rattle.go_term_core.specs.declared.settling.kind.Kind.{Kind}
+use Rattle.go_typexpr_core.specs.written.Written.{InFile, Meaning}
 use Rattle.go_names_core.specs.Scope.{beyond_in, some_meaning}
 use Rattle.go_inline_core.specs.declared.scoped.Scoped.{Scoped}
 use Rattle.go_inline_core.specs.declared.scoped.Scoped.TheVariants as scoped

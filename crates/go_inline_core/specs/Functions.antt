@@ -6,13 +6,13 @@ use Rattle.go_tree_nodes.specs.declared.names.Ident.{Ident}
 use Rattle.go_tree_nodes.specs.declared.types.TypeName.{TypeName}
 use Rattle.go_tree_nodes.specs.declared.types.TypeName.TheVariants as type_names
 use Rattle.go_tree_nodes.specs.Trees.{TypeTree, FuncTree}
-use Rattle.go_embed_core.specs.decl_core.declared.keys.DeclKey.{DeclKey}
+use Rattle.go_term_core.specs.decl_core.declared.keys.DeclKey.{DeclKey}
 use Rattle.go_term_core.specs.Terms.{NoType}
-use Rattle.go_embed_core.specs.settle_core.declared.kind.Kind.{Kind}
-use Rattle.go_embed_core.specs.settle_core.Settled.{kind_of_term}
-use Rattle.go_embed_core.specs.table_core.Entries.{find_entry, term_in}
-use Rattle.go_entry_core.specs.written_core.Written.{InFile, Meaning}
-use Rattle.go_entry_core.specs.Meanings.{Shows, file_meaning}
+use Rattle.go_term_core.specs.declared.settling.kind.Kind.{Kind}
+use Rattle.go_term_core.specs.settling.Settled.{kind_of_term}
+use Rattle.go_table_core.specs.Entries.{find_entry, term_in}
+use Rattle.go_typexpr_core.specs.written.Written.{InFile, Meaning}
+use Rattle.go_typexpr_core.specs.entry.Meanings.{Shows, file_meaning}
 use Rattle.go_names_core.specs.local_core.Binding.{Local, NameLook, bound}
 use Rattle.go_names_core.specs.local_core.Law.{Rules}
 use Rattle.go_names_core.specs.local_core.Tables.{IsTable}

@@ -4,11 +4,11 @@
 use Rattle.std.specs.Prelude.{◌≡◌, ℕ, Bool, List, Option, filter, is_some, if◌then◌else◌}
 use Rattle.std.specs.Str.{bytes_eq}
 use Rattle.go_tree_nodes.specs.Trees.{FuncTree}
-use Rattle.go_embed_core.specs.decl_core.declared.keys.DeclKey.{DeclKey}
+use Rattle.go_term_core.specs.decl_core.declared.keys.DeclKey.{DeclKey}
 use Rattle.go_names_core.specs.block_core.Blocks.{BlocksModel}
 use Rattle.go_term_core.specs.Terms.{NoType}
-use Rattle.go_embed_core.specs.settle_core.declared.kind.Kind.{Kind}
-use Rattle.go_entry_core.specs.written_core.Written.{InFile, Meaning}
+use Rattle.go_term_core.specs.declared.settling.kind.Kind.{Kind}
+use Rattle.go_typexpr_core.specs.written.Written.{InFile, Meaning}
 use Rattle.go_names_core.specs.local_core.Binding.{Local, shown, innermost_of}
 use Rattle.go_names_core.specs.local_core.Law.{Rules}
 use Rattle.go_names_core.specs.local_core.Tables.{IsTable, IsFuncPlaced}

@@ -1,11 +1,11 @@
 -- Laws of types inside functions.
 use Rattle.std.specs.Prelude.{◌≡◌, ℕ, List, Contains, Some}
 use Rattle.go_tree_nodes.specs.Trees.{TypeTree, FuncTree, FileTree}
-use Rattle.go_embed_core.specs.decl_core.declared.keys.DeclKey.{DeclKey}
-use Rattle.go_embed_core.specs.decl_core.declared.places.DeclKind.{DeclKind}
-use Rattle.go_embed_core.specs.decl_core.TopDecls.{top_decls}
-use Rattle.go_embed_core.specs.settle_core.declared.kind.Kind.{Kind}
-use Rattle.go_entry_core.specs.written_core.Written.{InFile, Meaning, member_place}
+use Rattle.go_term_core.specs.decl_core.declared.keys.DeclKey.{DeclKey}
+use Rattle.go_term_core.specs.decl_core.declared.places.DeclKind.{DeclKind}
+use Rattle.go_term_core.specs.decl_core.TopDecls.{top_decls}
+use Rattle.go_term_core.specs.declared.settling.kind.Kind.{Kind}
+use Rattle.go_typexpr_core.specs.written.Written.{InFile, Meaning, member_place}
 use Rattle.go_names_core.specs.local_core.Tables.{IsFuncPlaced}
 use Rattle.go_inline_core.specs.Types.{inline_at}
 use Rattle.go_tree_nodes.specs.Starts.{type_start}

@@ -6,4 +6,6 @@ pub mod Trees
 pub mod Types
 pub mod codes
 pub mod mirrors
+pub mod block_core
 pub mod names_core
+pub mod scope_core

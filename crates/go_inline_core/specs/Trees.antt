@@ -3,10 +3,10 @@
 -- docs/RULES.md, "Types inside functions". The Go specification, "Types", "Composite literals".
 use Rattle.std.specs.Prelude.{zero, suc, List, [], ◌++◌, Option, Some, None}
 use Rattle.std.specs.List.{flat_map}
-use Rattle.go_text_core.specs.declared.span.Span.{Span}
+use Rattle.go_tree_nodes.specs.text_core.declared.span.Span.{Span}
 use Rattle.go_tree_nodes.specs.Trees as tree
 use Rattle.go_tree_nodes.specs.Trees.{TypeTree, SimpleTree, IfTree, ForTree, Forever, While, Clauses, StmtTree, BranchTree, ElseTree, Lines, Empty, Simple, Return, Break, Continue, Block, If, For, Branch, NoElse, ElseBlock, ElseIf, NoLines, Line, FuncTree, DeclTree, Value, Types, Func, FileTree}
-use Rattle.go_embed_core.specs.decl_core.TopDecls.{FormTree, ValueForm, TypeForm, FuncForm, TopDeclTree}
+use Rattle.go_term_core.specs.decl_core.TopDecls.{FormTree, ValueForm, TypeForm, FuncForm, TopDeclTree}
 use Rattle.go_tree_nodes.specs.WrittenTypes.{expr_types, some_expr_types, some_exprs_types, signature_types, spec_types, specs_types, simple_types}
 
 -- statements

@@ -3,7 +3,7 @@
 ghost use Rattle.std.specs.Prelude.{◌≡◌, ◌++◌, false, map, IfOk, OnOk};
 ghost use Rattle.go_tree_nodes.specs.TypeShapes.{shape_type};
 ghost use Rattle.go_names_core.specs.Scope.{open_look};
-ghost use Rattle.go_entry_core.specs.written_core.Written.{in_file};
+ghost use Rattle.go_typexpr_core.specs.written.Written.{in_file};
 ghost use Rattle.go_inline_core.specs.Functions.{inlines_in, scoped_outside};
 
 use crate::listing::{
@@ -12,11 +12,11 @@ use crate::listing::{
 use crate::making::note_types;
 use crate::scoped::{Scoped, ScopedNames};
 use crate::types::Note;
-use go_embed_core::settle_core::Kinds;
-use go_entry_core::written_core::{TypeNames, WrittenIn};
 use go_names_core::{Checker, OpenNames, header_idents, listed_idents};
-use go_text_core::Span;
+use go_term_core::settling::Kinds;
+use go_tree_nodes::text_core::Span;
 use go_tree_nodes::{Definition, Expr, Exprs, FuncDecl, Ident, Simple, ValueKind, ValueSpec};
+use go_typexpr_core::written::{TypeNames, WrittenIn};
 use std::alloc::{AllocError, Global};
 
 /// Notes the types of each piece, with what they are there, by what names of types mean at the top of the file.
@@ -78,7 +78,7 @@ impl<'a, N: TypeNames, K: Kinds> Checker for InlineChecker<'a, N, K> {
 
     type Note = Note;
 
-    ghost use Rattle.go_entry_core.specs.written_core.Written.{in_file};
+    ghost use Rattle.go_typexpr_core.specs.written.Written.{in_file};
     ghost use Rattle.go_inline_core.specs.Functions.{inline_note_rules};
     ghost use Rattle.go_inline_core.specs.mirrors.Alike.{inlines_alike};
 

@@ -1,9 +1,9 @@
 //! A file of a package whose types are written inside functions and in initialisers.
-use go_embed_core::decl_core::Places;
-use go_embed_core::table_core::TypeTable;
-use go_entry_core::ImportedNames;
 use go_names_core::block_core::Blocks;
-use go_path_core::ImportPath;
+use go_table_core::TypeTable;
+use go_table_core::path_core::ImportPath;
+use go_term_core::decl_core::Places;
+use go_typexpr_core::entry::ImportedNames;
 
 /// What is known of a file of a package where types are written in it. All is lent.
 #[derive(Drop)]

@@ -21,9 +21,17 @@ pub use repeated::repeated_params;
 pub use scoped::Scoped;
 pub use types::{InlineType, InlineTypes};
 
+/// What the crates above name of `go_block_core`.
+pub mod block_core {
+    pub use go_names_core::block_core::{Blocks, DeclKind, Target};
+}
+
 /// What the crates above name of `go_names_core`.
 pub mod names_core {
-    pub use go_names_core::{
-        Checker, Meant, OpenNames, Outside, check_function, header_idents, listed_idents,
-    };
+    pub use go_names_core::{Meant, OpenNames, Outside};
+}
+
+/// What the crates above name of `go_scope_core`.
+pub mod scope_core {
+    pub use go_names_core::scope_core::{InScope, Scopes};
 }

@@ -2,23 +2,23 @@
 ghost use Rattle.std.specs.Prelude.{◌≡◌, ◌++◌, map, IfOk, OnOk, false};
 ghost use Rattle.go_tree_nodes.specs.TypeShapes.{shape_type};
 ghost use Rattle.go_term_core.specs.Shapes.{shape};
-ghost use Rattle.go_embed_core.specs.settle_core.Settled.{settled};
+ghost use Rattle.go_term_core.specs.settling.Settled.{settled};
 ghost use Rattle.go_embed_core.specs.Faults.{term_faults};
-ghost use Rattle.go_entry_core.specs.written_core.Written.{in_file};
+ghost use Rattle.go_typexpr_core.specs.written.Written.{in_file};
 ghost use Rattle.go_inline_core.specs.Types.{inline_shown};
 ghost use Rattle.go_inline_core.specs.Inline as inline;
 
 use crate::listing::TypeList;
 use crate::repeated::repeated_params;
 use crate::types::{InlineType, Note};
-use go_embed_core::decl_core::Places;
-use go_embed_core::settle_core::{Kinds, settle};
 use go_embed_core::{MemberFault, check_struct};
-use go_entry_core::written_core::{TypeNames, WrittenIn, write_type};
 use go_names_core::local_core::Fault;
+use go_term_core::decl_core::Places;
+use go_term_core::settling::{Kinds, settle};
 use go_term_core::{MemberPlace, TypeTerm};
-use go_text_core::add;
+use go_tree_nodes::text_core::add;
 use go_tree_nodes::{TypeExpr, type_start};
+use go_typexpr_core::written::{TypeNames, WrittenIn, write_type};
 use std::alloc::{AllocError, Global};
 
 // The offset in bytes of a member's identifier.

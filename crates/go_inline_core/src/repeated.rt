@@ -1,9 +1,9 @@
 //! Parameters of the methods of interface types that repeat a name.
 
 ghost use Rattle.std.specs.Prelude.{◌≡◌, ◌++◌, ◌∷◌, [], false, not, ◌&&◌, map, IfOk, OnOk, if◌then◌else◌};
-ghost use Rattle.go_text_core.specs.Text.{is_blank};
+ghost use Rattle.go_tree_nodes.specs.text_core.Text.{is_blank};
 ghost use Rattle.go_tree_nodes.specs.TypeShapes.{shape_type, shape_signature, shape_results, fields_of, methods_of, params_of};
-ghost use Rattle.go_embed_core.specs.settle_core.Settled.{repeats_earlier};
+ghost use Rattle.go_term_core.specs.settling.Settled.{repeats_earlier};
 ghost use Rattle.go_names_core.specs.local_core.Faults.{ident_fault};
 ghost use Rattle.go_names_core.specs.local_core.Outline.{signature_idents};
 ghost use Rattle.go_inline_core.specs.Inline as inline;
@@ -11,10 +11,10 @@ ghost use Rattle.go_inline_core.specs.mirrors.Listing.{Breaks};
 ghost use Rattle.go_inline_core.specs.mirrors.Names.{names_of, field_repeated};
 ghost use Rattle.go_embed_core.specs.mirrors.Passing.{SameNames};
 
-use go_embed_core::settle_core::SeenNames;
 use go_names_core::local_core::Fault;
 use go_names_core::signature_idents;
-use go_text_core::{Rule, add};
+use go_term_core::settling::SeenNames;
+use go_tree_nodes::text_core::{Rule, add};
 use go_tree_nodes::{FieldLine, Fields, Ident, MethodLine, Param, Results, Signature, TypeExpr};
 use std::alloc::{AllocError, Global};
 

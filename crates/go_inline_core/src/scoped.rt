@@ -3,10 +3,10 @@ ghost use Rattle.std.specs.Prelude.{◌≡◌, IfOk};
 ghost use Rattle.go_names_core.specs.Scope.{open_look};
 ghost use Rattle.go_inline_core.specs.Functions.{is_local, looked_up_ident, scoped_outside};
 
-use go_entry_core::written_core::TypeNames;
 use go_names_core::{Meant, OpenNames, Outside};
 use go_term_core::TypeTerm;
 use go_tree_nodes::{Ident, TypeName};
+use go_typexpr_core::written::TypeNames;
 use std::alloc::{AllocError, Global};
 
 /// What a name means, as far as types are asked for: no type is declared inside a function.

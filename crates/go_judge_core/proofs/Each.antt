@@ -3,8 +3,8 @@ use Rattle.std.proofs.Common.{◌≡◌, ◌+◌, ◌<◌, ◌≤◌, ◌⊎◌,
 use Rattle.std.specs.Prelude.{slice_get}
 use Rattle.std.proofs.lemmas.Bool.{cases_lt}
 use Rattle.std.proofs.lemmas.Option.{slice_get_past}
-use Rattle.go_operand_core.specs.TypeRules.{TypeRules}
-use Rattle.go_denote_core.specs.declared.things.Argument.{Argument}
+use Rattle.go_stmt_core.specs.operand_core.TypeRules.{TypeRules}
+use Rattle.go_stmt_core.specs.denote_core.declared.things.Argument.{Argument}
 use Rattle.go_judge_core.specs.Misfits.{IsFirstMisfit, fits_number, fits_there}
 
 module _ {T : Type 0} (rules : TypeRules T) (values : List (Argument T)) (wanted : List (Option T)) where

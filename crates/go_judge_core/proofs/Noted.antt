@@ -2,9 +2,9 @@
 use Rattle.std.proofs.Common.{◌≡◌, ◌<◌, ℕ, List, length, get_or, inl, inr, ap, sym, subst, ◌∙◌}
 use Rattle.std.specs.Prelude.{Contains}
 use Rattle.std.proofs.lemmas.List.Elements.{Contains-get_or}
-use Rattle.go_text_core.specs.declared.rule.Rule.{Rule}
-use Rattle.go_expr_core.specs.local_core.declared.Fault.{Fault}
-use Rattle.go_expr_core.specs.declared.things.Use.{Use}
+use Rattle.go_tree_nodes.specs.text_core.declared.rule.Rule.{Rule}
+use Rattle.go_names_core.specs.local_core.declared.Fault.{Fault}
+use Rattle.go_stmt_core.specs.expr_core.declared.things.Use.{Use}
 use Rattle.go_judge_core.specs.Breaking.{HasFault, HasRefusal, IsNoted, IsRefusedAt}
 
 abbrev fault_with : ℕ → Rule → Fault

@@ -2,20 +2,20 @@
 --
 -- docs/RULES.md, "Expressions: roles, order, faults of parts", "Assignments, declarations, returns, statements".
 use Rattle.std.specs.Prelude.{◌≡◌, ◌⊎◌, ℕ, Bool, true, false, List, Option, Contains}
-use Rattle.go_text_core.specs.declared.rule.Rule.{Rule}
+use Rattle.go_tree_nodes.specs.text_core.declared.rule.Rule.{Rule}
 use Rattle.go_tree_nodes.specs.declared.decls.ValueKind.{ValueKind}
 use Rattle.go_tree_nodes.specs.Trees.{ValueSpecTree}
 use Rattle.go_tree_nodes.specs.Shapes.{shape, shape_simple, shape_some_exprs, shape_value_spec}
-use Rattle.go_expr_core.specs.local_core.declared.Fault.{Fault}
-use Rattle.go_denote_core.specs.declared.things.Outcome.TheVariants as outcomes
-use Rattle.go_denote_core.specs.declared.things.Stand.TheVariants as stands
-use Rattle.go_expr_core.specs.declared.things.Use.{Use}
-use Rattle.go_expr_core.specs.Looks.{Looks}
-use Rattle.go_expr_core.specs.Uses.{uses}
-use Rattle.go_piece_core.specs.Specifications.{outer_faults, spec_faults, spec_uses}
-use Rattle.go_piece_core.specs.Statements.{condition_faults, returned_faults, returned_uses, simple_faults, simple_uses}
+use Rattle.go_names_core.specs.local_core.declared.Fault.{Fault}
+use Rattle.go_stmt_core.specs.denote_core.declared.things.Outcome.TheVariants as outcomes
+use Rattle.go_stmt_core.specs.denote_core.declared.things.Stand.TheVariants as stands
+use Rattle.go_stmt_core.specs.expr_core.declared.things.Use.{Use}
+use Rattle.go_stmt_core.specs.expr_core.Looks.{Looks}
+use Rattle.go_stmt_core.specs.expr_core.Uses.{uses}
+use Rattle.go_stmt_core.specs.piece.Specifications.{outer_faults, spec_faults, spec_uses}
+use Rattle.go_stmt_core.specs.piece.Statements.{condition_faults, returned_faults, returned_uses, simple_faults, simple_uses}
 use Rattle.go_env_core.specs.declared.here.Here.{Here}
-use Rattle.go_snap_core.specs.part_core.Parts.{PartModel}
+use Rattle.go_complete_core.specs.package_core.PackagePartParts.{PartModel}
 use Rattle.go_judge_core.specs.declared.known.PackageKnown.{PackageKnown}
 use Rattle.go_judge_core.specs.declared.pieces.Piece.{Piece}
 use Rattle.go_judge_core.specs.declared.pieces.Piece.TheVariants as pieces

@@ -3,15 +3,15 @@
 -- The Go specification, "Assignability", "Calls".
 use Rattle.std.specs.Prelude.{◌≡◌, ◌<◌, ℕ, Bool, true, false, List, Option, Some, None, slice_get}
 use Rattle.std.specs.Borrow.{Bor}
-use Rattle.go_operand_core.specs.TypeRules.{TypeRules}
-use Rattle.go_denote_core.specs.Arguments.{fits_type}
-use Rattle.go_denote_core.specs.declared.things.Argument.{Argument}
-use Rattle.go_denote_core.specs.declared.things.Argument.TheVariants as arguments
-use Rattle.go_operand_core.specs.declared.types.ValueType.TheVariants as value_types
+use Rattle.go_stmt_core.specs.operand_core.TypeRules.{TypeRules}
+use Rattle.go_stmt_core.specs.denote_core.Arguments.{fits_type}
+use Rattle.go_stmt_core.specs.denote_core.declared.things.Argument.{Argument}
+use Rattle.go_stmt_core.specs.denote_core.declared.things.Argument.TheVariants as arguments
+use Rattle.go_stmt_core.specs.operand_core.declared.types.ValueType.TheVariants as value_types
 use Rattle.go_term_core.specs.Terms.{Term}
 use Rattle.go_term_core.specs.Shapes.{shape}
 use Rattle.go_term_core.specs.declared.term.TypeTerm.{TypeTerm}
-use Rattle.go_func_core.specs.face_core.Faces.{operand_shown}
+use Rattle.go_env_core.specs.declared_core.Faces.{operand_shown}
 use Rattle.go_judge_core.specs.declared.fitting.Given.{Given}
 use Rattle.go_judge_core.specs.declared.fitting.Given.TheVariants as givens
 

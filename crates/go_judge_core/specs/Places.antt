@@ -1,9 +1,9 @@
 -- The environment of a place: that of its file, with what is known of its package.
 use Rattle.std.specs.Prelude.{◌≡◌, ℕ}
-use Rattle.go_block_core.specs.Blocks.{BlocksModel}
+use Rattle.go_names_core.specs.block_core.Blocks.{BlocksModel}
 use Rattle.go_env_core.specs.declared.here.Here.{Here}
 use Rattle.go_env_core.specs.Scenes.{SceneModel, scene_shown}
-use Rattle.go_snap_core.specs.part_core.Parts.{PartModel}
+use Rattle.go_complete_core.specs.package_core.PackagePartParts.{PartModel}
 use Rattle.go_judge_core.specs.declared.known.PackageKnown.{PackageKnown}
 
 -- what is known of a package of these blocks where its expressions are judged

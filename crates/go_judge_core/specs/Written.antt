@@ -5,10 +5,10 @@ use Rattle.std.specs.Prelude.{◌≡◌, ◌++◌, ◌∷◌, ℕ, Bool, true, f
 use Rattle.go_term_core.specs.Terms.{Term}
 use Rattle.go_tree_nodes.specs.declared.types.TypeName.{TypeName}
 use Rattle.go_tree_nodes.specs.declared.types.TypeName.TheVariants as type_names
-use Rattle.go_handle_core.specs.Stars.{starred}
-use Rattle.go_decide_core.specs.Identity.{identical_of}
-use Rattle.go_expr_core.specs.Looks.{everywhere}
-use Rattle.go_expr_core.specs.Denoting.{named_type}
+use Rattle.go_env_core.specs.handle_core.Stars.{starred}
+use Rattle.go_env_core.specs.handle_core.DecidingIdentity.{identical_of}
+use Rattle.go_stmt_core.specs.expr_core.Looks.{everywhere}
+use Rattle.go_stmt_core.specs.expr_core.Denoting.{named_type}
 use Rattle.go_env_core.specs.declared.here.Here.{Here}
 use Rattle.go_env_core.specs.Looks.{TheLooks, here_literals, here_names, here_written, types_at}
 use Rattle.go_judge_core.specs.declared.writing.TypeText.{TypeText}

@@ -1,21 +1,21 @@
 //! Which rules a piece breaks, judged anew.
 ghost use Rattle.std.specs.Prelude.{◌≡◌, ◌++◌, true, IfOk, IsTrue, OnOk};
 ghost use Rattle.go_tree_nodes.specs.Shapes.{shape_simple, shape_value_spec};
-ghost use Rattle.go_expr_core.specs.Looks.{everywhere};
-ghost use Rattle.go_piece_core.specs.Specifications.{spec_uses};
-ghost use Rattle.go_piece_core.specs.Statements.{simple_faults, simple_uses};
+ghost use Rattle.go_stmt_core.specs.expr_core.Looks.{everywhere};
+ghost use Rattle.go_stmt_core.specs.piece.Specifications.{spec_uses};
+ghost use Rattle.go_stmt_core.specs.piece.Statements.{simple_faults, simple_uses};
 ghost use Rattle.go_judge_core.specs.Breaking.{HasFault, HasRefusal, IsBroken, IsNoted, IsRefusedAt, faults_of, spec_faults_in, uses_of};
 
 use crate::locals::declares;
 use crate::pieces::Piece;
-use go_denote_core::Outcome;
-use go_expr_core::local_core::Fault;
-use go_expr_core::{Exprs, Notes, Use};
-use go_piece_core::{
+use go_complete_core::report_core::HeldLocal;
+use go_names_core::local_core::Fault;
+use go_stmt_core::denote_core::Outcome;
+use go_stmt_core::expr_core::{Exprs, Notes, Use};
+use go_stmt_core::piece::{
     check_condition, check_outer_spec, check_returned, check_short, check_simple, check_spec,
 };
-use go_snap_core::answer_core::HeldLocal;
-use go_text_core::{Rule, add};
+use go_tree_nodes::text_core::{Rule, add};
 use go_tree_nodes::{Definition, Simple, ValueKind, ValueSpec};
 use std::alloc::{AllocError, Global};
 

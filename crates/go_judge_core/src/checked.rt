@@ -1,18 +1,18 @@
 //! Checked files, with what is known of their packages where expressions are judged.
 ghost use Rattle.std.specs.Prelude.{◌≡◌, IfOk, map};
 ghost use Rattle.std.specs.Option.{option_map};
-ghost use Rattle.go_func_core.specs.face_core.Faces.{face_shown};
-ghost use Rattle.go_func_core.specs.env_core.Scenes.{scene_shown};
+ghost use Rattle.go_env_core.specs.declared_core.Faces.{face_shown};
+ghost use Rattle.go_env_core.specs.Scenes.{scene_shown};
 ghost use Rattle.go_judge_core.specs.Places.{scene_in};
 
 use crate::known::{PackageKnown, package_known};
-use go_func_core::env_core::Scene;
-use go_func_core::face_core::{Face, lend};
-use go_handle_core::{SignatureRef, TypeRef};
-use go_path_core::ImportPath;
-use go_snap_core::{FileIn, Snapshot};
+use go_complete_core::snap_core::{FileIn, Snapshot};
+use go_env_core::Scene;
+use go_env_core::declared_core::{Face, lend};
+use go_env_core::handle_core::{SignatureRef, TypeRef};
+use go_table_core::path_core::ImportPath;
 use go_term_core::{Signature, TypeTerm};
-use go_text_core::add;
+use go_tree_nodes::text_core::add;
 use std::alloc::{AllocError, Global};
 
 /// A checked file, with what is known of its package where expressions are judged: it is made once for all places of the file.

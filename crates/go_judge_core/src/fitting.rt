@@ -1,15 +1,15 @@
 //! The first value that does not fit.
 ghost use Rattle.std.specs.Prelude.{◌≡◌, IfOk, map, option_copied, slice_get};
-ghost use Rattle.go_decide_core.specs.Rules.{term_rules};
+ghost use Rattle.go_env_core.specs.handle_core.DecidingRules.{term_rules};
 ghost use Rattle.go_judge_core.specs.Misfits.{IsFirstMisfit, fits_number, fits_there, given_shown, wanted_shown};
 
 use crate::locals::lend_operand;
-use go_denote_core::{Argument, fits_type};
-use go_handle_core::{Home, TypeRef, TypesHere};
-use go_operand_core::{Operand, TypeLooks, ValueType, basic_under};
+use go_env_core::handle_core::{Home, TypeRef, TypesHere};
+use go_stmt_core::denote_core::{Argument, fits_type};
+use go_stmt_core::operand_core::{Operand, TypeLooks, ValueType, basic_under};
 use go_table_core::TypeTable;
 use go_term_core::{Basic, TypeTerm};
-use go_text_core::add;
+use go_tree_nodes::text_core::add;
 use std::alloc::{AllocError, Global};
 
 /// A value that is given, as far as it is known.

@@ -1,8 +1,8 @@
 //! What expressions denote, held: it lends nothing of the place where they were judged.
-use go_denote_core::{Builtin, Denoted};
-use go_func_core::face_core::{Face, hold};
-use go_handle_core::{Decl, SignatureRef, TypeRef};
-use go_operand_core::{Operand, ValueType};
+use go_env_core::declared_core::{Face, hold};
+use go_env_core::handle_core::{Decl, SignatureRef, TypeRef};
+use go_stmt_core::denote_core::{Builtin, Denoted};
+use go_stmt_core::operand_core::{Operand, ValueType};
 use go_term_core::{Signature, TypeTerm, copy_signature};
 use std::alloc::{AllocError, Global};
 

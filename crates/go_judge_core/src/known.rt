@@ -1,14 +1,13 @@
 //! What is known of a checked package where its expressions are judged.
-use go_func_core::entry_core::ShownPackages;
-use go_func_core::face_core::{FaceTable, WrittenFaces, written_faces};
-use go_func_core::inline_core::{Ground, InlineTypes, initialiser_types};
-use go_handle_core::Home;
-use go_snap_core::part_core::{Part, types_of};
-use go_snap_core::ready_core::{PackageAt, package_outlines};
-use go_summary_core::View;
+use go_complete_core::package_core::{PackageAt, Part, package_outlines, types_of};
+use go_complete_core::summary_core::View;
+use go_complete_core::views::view_of_imports;
+use go_env_core::declared_core::{FaceTable, WrittenFaces, written_faces};
+use go_env_core::handle_core::Home;
+use go_stmt_core::inline_core::{Ground, InlineTypes, initialiser_types};
 use go_table_core::TypeTable;
 use go_term_core::decl_core::{Outline, Places, TopDecl};
-use go_view_core::view_of_imports;
+use go_typexpr_core::entry::ShownPackages;
 use std::alloc::{AllocError, Global};
 
 /// What is known of a checked package where its expressions are judged: the types that it sees, what the packages show that it imports, and the places of

@@ -23,8 +23,3 @@ pub use judging::Setting;
 pub use nodes::{Extent, beginning, extent_of, inside, literal_round, marked};
 pub use pieces::{Piece, exprs_of};
 pub use writing::TypeText;
-
-/// What the crates above name of `go_denote_core`.
-pub mod denote_core {
-    pub use go_denote_core::Stand;
-}

@@ -1,15 +1,15 @@
 //! The locals that are open at a piece, with what is kept of them.
 ghost use Rattle.std.specs.Prelude.{◌≡◌, IfOk, option_map};
-ghost use Rattle.go_func_core.specs.face_core.Faces.{operand_shown, value_type_shown};
+ghost use Rattle.go_env_core.specs.declared_core.Faces.{operand_shown, value_type_shown};
 
 use crate::steps::Step;
-use go_func_core::env_core::Meaning;
-use go_handle_core::TypeRef;
-use go_operand_core::{Operand, ValueType};
-use go_snap_core::answer_core::HeldLocal;
+use go_complete_core::report_core::HeldLocal;
+use go_env_core::Meaning;
+use go_env_core::handle_core::TypeRef;
+use go_stmt_core::operand_core::{Operand, ValueType};
 use go_term_core::TypeTerm;
-use go_text_core::add;
 use go_tree_nodes::Ident;
+use go_tree_nodes::text_core::add;
 use std::alloc::{AllocError, Global};
 
 /// A local that is open at a place.

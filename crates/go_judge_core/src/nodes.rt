@@ -1,6 +1,6 @@
 //! Expressions inside others, by where they stand.
 
-use go_expr_core::start;
+use go_stmt_core::expr_core::start;
 use go_tree_nodes::{Expr, Item};
 
 // The first byte of the token by which an expression is known among all that hold it or stand in it: its operator, the name after its dot, or

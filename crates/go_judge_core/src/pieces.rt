@@ -1,7 +1,7 @@
 //! The pieces of a declaration: its statements and its specifications without the blocks inside them.
 
-use go_expr_core::start;
-use go_text_core::{Span, add};
+use go_stmt_core::expr_core::start;
+use go_tree_nodes::text_core::{Span, add};
 use go_tree_nodes::{Decl, Expr, Exprs, File, Simple, ValueKind, ValueSpec};
 use std::alloc::{AllocError, Global};
 

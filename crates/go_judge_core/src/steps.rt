@@ -3,7 +3,7 @@
 //! The Go specification, "Blocks", "Declarations and scope".
 
 use crate::pieces::Piece;
-use go_text_core::add;
+use go_tree_nodes::text_core::add;
 use go_tree_nodes::{
     Branch, Decl, Expr, ForHead, FuncDecl, Ident, Idents, IfHead, Line, Loop, Otherwise, Param,
     Receiver, Results, Simple, Stmt, ValueDecl, ValueKind, ValueSpec, ValueSpecs,

@@ -1,16 +1,16 @@
 //! Types as they are told at a place.
 ghost use Rattle.std.specs.Prelude.{◌≡◌, true, IfOk, IfSome, replicate, string_bytes};
 ghost use Rattle.go_term_core.specs.Shapes.{shape};
-ghost use Rattle.go_handle_core.specs.Stars.{starred};
+ghost use Rattle.go_env_core.specs.handle_core.Stars.{starred};
 ghost use Rattle.go_judge_core.specs.Written.{IsToldAs, IsWrittenAs, are_named_so, spelled_after};
 
-use go_block_core::{Binding, Target};
-use go_decl_core::DeclKey;
-use go_expr_core::check_type_name;
-use go_func_core::env_core::Here;
-use go_handle_core::{TypeRef, is_identical};
+use go_env_core::Here;
+use go_env_core::handle_core::{TypeRef, is_identical};
+use go_names_core::block_core::{Binding, Target};
+use go_stmt_core::expr_core::check_type_name;
+use go_term_core::decl_core::DeclKey;
 use go_term_core::{Basic, TypeTerm};
-use go_text_core::{Name, Span, add};
+use go_tree_nodes::text_core::{Name, Span, add};
 use go_tree_nodes::{Ident, TypeName};
 use std::alloc::{AllocError, Global};
 

@@ -7,18 +7,18 @@ use Rattle.std.proofs.lemmas.List.{append_assoc, append-nil, map-append}
 use Rattle.std.proofs.lemmas.List.Elements.{filter-append}
 use Rattle.std.proofs.lemmas.List.Folds.{list_any-append}
 use Rattle.std.proofs.lemmas.Slice.Eq.{bytes_eq-Decides}
-use Rattle.go_open_core.specs.text_core.Text.{is_blank}
+use Rattle.go_tree_nodes.specs.text_core.Text.{is_blank}
 use Rattle.go_tree_nodes.specs.declared.names.Ident.{Ident}
 use Rattle.go_tree_nodes.specs.Terminals.{Terminal, TerminalKind, Spelled, Number, Quoted, Word, Mark, Stray, InOrder, least_width}
 use Rattle.go_tree_nodes.proofs.InOrder.{in_order_ends, AreInTurn, turn_ends}
 use Rattle.go_local_core.specs.Steps.{Steps, Done, Check, Declare, Inner, spell_piece}
-use Rattle.go_open_core.specs.Blocks.{or_else}
+use Rattle.go_scope_stack.specs.Blocks.{or_else}
 use Rattle.go_local_core.specs.Binding.{Local, NameLook, region_has, is_second, shown, innermost_of, bound, is_first}
 use Rattle.go_local_core.specs.Law.{Rules, Out, out, both, locals_of_names, declared_from, declare_out, check_out, law_out}
 use Rattle.go_local_core.specs.Faults.{name_faults}
 use Rattle.go_local_core.specs.mirrors.Walk.{latest, look_in, is_new, with_names, news, names_of, walk_out}
 use Rattle.go_local_core.specs.Alike.{AlikeAt, Alike, LookAtNames}
-use Rattle.go_open_core.specs.text_core.Each.{Each, each-weaker, each-append, filter-none}
+use Rattle.go_tree_nodes.specs.text_core.Each.{Each, each-weaker, each-append, filter-none}
 use Rattle.go_local_core.proofs.Found.{pairs, found}
 use Rattle.go_local_core.proofs.Placed.{Placed, placed_ends}
 use Rattle.go_local_core.proofs.Parts.{IsPart, inside, names_parts, law_parts, walk_parts}

@@ -9,7 +9,7 @@ use Rattle.std.proofs.lemmas.List.Elements.{filter-append}
 use Rattle.std.proofs.lemmas.List.Folds.{list_any-append}
 use Rattle.std.proofs.lemmas.Slice.Eq.{bytes_eq-Decides}
 use Rattle.go_local_core.specs.Binding.{Local, region_has, is_second, shown}
-use Rattle.go_open_core.specs.text_core.Each.{Each, each-weaker, each-append, filter-none, any-none, any-same, none-each, and_false, and_true, or_false, absorbed, and_left, each-both}
+use Rattle.go_tree_nodes.specs.text_core.Each.{Each, each-weaker, each-append, filter-none, any-none, any-same, none-each, and_false, and_true, or_false, absorbed, and_left, each-both}
 use Rattle.go_local_core.proofs.Found.{IsOver, Nested, nested_push}
 
 -- `past` are the declarations passed so far of `all`, and the walk stands in the block from o to c: what is open is what is

@@ -6,10 +6,10 @@ use Rattle.std.specs.Option.{option_map}
 use Rattle.std.specs.Str.{bytes_eq}
 use Rattle.std.proofs.lemmas.Bool.{le-leb, lt-leb}
 use Rattle.std.proofs.lemmas.Slice.Eq.{bytes_eq-Decides}
-use Rattle.go_open_core.specs.Blocks.{or_else}
+use Rattle.go_scope_stack.specs.Blocks.{or_else}
 use Rattle.go_local_core.specs.Binding.{Local, is_inside, innermost_of}
 use Rattle.go_local_core.specs.mirrors.Walk.{Names, latest}
-use Rattle.go_open_core.specs.text_core.Each.{Each, each-weaker, each-append, find-same}
+use Rattle.go_tree_nodes.specs.text_core.Each.{Each, each-weaker, each-append, find-same}
 
 -- declarations as names with what they mean
 abbrev pub pairs : {X : Type 0} → List (Local X) → Names X

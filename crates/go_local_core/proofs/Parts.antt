@@ -1,14 +1,14 @@
 -- Where the declarations of steps lie.
 use Rattle.std.proofs.Common.{◌≡◌, ℕ, suc, ◌+◌, ◌<◌, ◌≤◌, Bool, true, false, ◌⊎◌, inl, inr, List, [], ◌∷◌, ◌++◌, Option, refl, arith, map}
 use Rattle.std.specs.Prelude.{if◌then◌else◌}
-use Rattle.go_open_core.specs.text_core.Text.{is_blank}
+use Rattle.go_tree_nodes.specs.text_core.Text.{is_blank}
 use Rattle.go_tree_nodes.specs.declared.names.Ident.{Ident}
 use Rattle.go_tree_nodes.proofs.InOrder.{in_order_ends, AreInTurn, turn_ends}
 use Rattle.go_local_core.specs.Steps.{Steps, Done, Check, Declare, Inner, spell_piece}
 use Rattle.go_local_core.specs.Binding.{Local, bound, is_first}
 use Rattle.go_local_core.specs.Law.{Rules, locals_of_names, declared_from, law_out}
 use Rattle.go_local_core.specs.mirrors.Walk.{Names, look_in, news, names_of, with_names, walk_out}
-use Rattle.go_open_core.specs.text_core.Each.{Each, each-weaker, each-append}
+use Rattle.go_tree_nodes.specs.text_core.Each.{Each, each-weaker, each-append}
 use Rattle.go_local_core.proofs.Placed.{Placed, placed_ends}
 use Rattle.go_local_core.proofs.Fits.{IsInside}
 

@@ -3,12 +3,12 @@ use Rattle.std.proofs.Common.{◌≡◌, ℕ, suc, Bool, true, false, ◌&&◌, 
 use Rattle.std.specs.List.{list_any}
 use Rattle.std.specs.Str.{bytes_eq}
 use Rattle.std.proofs.lemmas.List.{append-nil}
-use Rattle.go_open_core.specs.text_core.Text.{is_blank}
-use Rattle.go_open_core.specs.text_core.declared.rule.Rule.TheVariants.{B1}
-use Rattle.go_open_core.specs.Blocks.{in_block, names_in, is_listed, is_repeated, repeated_behind, short_name, short_names, short_names_behind, is_short_new, any_new, block_after}
-use Rattle.go_open_core.specs.Blocks as open_blocks
-use Rattle.go_open_core.specs.declared.short.ShortName.TheVariants.{New, Old, Blank, Repeated}
-use Rattle.go_open_core.proofs.Names.{listed-append, listed-block}
+use Rattle.go_tree_nodes.specs.text_core.Text.{is_blank}
+use Rattle.go_tree_nodes.specs.text_core.declared.rule.Rule.TheVariants.{B1}
+use Rattle.go_scope_stack.specs.Blocks.{in_block, names_in, is_listed, is_repeated, repeated_behind, short_name, short_names, short_names_behind, is_short_new, any_new, block_after}
+use Rattle.go_scope_stack.specs.Blocks as open_blocks
+use Rattle.go_scope_stack.specs.declared.short.ShortName.TheVariants.{New, Old, Blank, Repeated}
+use Rattle.go_scope_stack.proofs.Names.{listed-append, listed-block}
 use Rattle.go_tree_nodes.specs.declared.names.Ident.{Ident}
 use Rattle.go_local_core.specs.Faults.{spellings, ident_fault, none_new_fault, repeated_faults}
 use Rattle.go_local_core.specs.Short.{fault_of_short, faults_of_each, meant, ShortFaults, ShortWalk}

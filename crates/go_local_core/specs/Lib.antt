@@ -10,4 +10,5 @@ pub mod Steps
 pub mod Tables
 pub mod Worked
 pub mod mirrors
-pub mod open_core
+pub mod walks
+pub mod scope_stack

@@ -1,6 +1,6 @@
 -- What a piece of a function declares, and the types that it writes.
 use Rattle.std.specs.Prelude.{ℕ, zero, suc, List, [], ◌∷◌, Option}
-use Rattle.go_open_core.specs.text_core.declared.span.Span.{Span}
+use Rattle.go_tree_nodes.specs.text_core.declared.span.Span.{Span}
 use Rattle.go_tree_nodes.specs.declared.names.Ident.{Ident}
 use Rattle.go_tree_nodes.specs.Trees.{Separated, TypeTree, SimpleTree, Alone, Step, Assign, Update, Define}
 use Rattle.go_tree_nodes.specs.WrittenTypes.{expr_types, some_exprs_types, signature_types, spec_types, simple_types}

@@ -1,9 +1,9 @@
 -- What the names to the left of `:=` break, by what each of them is.
 use Rattle.std.specs.Prelude.{◌≡◌, ℕ, suc, List, [], ◌∷◌, ◌++◌, map, if◌then◌else◌}
-use Rattle.go_open_core.specs.text_core.declared.rule.Rule.TheVariants.{B1, B4}
-use Rattle.go_open_core.specs.Blocks.{short_names, is_short_new, any_new, block_after}
-use Rattle.go_open_core.specs.declared.short.ShortName.{ShortName}
-use Rattle.go_open_core.specs.declared.short.ShortName.TheVariants.{New, Old, Blank, Repeated}
+use Rattle.go_tree_nodes.specs.text_core.declared.rule.Rule.TheVariants.{B1, B4}
+use Rattle.go_scope_stack.specs.Blocks.{short_names, is_short_new, any_new, block_after}
+use Rattle.go_scope_stack.specs.declared.short.ShortName.{ShortName}
+use Rattle.go_scope_stack.specs.declared.short.ShortName.TheVariants.{New, Old, Blank, Repeated}
 use Rattle.go_tree_nodes.specs.declared.names.Ident.{Ident}
 use Rattle.go_local_core.specs.declared.Fault.{Fault}
 use Rattle.go_local_core.specs.Steps.{OneNew}

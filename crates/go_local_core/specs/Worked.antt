@@ -1,7 +1,7 @@
 -- Two functions with what each name in them denotes, worked out by hand. The n-th token of a function stands at n.
 use Rattle.std.specs.Prelude.{◌≡◌, ℕ, zero, suc, List, [], ◌∷◌, ◌++◌, Option, Some, None, codes}
-use Rattle.go_open_core.specs.text_core.declared.span.Span.{Span}
-use Rattle.go_open_core.specs.text_core.declared.rule.Rule.TheVariants.{B1, B4}
+use Rattle.go_tree_nodes.specs.text_core.declared.span.Span.{Span}
+use Rattle.go_tree_nodes.specs.text_core.declared.rule.Rule.TheVariants.{B1, B4}
 use Rattle.go_tree_nodes.specs.token_core.declared.kind.Operator.TheVariants as operator
 use Rattle.go_tree_nodes.specs.declared.names.Ident.{Ident}
 use Rattle.go_tree_nodes.specs.declared.decls.ValueKind.TheVariants as kinds

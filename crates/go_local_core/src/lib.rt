@@ -4,8 +4,9 @@
 #![tactic(auto)]
 
 mod laws;
+pub mod walks;
 
-use go_open_core::text_core::Rule;
+use go_tree_nodes::text_core::Rule;
 pub use laws::{one_is_denoted, one_table, short_is_one_definition, worked_functions};
 
 /// A rule that is broken, and the offset in bytes where it is.
@@ -15,7 +16,7 @@ pub struct Fault {
     pub rule: Rule,
 }
 
-/// What the crates above name of `go_open_core`.
-pub mod open_core {
-    pub use go_open_core::{DeclId, NameList, ShortName};
+/// What the crates above name of `go_scope_stack`.
+pub mod scope_stack {
+    pub use go_scope_stack::{DeclId, NameList, ShortName};
 }

@@ -1,8 +1,8 @@
 -- What is printed stays printed, a run that is over stays as it is, and only a run that did all its steps spent them.
 use Rattle.std.proofs.Common.{◌≡◌, ℕ, zero, suc, ◌+◌, ◌≤◌, true, false, List, [], ◌∷◌, ◌++◌, ℤ, Option, Some, None, refl, sym, ap, ◌∙◌, arith, append_assoc, append-nil}
 use Rattle.std.specs.Prelude.{slice_get, length}
-use Rattle.go_instruction_core.specs.declared.instruction.Instruction.{Instruction}
-use Rattle.go_instruction_core.specs.declared.instruction.Instruction.TheVariants as instructions
+use Rattle.go_object_core.specs.declared.instructions.instruction.Instruction.{Instruction}
+use Rattle.go_object_core.specs.declared.instructions.instruction.Instruction.TheVariants as instructions
 use Rattle.go_machine_core.specs.Programs.{LinkedOf, callee}
 use Rattle.go_machine_core.specs.Words.{line_text, sum, difference, product, quotient, remainder, equal, differs, less, at_most, greater, at_least}
 use Rattle.go_machine_core.specs.Machine.{Frame, Run, Ended, Panicked, Spent, Stuck, Machine, At, Over, on_one, resulting, on_two, popped, stuck_unless, left, entered, all_begun, starting, started, act, step, run_from}

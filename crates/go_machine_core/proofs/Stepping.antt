@@ -7,8 +7,8 @@ use Rattle.go_machine_core.specs.declared.state.State.{State}
 use Rattle.std.proofs.lemmas.Bool.{cases_lt}
 use Rattle.std.proofs.lemmas.Option.{slice_get_past}
 use Rattle.go_machine_core.specs.declared.linked.Linked.{Linked}
-use Rattle.go_instruction_core.specs.declared.instruction.Instruction.{Instruction}
-use Rattle.go_instruction_core.specs.declared.instruction.Instruction.TheVariants as instructions
+use Rattle.go_object_core.specs.declared.instructions.instruction.Instruction.{Instruction}
+use Rattle.go_object_core.specs.declared.instructions.instruction.Instruction.TheVariants as instructions
 use Rattle.go_machine_core.specs.Programs.{LinkedOf, linked_shown}
 use Rattle.go_machine_core.specs.Words.{is_true}
 use Rattle.go_machine_core.specs.Machine.{Frame as MachineFrame, at_place, on_one, jumped, chosen, begun, act, step, run_from, with_first, all_begun}

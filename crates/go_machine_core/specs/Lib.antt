@@ -4,4 +4,5 @@ pub mod Machine
 pub mod Ends
 pub mod Laws
 pub mod mirrors
-pub mod instruction_core
+pub mod link
+pub mod runs

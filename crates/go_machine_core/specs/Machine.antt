@@ -1,11 +1,11 @@
 -- What the machine does with objects, one instruction after another.
 use Rattle.std.specs.Prelude.{ℕ, zero, suc, ◌+◌, ◌-◌, Bool, true, false, List, [], ◌∷◌, ◌++◌, length, replicate, Option, Some, None, ℤ, pos, slice_get, slice_set}
-use Rattle.go_instruction_core.specs.declared.instruction.Distance.{Distance}
-use Rattle.go_instruction_core.specs.declared.instruction.Distance.TheVariants as distances
-use Rattle.go_instruction_core.specs.declared.instruction.Instruction.{Instruction}
-use Rattle.go_instruction_core.specs.declared.instruction.Instruction.TheVariants as instructions
-use Rattle.go_instruction_core.specs.declared.letters.Word.{Word}
-use Rattle.go_instruction_core.specs.declared.letters.Word.TheVariants as words
+use Rattle.go_object_core.specs.declared.instructions.instruction.Distance.{Distance}
+use Rattle.go_object_core.specs.declared.instructions.instruction.Distance.TheVariants as distances
+use Rattle.go_object_core.specs.declared.instructions.instruction.Instruction.{Instruction}
+use Rattle.go_object_core.specs.declared.instructions.instruction.Instruction.TheVariants as instructions
+use Rattle.go_object_core.specs.declared.instructions.letters.Word.{Word}
+use Rattle.go_object_core.specs.declared.instructions.letters.Word.TheVariants as words
 use Rattle.go_machine_core.specs.declared.state.PanicValue.{PanicValue}
 use Rattle.go_machine_core.specs.declared.state.PanicValue.TheVariants as panics
 use Rattle.go_machine_core.specs.Programs.{LinkedOf, callee}

@@ -1,6 +1,6 @@
 -- Programs: functions whose references are numbers of functions.
 use Rattle.std.specs.Prelude.{ℕ, List, Option, Some, None, slice_get}
-use Rattle.go_instruction_core.specs.declared.instruction.Instruction.{Instruction}
+use Rattle.go_object_core.specs.declared.instructions.instruction.Instruction.{Instruction}
 use Rattle.go_machine_core.specs.declared.linked.Linked.{Linked}
 
 -- a function: how many slots it has, of each of its references the number of the function that it is, if it is one, and its code

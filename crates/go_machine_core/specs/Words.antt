@@ -5,8 +5,8 @@ use Rattle.std.specs.Prelude.{ℕ, Bool, true, false, not, List, [], ◌∷◌, 
 use Rattle.std.specs.Int.{int_wrap, int_wrapping_div, w64}
 use Rattle.std.specs.Fmt.{signed_decimal}
 use Rattle.std.specs.Ordering.{int_eq}
-use Rattle.go_instruction_core.specs.declared.letters.Word.{Word}
-use Rattle.go_instruction_core.specs.declared.letters.Word.TheVariants as words
+use Rattle.go_object_core.specs.declared.instructions.letters.Word.{Word}
+use Rattle.go_object_core.specs.declared.instructions.letters.Word.TheVariants as words
 
 -- a boolean is 0 or 1
 abbrev pub bit : Bool → ℤ

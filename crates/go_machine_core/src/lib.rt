@@ -8,8 +8,10 @@ mod callers;
 mod execution;
 mod frame;
 mod laws;
+pub mod link;
 mod linked;
 mod operands;
+pub mod runs;
 mod slots;
 mod state;
 mod steps;
@@ -21,8 +23,3 @@ pub use frame::Frame;
 pub use laws::{budgets_agree, spent_means_all_steps, truths_are_bits};
 pub use linked::Linked;
 pub use state::{End, PanicValue};
-
-/// What the crates above name of `go_instruction_core`.
-pub mod instruction_core {
-    pub use go_instruction_core::Instruction;
-}

@@ -3,7 +3,7 @@ ghost use Rattle.std.specs.Prelude.{◌≡◌};
 ghost use Rattle.go_machine_core.specs.Programs.{callee};
 ghost use Rattle.go_machine_core.specs.mirrors.Shown.{numbered};
 
-use go_instruction_core::Instruction;
+use go_object_core::instructions::Instruction;
 
 /// A function of a program: its references are looked up once, so that a call takes no search. What is lent is of its object.
 #[derive(Drop)]

@@ -1,6 +1,6 @@
 //! Steps of the machine.
 ghost use Rattle.std.specs.Prelude.{◌≡◌, ◌<◌, ℕ, List, [], ◌∷◌, map, IfOk};
-ghost use Rattle.go_instruction_core.specs.declared.instruction.Instruction.TheVariants as instructions;
+ghost use Rattle.go_object_core.specs.declared.instructions.instruction.Instruction.TheVariants as instructions;
 ghost use Rattle.go_machine_core.specs.declared.linked.Linked.{Linked};
 ghost use Rattle.go_machine_core.specs.Programs.{linked_shown};
 ghost use Rattle.go_machine_core.specs.Machine.{on_one, on_two, onward, left, entered, step, run_from, panic_value};
@@ -11,7 +11,7 @@ use crate::linked::{Linked, callee_of};
 use crate::state::{End, PanicValue, State};
 use crate::text::write_line;
 use crate::words::{Operation, holds, invert, negate, operate};
-use go_instruction_core::{Distance, Instruction, Word};
+use go_object_core::instructions::{Distance, Instruction, Word};
 use std::alloc::{AllocError, Global};
 use std::mem;
 

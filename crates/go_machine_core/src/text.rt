@@ -3,7 +3,7 @@ ghost use Rattle.std.specs.Prelude.{◌≡◌, List, ℕ, ◌++◌, length, stri
 ghost use Rattle.go_machine_core.specs.Words.{word_text, rest_text, line_text};
 
 use crate::words::holds;
-use go_instruction_core::Word;
+use go_object_core::instructions::Word;
 use std::alloc::AllocError;
 
 fn write_word(text: &mut String, letter: Word, word: i64) -> Result<(), AllocError>

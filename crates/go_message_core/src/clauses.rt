@@ -2,7 +2,7 @@
 
 use crate::common::last_element;
 use go_diagnostic_core::{Here, package_at};
-use go_snap_core::graph_core::PackageSource;
+use go_graph_core::PackageSource;
 use go_tree_nodes::{ImportName, ImportSpec, ImportSpecs};
 
 /// The name in the clause of the first file of a package; nothing where that has no tree.

@@ -6,9 +6,9 @@ use crate::local::{is_declared, locals_of};
 use go_diagnostic_core::{
     Here, Message, Words, add_near_import, package_at, place_here, place_text, shown,
 };
-use go_snap_core::graph_core::{PackageSource, SourceFile};
-use go_text_core::{Rule, add};
-use go_token_core::{Operator, TokenKind, plain_value};
+use go_graph_core::{PackageSource, SourceFile};
+use go_tree_nodes::text_core::{Rule, add};
+use go_tree_nodes::token_core::{Operator, TokenKind, plain_value};
 use go_tree_nodes::{ImportSpec, ImportSpecs};
 use std::alloc::{AllocError, Global};
 

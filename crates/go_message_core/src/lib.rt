@@ -11,3 +11,8 @@ mod saying;
 mod twice;
 
 pub use saying::{message, message_below, message_in};
+
+/// What the crates above name of `go_diagnostic_core`.
+pub mod diagnostic_core {
+    pub use go_diagnostic_core::{Message, ScannedFile};
+}

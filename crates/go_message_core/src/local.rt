@@ -1,8 +1,8 @@
 //! The locals of a file that are open at a place.
 
 use go_diagnostic_core::{Here, Tokens};
-use go_snap_core::answer_core::HeldLocal;
-use go_token_core::{Keyword, Operator, TokenKind};
+use go_report_core::answer::HeldLocal;
+use go_tree_nodes::token_core::{Keyword, Operator, TokenKind};
 
 // How the last brace that a search backward passed stands.
 #[derive(Clone, Copy, PartialEq, Eq)]

@@ -7,8 +7,8 @@ use go_diagnostic_core::{
     Here, LineKind, Message, Words, add_import_with, add_names, add_near, add_near_in_case,
     declared_in, import_place, kind_text, own_decl, package_of_name, place_here, place_of_decl,
 };
-use go_text_core::Rule;
-use go_token_core::{Keyword, Operator, TokenKind};
+use go_tree_nodes::text_core::Rule;
+use go_tree_nodes::token_core::{Keyword, Operator, TokenKind};
 use go_universe_core::{PredeclaredKind, find_predeclared};
 use std::alloc::{AllocError, Global};
 

@@ -4,15 +4,15 @@ use crate::common::common_path;
 use crate::imports::of_import;
 use crate::names::of_name;
 use crate::twice::of_declaration;
+use go_diagnostic_core::snap_core::{PlacedFault, Snapshot};
 use go_diagnostic_core::{
     Here, LineKind, Message, ScannedFile, Words, add_change, place_here, place_text,
 };
 use go_explain_core::meaning;
-use go_mend_core::{Mend, lexical, mend};
-use go_parse_core::SynFault;
-use go_snap_core::{PlacedFault, Snapshot};
-use go_text_core::Rule;
-use go_token_core::TokenKind;
+use go_graph_core::parse_core::SynFault;
+use go_recovery_core::mend::{Mend, lexical, mend};
+use go_tree_nodes::text_core::Rule;
+use go_tree_nodes::token_core::TokenKind;
 use std::alloc::{AllocError, Global};
 
 /// What kind of thing a rule is of.

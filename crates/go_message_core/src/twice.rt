@@ -7,9 +7,9 @@ use go_diagnostic_core::{
     Here, LineKind, Message, Tokens, Words, import_place, own_decl, package_at, place_here,
     place_of_decl, place_text, shown,
 };
-use go_snap_core::graph_core::SourceFile;
-use go_text_core::Rule;
-use go_token_core::{Keyword, Operator, TokenKind, plain_value};
+use go_graph_core::SourceFile;
+use go_tree_nodes::text_core::Rule;
+use go_tree_nodes::token_core::{Keyword, Operator, TokenKind, plain_value};
 use std::alloc::{AllocError, Global};
 
 /// What is said of a declaration that breaks one of the rules B1 to B6.

@@ -1,14 +1,14 @@
 //! What is said of a fault.
 
-use go_members_told::case_core::Case;
-use go_members_told::diagnostic_core::{Message, ScannedFile};
-use go_members_told::judge_core::{CheckedFile, Piece};
-use go_members_told::snap_core::{PlacedFault, Snapshot};
-use go_members_told::{of_literal, of_selector};
+use go_member_messages::case_core::Case;
+use go_member_messages::judge_core::{CheckedFile, Piece};
+use go_member_messages::{of_literal, of_selector};
+use go_message_core::diagnostic_core::{Message, ScannedFile};
 use go_message_core::message_in;
-use go_operators_told::{of_constant, of_operands, of_type, of_unsupported};
+use go_operand_messages::{of_constant, of_operands, of_type, of_unsupported};
+use go_snap_core::{PlacedFault, Snapshot};
 use go_text_core::Rule;
-use go_values_told::{of_call, of_statement};
+use go_value_messages::{of_call, of_statement};
 use std::alloc::{AllocError, Global};
 
 /// Whether what is said of a rule is made of what expressions denote: of the rules of selectors (S), literals (F), calls (C), forms that are not supported (X), and types

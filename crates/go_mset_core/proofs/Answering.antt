@@ -8,8 +8,8 @@ use Rattle.ucd_category.specs.GeneralCategoryRows.{general_category_rows}
 use Rattle.go_mset_core.proofs.Interfaces.{sign_itself}
 use Rattle.std.specs.declared.cmp.Ordering.TheVariants.{Less}
 use Rattle.std.specs.Str.{chars}
-use Rattle.go_text_core.specs.Text.{uppercase, exported, SameId}
-use Rattle.go_text_core.specs.declared.rule.Rule.{Rule}
+use Rattle.go_path_core.specs.text_core.Text.{uppercase, exported, SameId}
+use Rattle.go_path_core.specs.text_core.declared.rule.Rule.{Rule}
 use Rattle.go_term_core.specs.declared.term.Method.{Method}
 use Rattle.go_term_core.specs.declared.term.MemberPlace.{MemberPlace}
 use Rattle.go_term_core.specs.Terms.{Term, NoType, Predeclared, ErrorType, Defined, PointerTo, StructOf, InterfaceOf, Methods, Sign, SignOf, Terms, NoTerm, ATerm, term_list, sign_params, sign_results}
@@ -17,9 +17,9 @@ use Rattle.go_term_core.specs.Identity.{IsMethod, SameSign, SameTerms, Identical
 use Rattle.go_term_core.specs.Shapes.{shape, sign_of, method_shapes}
 use Rattle.go_select_core.specs.table_core.Entries.{EntryLook, underlying_in}
 use Rattle.go_select_core.specs.embed_core.OwnersShown.{found_shown}
-use Rattle.go_select_core.specs.level_core.declared.search.Selected.{Selected}
-use Rattle.go_select_core.specs.level_core.Selectors.{IsSelectorAnswer, IsRule}
-use Rattle.go_select_core.specs.level_core.ListLemmas.{not_same}
+use Rattle.go_select_core.specs.declared.levels.search.Selected.{Selected}
+use Rattle.go_select_core.specs.levels.Selectors.{IsSelectorAnswer, IsRule}
+use Rattle.go_select_core.proofs.LevelsListLemmas.{not_same}
 use Rattle.go_mset_core.specs.declared.interface.Missing.{Missing}
 use Rattle.go_mset_core.specs.MethodSets.{IsCallable, IsInMethodSet}
 use Rattle.go_mset_core.specs.Implementing.{IsSigned, HasMethod, HasMethodsOf, IsFirstMissing, IsImplementsAnswer, error_sign}

@@ -1,7 +1,7 @@
 -- The methods of interface types.
 use Rattle.std.proofs.Common.{◌≡◌, ℕ, zero, suc, Bool, false, List, [], ◌∷◌, ◌++◌, Contains, Some, refl, sym, ap, ◌∙◌, subst, arith, inl, inr}
 use Rattle.std.specs.Prelude.{slice_get, codes}
-use Rattle.go_text_core.specs.Text.{SameId, is_blank}
+use Rattle.go_path_core.specs.text_core.Text.{SameId, is_blank}
 use Rattle.go_term_core.specs.declared.term.MemberPlace.{MemberPlace}
 use Rattle.go_term_core.specs.Terms.{Term, NoType, Predeclared, ErrorType, Defined, PointerTo, StructOf, InterfaceOf, Methods, NoMethod, AMethod, Sign, SignOf, Terms, NoTerm, ATerm}
 use Rattle.go_term_core.specs.Identity.{IsMethod, SameSign, SameTerms}
@@ -11,8 +11,8 @@ use Rattle.go_select_core.specs.table_core.Assign.{IsInterface}
 use Rattle.go_select_core.specs.table_core.Entries.{EntryLook, underlying_in}
 use Rattle.go_select_core.specs.embed_core.Owners.{OwnerModel, EmbeddedEdge, Found, AFieldOf, AMethodOf, AnInterfaces, TheErrorMethod, Named, owner_in, path_of_term, term_embedded, declared_found, methods_found, term_found, members_of}
 use Rattle.go_select_core.specs.embed_core.OwnersShown.{IsNamedAt}
-use Rattle.go_select_core.specs.level_core.Paths.{Step, FieldsLead, IsSelected}
-use Rattle.go_select_core.specs.level_core.Walks.{selects_here}
+use Rattle.go_select_core.specs.levels.Paths.{Step, FieldsLead, IsSelected}
+use Rattle.go_select_core.proofs.LevelsWalks.{selects_here}
 use Rattle.go_mset_core.specs.MethodSets.{IsCallable}
 use Rattle.go_mset_core.specs.Implementing.{IsSigned, IsOfInterface, error_sign}
 use Rattle.go_mset_core.specs.Laws.{IsInterfaceType, AreNamed, HasNamed, ImplementsItself, ImplementsIsTransitive, InterfacesHaveNoMore}

@@ -1,12 +1,12 @@
 -- Types that have no methods.
 use Rattle.std.proofs.Common.{◌≡◌, List, ℕ, true, subst}
-use Rattle.go_select_core.specs.decl_core.declared.keys.DeclKey.{DeclKey}
+use Rattle.go_term_core.specs.decl_core.declared.keys.DeclKey.{DeclKey}
 use Rattle.go_term_core.specs.Terms.{Term, NoType, Predeclared, ErrorType, Defined, PointerTo, StructOf, InterfaceOf}
-use Rattle.go_select_core.specs.settle_core.declared.kind.Kind.{Kind}
-use Rattle.go_select_core.specs.settle_core.declared.kind.Kind.TheVariants as kinds
+use Rattle.go_term_core.specs.declared.settling.kind.Kind.{Kind}
+use Rattle.go_term_core.specs.declared.settling.kind.Kind.TheVariants as kinds
 use Rattle.go_select_core.specs.table_core.Entries.{EntryLook, underlying_in}
 use Rattle.go_select_core.specs.embed_core.Owners.{Found}
-use Rattle.go_select_core.specs.level_core.Selectors.{In, FieldsIn, unless_refused, term_kind_in, searched_under}
+use Rattle.go_select_core.specs.levels.Selectors.{In, FieldsIn, unless_refused, term_kind_in, searched_under}
 use Rattle.go_mset_core.specs.MethodSets.{IsMethodFound, IsInMethodSet}
 use Rattle.go_mset_core.specs.Laws.{HaveNoMethods}
 

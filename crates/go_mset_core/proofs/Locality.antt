@@ -5,7 +5,7 @@ use Rattle.go_select_core.specs.table_core.Entries.{EntryLook, underlying_in}
 use Rattle.go_select_core.specs.table_core.Laws.{AgreeFrom}
 use Rattle.go_select_core.specs.table_core.Meanings.{underlying_local}
 use Rattle.go_select_core.specs.embed_core.Owners.{Found}
-use Rattle.go_select_core.specs.level_core.Selectors.{Searched, Refused, In, FieldsIn, searched}
+use Rattle.go_select_core.specs.levels.Selectors.{Searched, Refused, In, FieldsIn, searched}
 use Rattle.go_select_core.proofs.Local.{ReachesWhat, agree_along, agree_back, selected_there, searched_same, reach_searched}
 use Rattle.go_mset_core.specs.declared.interface.Missing.{Missing}
 use Rattle.go_mset_core.specs.declared.methods.SetMethod.{SetMethod}

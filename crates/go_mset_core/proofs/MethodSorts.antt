@@ -1,7 +1,7 @@
 -- Lists of the methods of a set.
 use Rattle.std.proofs.Common.{◌≡◌, ◌↔◌, ℕ, Bool, true, false, ◌||◌, List, [], ◌∷◌, ◌++◌, Contains, Result, Ok, Err, IfOk, OnOk, IsTrue, append-nil, refl, sym, ap, ◌∙◌, subst, ◌⊎◌, inl, inr, if◌then◌else◌}
 use Rattle.std.specs.Prelude.{map}
-use Rattle.go_text_core.specs.Text.{SameId}
+use Rattle.go_path_core.specs.text_core.Text.{SameId}
 use Rattle.go_term_core.specs.Terms.{Term}
 use Rattle.go_term_core.proofs.Meanings.{id_back}
 use Rattle.go_term_core.proofs.Members.{In, Rises, contained_in, in_contained, in_map, map_in, pairs_rise, rising_pairs, rising_same}
@@ -10,8 +10,8 @@ use Rattle.go_select_core.specs.embed_core.declared.member.Member.{Member}
 use Rattle.go_select_core.specs.embed_core.declared.member.Member.TheVariants as members
 use Rattle.go_select_core.specs.embed_core.Owners.{Found, AFieldOf, AMethodOf, AnInterfaces, TheErrorMethod, Named}
 use Rattle.go_select_core.specs.embed_core.OwnersShown.{found_shown, name_shown, member_package_shown}
-use Rattle.go_select_core.specs.level_core.declared.search.Selected.{Selected}
-use Rattle.go_select_core.specs.level_core.Selectors.{Searched, Refused, In as InType, FieldsIn, searched, IsFoundAs}
+use Rattle.go_select_core.specs.declared.levels.search.Selected.{Selected}
+use Rattle.go_select_core.specs.levels.Selectors.{Searched, Refused, In as InType, FieldsIn, searched, IsFoundAs}
 use Rattle.go_select_core.specs.Selections.{IsIdBefore, IsSelectedBefore, AreSelections}
 use Rattle.go_mset_core.specs.declared.methods.SetMethod.{SetMethod}
 use Rattle.go_mset_core.specs.MethodSets.{IsCallable, IsMethodFound, IsInMethodSet}

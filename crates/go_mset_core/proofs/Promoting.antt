@@ -1,12 +1,12 @@
 -- Methods of a type itself, and methods that embedded fields promote.
 use Rattle.std.proofs.Common.{◌≡◌, ◌↔◌, ℕ, ◌<◌, Bool, true, false, ◌||◌, List, [], ◌∷◌, length, refl, sym, ap, ◌∙◌, subst, arith, ◌⊎◌, inl, inr}
-use Rattle.go_text_core.specs.Text.{is_blank}
+use Rattle.go_path_core.specs.text_core.Text.{is_blank}
 use Rattle.go_term_core.specs.Terms.{Term, PointerTo}
 use Rattle.go_select_core.specs.table_core.Entries.{EntryLook}
 use Rattle.go_select_core.specs.embed_core.Owners.{Found, AFieldOf, AMethodOf, AnInterfaces, TheErrorMethod}
-use Rattle.go_select_core.specs.level_core.Paths.{Step, FieldsLead, IsSelected}
-use Rattle.go_select_core.specs.level_core.Edges.{step_same}
-use Rattle.go_select_core.specs.level_core.Walks.{selects_here}
+use Rattle.go_select_core.specs.levels.Paths.{Step, FieldsLead, IsSelected}
+use Rattle.go_select_core.proofs.LevelsEdges.{step_same}
+use Rattle.go_select_core.proofs.LevelsWalks.{selects_here}
 use Rattle.go_mset_core.specs.MethodSets.{IsCallable, IsInMethodSet}
 use Rattle.go_mset_core.specs.Laws.{IsOther, IsInterfaceType, PointerHasMore, PointerImplementsMore, IsOwn, ReceiversDecide, IsPromoted, Promotion}
 use Rattle.go_mset_core.proofs.Sets.{searched_other, searched_pointer, searched_interface, set_by, in_set_at}

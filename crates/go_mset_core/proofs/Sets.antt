@@ -1,19 +1,19 @@
 -- What is in a method set.
 use Rattle.std.proofs.Common.{◌≡◌, ◌↔◌, ℕ, Bool, true, false, ◌||◌, List, refl, sym, ap, ◌∙◌, subst, inl, inr}
-use Rattle.go_text_core.specs.Text.{SameId, is_blank}
-use Rattle.go_text_core.specs.declared.rule.Rule.{Rule}
+use Rattle.go_path_core.specs.text_core.Text.{SameId, is_blank}
+use Rattle.go_path_core.specs.text_core.declared.rule.Rule.{Rule}
 use Rattle.go_term_core.specs.Terms.{Term, NoType, Predeclared, ErrorType, Defined, PointerTo, StructOf, InterfaceOf, Sign}
 use Rattle.go_term_core.proofs.Meanings.{id_back, id_on}
-use Rattle.go_select_core.specs.settle_core.declared.kind.Kind.TheVariants as kinds
-use Rattle.go_select_core.specs.settle_core.Settled.{kind_of_term}
+use Rattle.go_term_core.specs.declared.settling.kind.Kind.TheVariants as kinds
+use Rattle.go_term_core.specs.settling.Settled.{kind_of_term}
 use Rattle.go_select_core.specs.table_core.Entries.{EntryLook, underlying_in}
 use Rattle.go_select_core.specs.table_core.Assign.{IsInterface}
 use Rattle.go_select_core.specs.embed_core.Owners.{OwnerModel, Found, AFieldOf, AMethodOf, AnInterfaces, TheErrorMethod}
 use Rattle.go_select_core.specs.embed_core.OwnersShown.{IsNamedAt, found_shown}
-use Rattle.go_select_core.specs.level_core.declared.search.Selected.{Selected}
-use Rattle.go_select_core.specs.level_core.Paths.{Hit, IsSelected}
-use Rattle.go_select_core.specs.level_core.Selectors.{Searched, Refused, In, FieldsIn, unless_refused, searched_under, searched, IsFieldFound, IsFoundSelected, IsRefused, IsRule}
-use Rattle.go_select_core.specs.level_core.ListLemmas.{true_false}
+use Rattle.go_select_core.specs.declared.levels.search.Selected.{Selected}
+use Rattle.go_select_core.specs.levels.Paths.{Hit, IsSelected}
+use Rattle.go_select_core.specs.levels.Selectors.{Searched, Refused, In, FieldsIn, unless_refused, searched_under, searched, IsFieldFound, IsFoundSelected, IsRefused, IsRule}
+use Rattle.go_select_core.proofs.LevelsListLemmas.{true_false}
 use Rattle.go_select_core.proofs.Meanings.{selected_same, missing_or_selected}
 use Rattle.go_mset_core.specs.MethodSets.{IsCallable, IsMethodFound, IsInMethodSet}
 use Rattle.go_mset_core.specs.Implementing.{HasMethod}

@@ -1,20 +1,20 @@
 -- Laws of method sets and of implementation.
 use Rattle.std.specs.Prelude.{◌≡◌, ◌↔◌, ℕ, Bool, true, false, List, [], ◌∷◌, Result, Ok, Err, map, ⊤}
-use Rattle.go_text_core.specs.Text.{SameId, is_blank}
-use Rattle.go_text_core.specs.declared.rule.Rule.{Rule}
-use Rattle.go_select_core.specs.decl_core.declared.keys.DeclKey.{DeclKey}
+use Rattle.go_path_core.specs.text_core.Text.{SameId, is_blank}
+use Rattle.go_path_core.specs.text_core.declared.rule.Rule.{Rule}
+use Rattle.go_term_core.specs.decl_core.declared.keys.DeclKey.{DeclKey}
 use Rattle.go_term_core.specs.declared.term.MemberPlace.{MemberPlace}
 use Rattle.go_term_core.specs.Terms.{Term, NoType, Defined, PointerTo, InterfaceOf, Methods, NoMethod, AMethod, Sign}
 use Rattle.go_term_core.specs.Laws.{HasNone}
-use Rattle.go_select_core.specs.settle_core.declared.kind.Kind.TheVariants as kinds
+use Rattle.go_term_core.specs.declared.settling.kind.Kind.TheVariants as kinds
 use Rattle.go_select_core.specs.table_core.Assign.{IsInterface}
 use Rattle.go_select_core.specs.table_core.Entries.{EntryLook, underlying_in, declared_methods}
 use Rattle.go_select_core.specs.table_core.Laws.{AgreeFrom}
 use Rattle.go_select_core.specs.embed_core.Owners.{Found, AMethodOf, Named, owner_in}
 use Rattle.go_select_core.specs.embed_core.OwnersShown.{IsNamedAt, found_shown, named_shown}
-use Rattle.go_select_core.specs.level_core.declared.search.Selected.{Selected}
-use Rattle.go_select_core.specs.level_core.Paths.{Step, IsSelected}
-use Rattle.go_select_core.specs.level_core.Selectors.{IsSelectorAnswer, IsRule, term_kind_in}
+use Rattle.go_select_core.specs.declared.levels.search.Selected.{Selected}
+use Rattle.go_select_core.specs.levels.Paths.{Step, IsSelected}
+use Rattle.go_select_core.specs.levels.Selectors.{IsSelectorAnswer, IsRule, term_kind_in}
 use Rattle.go_mset_core.specs.declared.interface.Missing.{Missing}
 use Rattle.go_mset_core.specs.declared.methods.SetMethod.{SetMethod}
 use Rattle.go_mset_core.specs.MethodSets.{IsCallable, IsInMethodSet}

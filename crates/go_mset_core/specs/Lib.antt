@@ -3,10 +3,5 @@ pub mod MethodLists
 pub mod Implementing
 pub mod Laws
 pub mod mirrors
-pub mod decl_core
 pub mod embed_core
-pub mod level_core
 pub mod select_core
-pub mod settle_core
-pub mod table_core
-pub mod type_core

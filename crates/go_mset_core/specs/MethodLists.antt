@@ -1,6 +1,6 @@
 -- The methods of a method set, as a list.
 use Rattle.std.specs.Prelude.{◌≡◌, ℕ, List, Contains, AllPairs}
-use Rattle.go_text_core.specs.Text.{SameId}
+use Rattle.go_path_core.specs.text_core.Text.{SameId}
 use Rattle.go_term_core.specs.Terms.{Term}
 use Rattle.go_select_core.specs.table_core.Entries.{EntryLook}
 use Rattle.go_select_core.specs.embed_core.Owners.{Found}

@@ -1,11 +1,11 @@
 -- Which methods a type has: the Go specification, "Method sets", "Struct types".
 use Rattle.std.specs.Prelude.{◌≡◌, ℕ, Bool, true, false, ◌||◌, List, ⊤}
-use Rattle.go_text_core.specs.Text.{is_blank}
+use Rattle.go_path_core.specs.text_core.Text.{is_blank}
 use Rattle.go_term_core.specs.Terms.{Term}
 use Rattle.go_select_core.specs.table_core.Entries.{EntryLook}
 use Rattle.go_select_core.specs.embed_core.Owners.{Found, AFieldOf, AMethodOf, AnInterfaces, TheErrorMethod}
-use Rattle.go_select_core.specs.level_core.Paths.{IsSelected}
-use Rattle.go_select_core.specs.level_core.Selectors.{Searched, Refused, In, FieldsIn, searched}
+use Rattle.go_select_core.specs.levels.Paths.{IsSelected}
+use Rattle.go_select_core.specs.levels.Selectors.{Searched, Refused, In, FieldsIn, searched}
 
 -- a method that needs no pointer, or has one: a star at its receiver wants that a pointer is passed
 abbrev pub IsCallable : Found → Bool → Type 0

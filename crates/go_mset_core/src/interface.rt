@@ -3,15 +3,15 @@ ghost use Rattle.std.specs.Prelude.{◌≡◌, ◌↔◌, IfOk, IsTrue};
 ghost use Rattle.go_select_core.specs.table_core.Entries.{find_entry};
 ghost use Rattle.go_term_core.specs.Terms.{PointerTo, ErrorType, InterfaceOf};
 ghost use Rattle.go_term_core.specs.Shapes.{shape, sign_of, method_shapes};
-ghost use Rattle.go_select_core.specs.level_core.Selectors.{IsSelectorAnswer};
+ghost use Rattle.go_select_core.specs.levels.Selectors.{IsSelectorAnswer};
 ghost use Rattle.go_mset_core.specs.Implementing.{HasMethod, IsImplementsAnswer, IsImplementing};
 ghost use Rattle.go_mset_core.specs.mirrors.Asking.{holder_shown, sign_wanted, text_shown, IsBefore, IsNextMissing, IsLeastMissing};
 
 use crate::wanted::{Wanted, is_wanted};
-use go_select_core::path_core::ImportPath;
+use go_path_core::ImportPath;
+use go_path_core::text_core::Rule;
 use go_select_core::type_core::{Method, TypeTable, TypeTerm};
 use go_select_core::{Selected, select, select_behind_pointer};
-use go_text_core::Rule;
 use std::alloc::{AllocError, Global};
 use std::cmp::Ordering;
 

@@ -6,9 +6,9 @@ ghost use Rattle.go_mset_core.specs.MethodLists.{IsMethodSet};
 ghost use Rattle.go_mset_core.specs.mirrors.Keeping.{kept};
 
 use crate::wanted::is_callable;
+use go_path_core::text_core::add;
 use go_select_core::type_core::{TypeTable, TypeTerm};
 use go_select_core::{EmbedPath, Member, Selected, selections};
-use go_text_core::add;
 use std::alloc::{AllocError, Global};
 
 /// A method of a method set.

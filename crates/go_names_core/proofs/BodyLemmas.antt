@@ -7,13 +7,13 @@ use Rattle.go_tree_nodes.specs.Shapes.{func_of, lines_of}
 use Rattle.go_scope_core.specs.block_core.Blocks.{BlocksModel}
 use Rattle.go_scope_core.specs.Models.{ScopesModel, scopes_model}
 use Rattle.go_scope_core.specs.Scopes.{with_open}
-use Rattle.go_walk_core.specs.local_core.declared.Fault.{Fault}
-use Rattle.go_walk_core.specs.local_core.Steps.{Steps, Done, Declare, EachFirst}
-use Rattle.go_walk_core.specs.local_core.Law.{Rules, Out}
-use Rattle.go_walk_core.specs.local_core.Outline.{lines_steps, func_steps, func_opens, func_closes}
-use Rattle.go_walk_core.specs.local_core.Alike.{LookAtNames}
-use Rattle.go_walk_core.specs.local_core.Tables.{IsFuncPlaced, walked, out_by_intervals}
-use Rattle.go_walk_core.specs.local_core.TablesProofs.{one_table}
+use Rattle.go_local_core.specs.declared.Fault.{Fault}
+use Rattle.go_local_core.specs.Steps.{Steps, Done, Declare, EachFirst}
+use Rattle.go_local_core.specs.Law.{Rules, Out}
+use Rattle.go_local_core.specs.Outline.{lines_steps, func_steps, func_opens, func_closes}
+use Rattle.go_local_core.specs.Alike.{LookAtNames}
+use Rattle.go_local_core.specs.Tables.{IsFuncPlaced, walked, out_by_intervals}
+use Rattle.go_local_core.proofs.Tables.{one_table}
 use Rattle.go_names_core.specs.declared.meaning.Outside.{Outside}
 use Rattle.go_names_core.specs.Scope.{beyond_in}
 use Rattle.go_names_core.specs.Body.{func_idents, func_header, AreWalked, AreGiven}

@@ -1,11 +1,11 @@
 -- A name that its block has already is not declared.
 use Rattle.std.proofs.Common.{◌≡◌, ℕ, ◌⊎◌, inl, inr, Bool, true, false, not, ◌&&◌, List, [], ◌∷◌, ◌++◌, length, is_some, if◌then◌else◌, refl, sym, ap, ◌∙◌}
-use Rattle.go_tree_nodes.specs.text_core.Text.{is_blank}
-use Rattle.go_tree_nodes.specs.text_core.declared.rule.Rule.{Rule}
-use Rattle.go_tree_nodes.specs.text_core.declared.rule.Rule.TheVariants.{B1, M0}
+use Rattle.go_scope_core.specs.text_core.Text.{is_blank}
+use Rattle.go_scope_core.specs.text_core.declared.rule.Rule.{Rule}
+use Rattle.go_scope_core.specs.text_core.declared.rule.Rule.TheVariants.{B1, M0}
 use Rattle.go_tree_nodes.specs.declared.names.Ident.{Ident}
-use Rattle.go_walk_core.specs.open_core.declared.DeclId.{DeclId}
-use Rattle.go_walk_core.specs.open_core.Blocks.{in_block, innermost, with_innermost, is_taken, is_new, block_after}
+use Rattle.go_local_core.specs.scope_stack.declared.DeclId.{DeclId}
+use Rattle.go_local_core.specs.scope_stack.Blocks.{in_block, innermost, with_innermost, is_taken, is_new, block_after}
 use Rattle.go_scope_core.specs.Models.{ScopesModel}
 use Rattle.go_scope_core.specs.Scopes.{with_open}
 use Rattle.go_names_core.specs.Scenes.{name_scene, local_declared}

@@ -1,14 +1,14 @@
 -- The faults of names that are declared, by what each of them is in its block.
 use Rattle.std.proofs.Common.{◌≡◌, ℕ, Bool, true, false, not, ◌&&◌, List, [], ◌∷◌, ◌++◌, map, is_some, if◌then◌else◌, refl, sym, ap, ◌∙◌}
-use Rattle.go_tree_nodes.specs.text_core.Text.{is_blank}
-use Rattle.go_tree_nodes.specs.text_core.declared.rule.Rule.TheVariants.{B1}
+use Rattle.go_scope_core.specs.text_core.Text.{is_blank}
+use Rattle.go_scope_core.specs.text_core.declared.rule.Rule.TheVariants.{B1}
 use Rattle.go_tree_nodes.specs.declared.names.Ident.{Ident}
-use Rattle.go_walk_core.specs.open_core.Blocks.{in_block, is_listed, any_new, short_name, short_names, short_names_behind, is_short_new}
-use Rattle.go_walk_core.specs.open_core.declared.short.ShortName.{ShortName}
-use Rattle.go_walk_core.specs.open_core.declared.short.ShortName.TheVariants.{New, Old, Blank, Repeated}
-use Rattle.go_walk_core.specs.local_core.Faults.{ident_fault, name_faults, second_faults, none_new_fault, spellings}
-use Rattle.go_walk_core.specs.local_core.Short.{fault_of_short, faults_of_each, short_faults}
-use Rattle.go_walk_core.specs.local_core.ShortProofs.{short_faults_are}
+use Rattle.go_local_core.specs.scope_stack.Blocks.{in_block, is_listed, any_new, short_name, short_names, short_names_behind, is_short_new}
+use Rattle.go_local_core.specs.scope_stack.declared.short.ShortName.{ShortName}
+use Rattle.go_local_core.specs.scope_stack.declared.short.ShortName.TheVariants.{New, Old, Blank, Repeated}
+use Rattle.go_local_core.specs.Faults.{ident_fault, name_faults, second_faults, none_new_fault, spellings}
+use Rattle.go_local_core.specs.Short.{fault_of_short, faults_of_each, short_faults}
+use Rattle.go_local_core.proofs.Short.{short_faults_are}
 use Rattle.go_names_core.specs.mirrors.Declaring.{manner_of, is_second, faults_of_second, found_faults}
 
 module _ {X : Type 0} (block : List (List ℕ × X)) where

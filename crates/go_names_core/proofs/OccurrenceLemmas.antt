@@ -1,7 +1,7 @@
 -- The uses of a function's pieces are those of its occurrences that are looked up.
 use Rattle.std.proofs.Common.{◌≡◌, ℕ, Bool, true, false, List, [], ◌∷◌, ◌++◌, Option, Some, None, if◌then◌else◌, refl, sym, ap, ◌∙◌, append_assoc, append-nil}
-use Rattle.go_tree_nodes.specs.text_core.Text.{is_blank}
-use Rattle.go_tree_nodes.specs.text_core.declared.span.Span.{Span}
+use Rattle.go_scope_core.specs.text_core.Text.{is_blank}
+use Rattle.go_scope_core.specs.text_core.declared.span.Span.{Span}
 use Rattle.go_tree_nodes.specs.declared.names.Ident.{Ident}
 use Rattle.go_tree_nodes.specs.declared.types.TypeName.{TypeName}
 use Rattle.go_tree_nodes.specs.declared.types.TypeName.TheVariants as type_name
@@ -11,19 +11,19 @@ use Rattle.go_tree_nodes.specs.declared.files.Receiver.{Receiver}
 use Rattle.go_tree_nodes.specs.Trees as tree
 use Rattle.go_tree_nodes.specs.Trees.{Separated, One, Then, TypeTree, FieldTrees, MethodTrees, SignatureTree, ResultTree, ParamTrees, NamedType, Pointer, ParenType, Struct, Interface, NoFields, NamedFields, EmbeddedField, NoMethods, Method, Signed, NoResult, OneResult, Results, NoParams, Param, ExprTree, ItemTrees, Integer, Text, Named, Paren, Unary, Binary, Select, Call, Literal, StructLiteral, NoItems, Item, ValueSpecTree, Specs, Single, Group, SimpleTree, Alone, Step, Assign, Update, Define, IfTree, ForTree, Forever, While, Clauses, StmtTree, BranchTree, ElseTree, Lines, Empty, Simple, Return, Break, Continue, Block, If, For, Branch, NoElse, ElseBlock, ElseIf, NoLines, Line, FuncTree}
 use Rattle.go_tree_nodes.specs.Spelling.{spell_value_spec, spell_simple, spell_branch}
-use Rattle.go_scope_core.specs.tree_core.declared.occurrence.Role.{Role}
-use Rattle.go_scope_core.specs.tree_core.declared.occurrence.Role.TheVariants as role
-use Rattle.go_scope_core.specs.tree_core.declared.occurrence.Context.{Context}
-use Rattle.go_scope_core.specs.tree_core.declared.occurrence.Context.TheVariants as context
-use Rattle.go_scope_core.specs.tree_core.declared.occurrence.Occ.{Occ}
-use Rattle.go_scope_core.specs.tree_core.Occurrences.{occurrence, call_at, type_name_occs, type_occs, fields_occs, methods_occs, signature_occs, result_occs, params_occs, key_occs, named_occs, expr_occs, items_occs, exprs_occs, inside_context, under, some_type_occs, values_occs, value_spec_occs, group_occs, specs_occs, simple_occs, some_simple_occs, some_expr_occs, some_exprs_occs, init_occs, if_occs, for_occs, stmt_occs, branch_occs, else_occs, lines_occs, receiver_occs}
-use Rattle.go_scope_core.specs.tree_core.Telling.{is_target, inside_not, under_not}
-use Rattle.go_walk_core.specs.local_core.Steps.{Piece, Spec, Act, Condition, Given, Newness, EachFirst, OneNew, Steps, Done, Check, Declare, Inner}
-use Rattle.go_walk_core.specs.local_core.Outline.{idents, end_of, spec_steps, group_steps, specs_steps, simple_steps, some_simple_steps, init_steps, some_condition_steps, if_steps, for_steps, stmt_steps, branch_steps, else_steps, lines_steps}
+use Rattle.go_tree_core.specs.declared.occurrence.Role.{Role}
+use Rattle.go_tree_core.specs.declared.occurrence.Role.TheVariants as role
+use Rattle.go_tree_core.specs.declared.occurrence.Context.{Context}
+use Rattle.go_tree_core.specs.declared.occurrence.Context.TheVariants as context
+use Rattle.go_tree_core.specs.declared.occurrence.Occ.{Occ}
+use Rattle.go_tree_core.specs.Occurrences.{occurrence, call_at, type_name_occs, type_occs, fields_occs, methods_occs, signature_occs, result_occs, params_occs, key_occs, named_occs, expr_occs, items_occs, exprs_occs, inside_context, under, some_type_occs, values_occs, value_spec_occs, group_occs, specs_occs, simple_occs, some_simple_occs, some_expr_occs, some_exprs_occs, init_occs, if_occs, for_occs, stmt_occs, branch_occs, else_occs, lines_occs, receiver_occs}
+use Rattle.go_tree_core.proofs.Telling.{is_target, inside_not, under_not}
+use Rattle.go_local_core.specs.Steps.{Piece, Spec, Act, Condition, Given, Newness, EachFirst, OneNew, Steps, Done, Check, Declare, Inner}
+use Rattle.go_local_core.specs.Outline.{idents, end_of, spec_steps, group_steps, specs_steps, simple_steps, some_simple_steps, init_steps, some_condition_steps, if_steps, for_steps, stmt_steps, branch_steps, else_steps, lines_steps}
 use Rattle.go_names_core.specs.Uses.{simple_used_idents, piece_used_idents}
 use Rattle.go_names_core.specs.Occurrences.{is_looked_up, looked_up, steps_uses, PieceNamesAreOccurrences}
 use Rattle.go_tree_nodes.specs.Idents.{type_name_idents, type_idents, fields_idents, methods_idents, signature_type_idents, result_type_idents, params_idents, receiver_type_idents, expr_idents, items_idents, list_idents, returned_idents, some_type_idents}
-use Rattle.go_walk_core.specs.PieceIdents.{target_idents, targets_idents, values_idents, value_spec_idents}
+use Rattle.go_local_core.specs.walks.PieceIdents.{target_idents, targets_idents, values_idents, value_spec_idents}
 
 looked_append : (xs ys : List Occ) → looked_up (xs ++ ys) ≡ looked_up xs ++ looked_up ys
 looked_append [] ys = refl

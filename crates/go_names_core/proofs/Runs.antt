@@ -5,23 +5,23 @@ use Rattle.std.specs.Prelude.{if◌then◌else◌, slice_get}
 use Rattle.std.specs.Str.{bytes_eq}
 use Rattle.std.proofs.lemmas.Slice.Eq.{bytes_eq-Decides}
 use Rattle.std.proofs.lemmas.List.{append_assoc, append-nil, length-append, get_or_append_left, get_or_push}
-use Rattle.go_tree_nodes.specs.text_core.Text.{is_blank}
+use Rattle.go_scope_core.specs.text_core.Text.{is_blank}
 use Rattle.go_tree_nodes.specs.declared.names.Ident.{Ident}
 use Rattle.go_tree_nodes.specs.Terminals.{Terminal, TerminalKind, Spelled, Number, Quoted, Word, Mark, Stray}
-use Rattle.go_walk_core.specs.open_core.declared.DeclId.{DeclId}
-use Rattle.go_walk_core.specs.open_core.Blocks.{in_block, or_else, found_in, innermost, with_innermost, block_after, short_name, short_names, short_names_behind, is_short_new}
-use Rattle.go_walk_core.specs.open_core.Blocks as open_blocks
-use Rattle.go_walk_core.specs.open_core.declared.short.ShortName.TheVariants.{New, Old, Blank, Repeated}
+use Rattle.go_local_core.specs.scope_stack.declared.DeclId.{DeclId}
+use Rattle.go_local_core.specs.scope_stack.Blocks.{in_block, or_else, found_in, innermost, with_innermost, block_after, short_name, short_names, short_names_behind, is_short_new}
+use Rattle.go_local_core.specs.scope_stack.Blocks as open_blocks
+use Rattle.go_local_core.specs.scope_stack.declared.short.ShortName.TheVariants.{New, Old, Blank, Repeated}
 use Rattle.go_scope_core.specs.block_core.Blocks.{BlocksModel}
 use Rattle.go_scope_core.specs.Models.{scopes_model}
-use Rattle.go_walk_core.specs.local_core.Steps.{Steps, Done, Check, Declare, Inner, spell_piece}
-use Rattle.go_walk_core.specs.local_core.Binding.{NameLook}
-use Rattle.go_walk_core.specs.local_core.Law.{Rules, Out}
-use Rattle.go_walk_core.specs.local_core.Faults.{name_faults, spellings}
-use Rattle.go_walk_core.specs.local_core.Short.{meant}
-use Rattle.go_walk_core.specs.local_core.mirrors.Walk.{Names, latest, look_in, news, names_of, walk_out}
-use Rattle.go_walk_core.specs.local_core.Alike.{AlikeAt, Alike, LookAtNames}
-use Rattle.go_walk_core.specs.local_core.ShortProofs.{news_are_short, with_names_after}
+use Rattle.go_local_core.specs.Steps.{Steps, Done, Check, Declare, Inner, spell_piece}
+use Rattle.go_local_core.specs.Binding.{NameLook}
+use Rattle.go_local_core.specs.Law.{Rules, Out}
+use Rattle.go_local_core.specs.Faults.{name_faults, spellings}
+use Rattle.go_local_core.specs.Short.{meant}
+use Rattle.go_local_core.specs.mirrors.Walk.{Names, latest, look_in, news, names_of, walk_out}
+use Rattle.go_local_core.specs.Alike.{AlikeAt, Alike, LookAtNames}
+use Rattle.go_local_core.proofs.Short.{news_are_short, with_names_after}
 use Rattle.go_names_core.specs.declared.meaning.Outside.{Outside}
 use Rattle.go_names_core.specs.Body.{each_means}
 use Rattle.go_names_core.specs.Scope.{beyond_in}

@@ -1,16 +1,16 @@
 -- What a scope finds where a piece is checked, and what the intervals give there.
 use Rattle.std.proofs.Common.{◌≡◌, ℕ, List, [], ◌∷◌, ◌++◌, map, Option, refl, sym, ap, ◌∙◌}
 use Rattle.std.proofs.lemmas.List.{map-append}
-use Rattle.go_tree_nodes.specs.text_core.declared.span.Span.{Span}
+use Rattle.go_scope_core.specs.text_core.declared.span.Span.{Span}
 use Rattle.go_tree_nodes.specs.Terminals.{Terminal, TerminalKind, Spelled, Number, Quoted, Word, Mark, Stray}
 use Rattle.go_scope_core.specs.Models.{scopes_model}
-use Rattle.go_walk_core.specs.local_core.Steps.{Piece, Steps, Done, Check, Declare, Inner, spell_piece}
-use Rattle.go_walk_core.specs.local_core.Outline.{func_steps, func_opens, func_closes}
-use Rattle.go_walk_core.specs.local_core.Binding.{Local, NameLook, bound, is_first}
-use Rattle.go_walk_core.specs.local_core.Law.{Rules, Out, law_out, declared_from}
-use Rattle.go_walk_core.specs.local_core.Alike.{AlikeAt, Alike, LookAtNames}
-use Rattle.go_walk_core.specs.local_core.Tables.{walked, out_by_intervals, IsTable}
-use Rattle.go_walk_core.specs.local_core.TablesProofs.{one_table}
+use Rattle.go_local_core.specs.Steps.{Piece, Steps, Done, Check, Declare, Inner, spell_piece}
+use Rattle.go_local_core.specs.Outline.{func_steps, func_opens, func_closes}
+use Rattle.go_local_core.specs.Binding.{Local, NameLook, bound, is_first}
+use Rattle.go_local_core.specs.Law.{Rules, Out, law_out, declared_from}
+use Rattle.go_local_core.specs.Alike.{AlikeAt, Alike, LookAtNames}
+use Rattle.go_local_core.specs.Tables.{walked, out_by_intervals, IsTable}
+use Rattle.go_local_core.proofs.Tables.{one_table}
 use Rattle.go_names_core.specs.declared.meaning.Outside.{Outside}
 use Rattle.go_names_core.specs.Scope.{beyond_in}
 use Rattle.go_names_core.specs.Scenes.{NameScene, name_scene, look_at, entered, piece_declared, locals_after, scenes, function_scenes, AreSeen, OpenNamesAreBound}

@@ -4,8 +4,8 @@ use Rattle.std.specs.Prelude.{option_map, slice_get}
 use Rattle.std.specs.Str.{bytes_eq}
 use Rattle.std.proofs.lemmas.Map.Made.{lookup-map_values}
 use Rattle.go_scope_core.specs.block_core.Blocks.{BlocksModel, held_in}
-use Rattle.go_walk_core.specs.open_core.declared.DeclId.{DeclId}
-use Rattle.go_walk_core.specs.open_core.Blocks.{in_block, found_in, or_else}
+use Rattle.go_local_core.specs.scope_stack.declared.DeclId.{DeclId}
+use Rattle.go_local_core.specs.scope_stack.Blocks.{in_block, found_in, or_else}
 use Rattle.go_scope_core.specs.Models.{scopes_model}
 use Rattle.go_scope_core.specs.Scopes.{Denoted, Universe, Package, File, Local, denoting, universe, scope_blocks}
 use Rattle.go_scope_core.specs.Laws.{denotes}

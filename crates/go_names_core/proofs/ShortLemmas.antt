@@ -1,13 +1,13 @@
 -- What names are in a block, one after the other.
 use Rattle.std.proofs.Common.{◌≡◌, ℕ, ◌+◌, ◌<◌, ◌&&◌, not, List, [], ◌∷◌, ◌++◌, map, length, take, get_or, is_some, if◌then◌else◌, Bor, sym, ap, ◌∙◌, append_assoc}
 use Rattle.std.proofs.lemmas.List.{append-nil, map-append, map_more}
-use Rattle.go_tree_nodes.specs.text_core.Text.{is_blank}
+use Rattle.go_scope_core.specs.text_core.Text.{is_blank}
 use Rattle.go_tree_nodes.specs.declared.names.Ident.{Ident}
-use Rattle.go_walk_core.specs.open_core.Blocks.{in_block, list_name, list_names, short_name, short_names, short_names_behind}
-use Rattle.go_walk_core.specs.open_core.declared.short.ShortName.{ShortName}
-use Rattle.go_walk_core.specs.open_core.declared.short.ShortName.TheVariants.{New, Old, Blank, Repeated}
-use Rattle.go_walk_core.specs.open_core.Names.{listed-names, list_names-append}
-use Rattle.go_walk_core.specs.local_core.Faults.{spellings}
+use Rattle.go_local_core.specs.scope_stack.Blocks.{in_block, list_name, list_names, short_name, short_names, short_names_behind}
+use Rattle.go_local_core.specs.scope_stack.declared.short.ShortName.{ShortName}
+use Rattle.go_local_core.specs.scope_stack.declared.short.ShortName.TheVariants.{New, Old, Blank, Repeated}
+use Rattle.go_local_core.specs.scope_stack.Names.{listed-names, list_names-append}
+use Rattle.go_local_core.specs.Faults.{spellings}
 
 -- how the first of some identifiers are spelled
 abbrev pub spelled : List (Bor Ident) → ℕ → List (List ℕ)

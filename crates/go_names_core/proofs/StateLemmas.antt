@@ -3,13 +3,13 @@ use Rattle.std.proofs.Common.{◌≡◌, ℕ, Bool, false, Result, Ok, Err, List
 use Rattle.std.proofs.lemmas.List.{append-nil}
 use Rattle.std.specs.Result.{OnOk}
 use Rattle.go_tree_nodes.specs.declared.names.Ident.{Ident}
-use Rattle.go_walk_core.specs.open_core.declared.DeclId.{DeclId}
-use Rattle.go_walk_core.specs.open_core.Blocks.{innermost, with_innermost, block_after, short_names}
+use Rattle.go_local_core.specs.scope_stack.declared.DeclId.{DeclId}
+use Rattle.go_local_core.specs.scope_stack.Blocks.{innermost, with_innermost, block_after, short_names}
 use Rattle.go_scope_core.specs.Models.{ScopesModel}
-use Rattle.go_walk_core.specs.local_core.declared.Fault.{Fault}
-use Rattle.go_walk_core.specs.local_core.Steps.{Piece, Newness, Check, Declare}
-use Rattle.go_walk_core.specs.local_core.Faults.{name_faults, spellings}
-use Rattle.go_walk_core.specs.local_core.Law.{Rules}
+use Rattle.go_local_core.specs.declared.Fault.{Fault}
+use Rattle.go_local_core.specs.Steps.{Piece, Newness, Check, Declare}
+use Rattle.go_local_core.specs.Faults.{name_faults, spellings}
+use Rattle.go_local_core.specs.Law.{Rules}
 use Rattle.go_names_core.specs.declared.meaning.Outside.{Outside}
 use Rattle.go_names_core.specs.declared.look.OpenNames.{OpenNames}
 use Rattle.go_names_core.specs.declared.declaring.NewNames.{NewNames}

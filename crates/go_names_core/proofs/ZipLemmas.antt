@@ -8,7 +8,7 @@ use Rattle.std.proofs.iter.Yields.{fronts}
 use Rattle.std.proofs.lemmas.Iterator.{zips}
 use Rattle.std.proofs.lemmas.Slice.Zip.{either_empty_from_Zip, Zip-so_far}
 use Rattle.go_tree_nodes.specs.declared.names.Ident.{Ident}
-use Rattle.go_walk_core.specs.open_core.declared.short.ShortName.{ShortName}
+use Rattle.go_local_core.specs.scope_stack.declared.short.ShortName.{ShortName}
 use Rattle.go_names_core.specs.mirrors.Declaring.{faults_of_second}
 use Rattle.go_names_core.specs.Scenes.{NameScene, locals_declared}
 

@@ -4,12 +4,12 @@ use Rattle.go_tree_nodes.specs.declared.names.Ident.{Ident}
 use Rattle.go_tree_nodes.specs.declared.files.FuncDecl.{FuncDecl}
 use Rattle.go_tree_nodes.specs.TypeShapes.{shape_signature}
 use Rattle.go_tree_nodes.specs.Trees.{FuncTree}
-use Rattle.go_walk_core.specs.local_core.declared.Fault.{Fault}
-use Rattle.go_walk_core.specs.local_core.Steps.{Piece, Header}
-use Rattle.go_walk_core.specs.local_core.Outline.{header_idents}
-use Rattle.go_walk_core.specs.local_core.Binding.{Local}
-use Rattle.go_walk_core.specs.local_core.Law.{Rules}
-use Rattle.go_walk_core.specs.local_core.Tables.{walked, out_by_intervals, IsTable}
+use Rattle.go_local_core.specs.declared.Fault.{Fault}
+use Rattle.go_local_core.specs.Steps.{Piece, Header}
+use Rattle.go_local_core.specs.Outline.{header_idents}
+use Rattle.go_local_core.specs.Binding.{Local}
+use Rattle.go_local_core.specs.Law.{Rules}
+use Rattle.go_local_core.specs.Tables.{walked, out_by_intervals, IsTable}
 
 -- the names of a function's receiver, parameters and results, and what is checked of them
 abbrev pub func_idents : FuncDecl → List Ident

@@ -7,5 +7,5 @@ pub mod Worked
 pub mod mirrors
 pub mod block_core
 pub mod local_core
-pub mod open_core
 pub mod scope_core
+pub mod scope_stack

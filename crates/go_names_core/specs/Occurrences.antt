@@ -2,12 +2,12 @@
 use Rattle.std.specs.Prelude.{◌≡◌, Bool, true, false, List, [], ◌∷◌, ◌++◌, if◌then◌else◌}
 use Rattle.go_tree_nodes.specs.declared.names.Ident.{Ident}
 use Rattle.go_tree_nodes.specs.Trees.{FuncTree}
-use Rattle.go_scope_core.specs.tree_core.declared.occurrence.Role.{Role}
-use Rattle.go_scope_core.specs.tree_core.declared.occurrence.Role.TheVariants as role
-use Rattle.go_scope_core.specs.tree_core.declared.occurrence.Occ.{Occ}
-use Rattle.go_scope_core.specs.tree_core.Occurrences.{func_occs}
-use Rattle.go_walk_core.specs.local_core.Steps.{Steps, Done, Check, Declare, Inner}
-use Rattle.go_walk_core.specs.local_core.Outline.{func_steps}
+use Rattle.go_tree_core.specs.declared.occurrence.Role.{Role}
+use Rattle.go_tree_core.specs.declared.occurrence.Role.TheVariants as role
+use Rattle.go_tree_core.specs.declared.occurrence.Occ.{Occ}
+use Rattle.go_tree_core.specs.Occurrences.{func_occs}
+use Rattle.go_local_core.specs.Steps.{Steps, Done, Check, Declare, Inner}
+use Rattle.go_local_core.specs.Outline.{func_steps}
 use Rattle.go_names_core.specs.Uses.{piece_used_idents}
 
 -- an occurrence of this role is a name that is looked up in scope

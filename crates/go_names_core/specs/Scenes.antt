@@ -2,17 +2,17 @@
 use Rattle.std.specs.Prelude.{ℕ, Bool, List, [], ◌∷◌, ◌++◌, length, map}
 use Rattle.go_tree_nodes.specs.declared.names.Ident.{Ident}
 use Rattle.go_tree_nodes.specs.Trees.{FuncTree}
-use Rattle.go_walk_core.specs.open_core.Blocks.{innermost, with_innermost, block_after, short_names, is_short_new}
+use Rattle.go_local_core.specs.scope_stack.Blocks.{innermost, with_innermost, block_after, short_names, is_short_new}
 use Rattle.go_scope_core.specs.block_core.Blocks.{BlocksModel}
 use Rattle.go_scope_core.specs.Models.{ScopesModel, scopes_model}
 use Rattle.go_scope_core.specs.Scopes.{with_open}
-use Rattle.go_walk_core.specs.local_core.Faults.{spellings}
-use Rattle.go_walk_core.specs.local_core.Steps.{Piece, Steps, Done, Check, Declare, Inner, spell_piece}
-use Rattle.go_walk_core.specs.local_core.Outline.{func_steps}
-use Rattle.go_walk_core.specs.local_core.Binding.{Local, NameLook, bound}
-use Rattle.go_walk_core.specs.local_core.Law.{Rules}
-use Rattle.go_walk_core.specs.local_core.Alike.{Alike, LookAtNames}
-use Rattle.go_walk_core.specs.local_core.Tables.{IsFuncPlaced, IsTable}
+use Rattle.go_local_core.specs.Faults.{spellings}
+use Rattle.go_local_core.specs.Steps.{Piece, Steps, Done, Check, Declare, Inner, spell_piece}
+use Rattle.go_local_core.specs.Outline.{func_steps}
+use Rattle.go_local_core.specs.Binding.{Local, NameLook, bound}
+use Rattle.go_local_core.specs.Law.{Rules}
+use Rattle.go_local_core.specs.Alike.{Alike, LookAtNames}
+use Rattle.go_local_core.specs.Tables.{IsFuncPlaced, IsTable}
 use Rattle.go_names_core.specs.declared.meaning.Outside.{Outside}
 use Rattle.go_names_core.specs.Scope.{look_in_scope, beyond_in}
 use Rattle.go_names_core.specs.Body.{each_means}

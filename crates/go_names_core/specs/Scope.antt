@@ -5,7 +5,7 @@ use Rattle.go_scope_core.specs.Scopes as scopes
 use Rattle.go_scope_core.specs.Scopes.{Denoted}
 use Rattle.go_scope_core.specs.Models.{ScopesModel, scopes_model}
 use Rattle.go_scope_core.specs.Laws.{denotes}
-use Rattle.go_walk_core.specs.local_core.Binding.{NameLook}
+use Rattle.go_local_core.specs.Binding.{NameLook}
 use Rattle.go_names_core.specs.declared.meaning.Outside.{Outside}
 use Rattle.go_names_core.specs.declared.meaning.Outside.TheVariants as outside
 use Rattle.go_names_core.specs.declared.look.OpenNames.{OpenNames}

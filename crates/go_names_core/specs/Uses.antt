@@ -2,13 +2,13 @@
 use Rattle.std.specs.Prelude.{ℕ, List, ◌++◌, map, Option}
 use Rattle.go_tree_nodes.specs.declared.names.Ident.{Ident}
 use Rattle.go_tree_nodes.specs.Trees.{SimpleTree, Alone, Step, Assign, Update, Define}
-use Rattle.go_walk_core.specs.local_core.Steps.{Piece, Header, Spec, Act, Condition, Given}
-use Rattle.go_walk_core.specs.local_core.Pieces.{piece_declares, ident_place}
-use Rattle.go_walk_core.specs.local_core.Binding.{NameLook}
-use Rattle.go_walk_core.specs.local_core.Law.{Rules}
+use Rattle.go_local_core.specs.Steps.{Piece, Header, Spec, Act, Condition, Given}
+use Rattle.go_local_core.specs.Pieces.{piece_declares, ident_place}
+use Rattle.go_local_core.specs.Binding.{NameLook}
+use Rattle.go_local_core.specs.Law.{Rules}
 use Rattle.go_names_core.specs.declared.meaning.Outside.{Outside}
 use Rattle.go_tree_nodes.specs.Idents.{expr_idents, list_idents, receiver_type_idents, returned_idents, signature_type_idents}
-use Rattle.go_walk_core.specs.PieceIdents.{targets_idents, value_spec_idents}
+use Rattle.go_local_core.specs.walks.PieceIdents.{targets_idents, value_spec_idents}
 
 -- pieces
 

@@ -1,6 +1,6 @@
 -- A function with what each name in it denotes, worked out by hand. The n-th token of the function stands at n.
 use Rattle.std.specs.Prelude.{◌≡◌, ℕ, List, [], ◌∷◌, Option, Some, None, codes}
-use Rattle.go_tree_nodes.specs.text_core.declared.rule.Rule.TheVariants.{B4, I1}
+use Rattle.go_scope_core.specs.text_core.declared.rule.Rule.TheVariants.{B4, I1}
 use Rattle.go_tree_nodes.specs.token_core.declared.kind.Operator.TheVariants as operator
 use Rattle.go_universe_core.specs.declared.Predeclared.TheVariants as predeclared
 use Rattle.go_tree_nodes.specs.declared.names.Ident.{Ident}
@@ -9,12 +9,12 @@ use Rattle.go_tree_nodes.specs.declared.decls.ValueKind.TheVariants as kinds
 use Rattle.go_tree_nodes.specs.Trees as tree
 use Rattle.go_tree_nodes.specs.Trees.{Separated, One, Then, NamedType, Signed, NoResult, NoParams, Param, ExprTree, Binary, Select, Call, Literal, NoItems, Item, ValueSpecTree, Group, Assign, Define, Lines, Simple, Return, If, Branch, NoElse, ElseIf, NoLines, Line, FuncTree}
 use Rattle.go_tree_nodes.specs.Samples.{at, called, name_at}
-use Rattle.go_scope_core.specs.decl_core.declared.places.DeclKind.TheVariants as decl_kind
-use Rattle.go_scope_core.specs.decl_core.declared.keys.DeclRef.{DeclRef}
+use Rattle.go_decl_core.specs.declared.places.DeclKind.TheVariants as decl_kind
+use Rattle.go_decl_core.specs.declared.keys.DeclRef.{DeclRef}
 use Rattle.go_scope_core.specs.block_core.declared.binding.Target.TheVariants as target
 use Rattle.go_scope_core.specs.block_core.Blocks.{BlocksModel, blocks_model}
-use Rattle.go_walk_core.specs.local_core.declared.Fault.{Fault}
-use Rattle.go_walk_core.specs.local_core.Tables.{walked, out_by_intervals}
+use Rattle.go_local_core.specs.declared.Fault.{Fault}
+use Rattle.go_local_core.specs.Tables.{walked, out_by_intervals}
 use Rattle.go_names_core.specs.declared.meaning.Outside.TheVariants as outside
 use Rattle.go_names_core.specs.Scope.{beyond_in}
 use Rattle.go_names_core.specs.Uses.{NameMeaning, LocalAt, Beyond, NameUse, name_use_rules, denoted_outside}

@@ -1,3 +1,23 @@
 -- What the crates above name of go_block_core.
+pub use Rattle.go_scope_core.specs.block_core.AllLemmas as AllLemmas
+pub use Rattle.go_scope_core.specs.block_core.AllPackages as AllPackages
+pub use Rattle.go_scope_core.specs.block_core.BindingLemmas as BindingLemmas
+pub use Rattle.go_scope_core.specs.block_core.Bindings as Bindings
 pub use Rattle.go_scope_core.specs.block_core.Blocks as Blocks
+pub use Rattle.go_scope_core.specs.block_core.Declarations as Declarations
+pub use Rattle.go_scope_core.specs.block_core.Exports as Exports
+pub use Rattle.go_scope_core.specs.block_core.FaultLemmas as FaultLemmas
+pub use Rattle.go_scope_core.specs.block_core.Faults as Faults
+pub use Rattle.go_scope_core.specs.block_core.GivenSteps as GivenSteps
+pub use Rattle.go_scope_core.specs.block_core.Growing as Growing
+pub use Rattle.go_scope_core.specs.block_core.Holding as Holding
+pub use Rattle.go_scope_core.specs.block_core.HoldingLaws as HoldingLaws
+pub use Rattle.go_scope_core.specs.block_core.Laws as Laws
+pub use Rattle.go_scope_core.specs.block_core.Naming as Naming
+pub use Rattle.go_scope_core.specs.block_core.NamingLemmas as NamingLemmas
+pub use Rattle.go_scope_core.specs.block_core.OneBlocks as OneBlocks
 pub use Rattle.go_scope_core.specs.block_core.Rising as Rising
+pub use Rattle.go_scope_core.specs.block_core.SortedOnce as SortedOnce
+pub use Rattle.go_scope_core.specs.block_core.Tables as Tables
+pub use Rattle.go_scope_core.specs.block_core.declared as declared
+pub use Rattle.go_scope_core.specs.block_core.mirrors as mirrors

@@ -4,16 +4,16 @@ ghost use Rattle.std.specs.Prelude.{◌≡◌, ℕ, [], ◌++◌, IfOk, OnOk, ma
 ghost use Rattle.go_tree_nodes.specs.Shapes.{shape, shape_exprs, shape_some_exprs, shape_value_spec, shape_simple};
 ghost use Rattle.go_tree_nodes.specs.TypeShapes.{shape_idents};
 ghost use Rattle.go_tree_nodes.specs.Trees.{Define};
-ghost use Rattle.go_walk_core.specs.local_core.Steps.{Spec, Act, Condition, Given};
-ghost use Rattle.go_walk_core.specs.local_core.Outline.{idents};
-ghost use Rattle.go_walk_core.specs.local_core.Law.{Rules as TheRules};
-ghost use Rattle.go_walk_core.specs.local_core.Alike.{LookAtNames};
+ghost use Rattle.go_local_core.specs.Steps.{Spec, Act, Condition, Given};
+ghost use Rattle.go_local_core.specs.Outline.{idents};
+ghost use Rattle.go_local_core.specs.Law.{Rules as TheRules};
+ghost use Rattle.go_local_core.specs.Alike.{LookAtNames};
 ghost use Rattle.go_names_core.specs.Scope.{open_look};
 ghost use Rattle.go_names_core.specs.Body.{each_means, func_idents, func_header};
 
 use crate::look::OpenNames;
 use crate::meaning::Meant;
-use go_tree_nodes::text_core::Span;
+use go_scope_core::text_core::Span;
 use go_tree_nodes::{Definition, Expr, Exprs, FuncDecl, Simple, ValueKind, ValueSpec};
 use std::alloc::AllocError;
 

@@ -1,21 +1,21 @@
 //! Names that are about to be declared: which are new in their block, and the rules that they break.
 
 ghost use Rattle.std.specs.Prelude.{◌≡◌, [], ◌∷◌, ◌++◌, IfOk, OnOk, map, if◌then◌else◌};
-ghost use Rattle.go_walk_core.specs.open_core.Blocks.{innermost, short_name, short_names, is_short_new, list_name, any_new};
-ghost use Rattle.go_walk_core.specs.local_core.Faults.{ident_fault, none_new_fault, spellings};
+ghost use Rattle.go_local_core.specs.scope_stack.Blocks.{innermost, short_name, short_names, is_short_new, list_name, any_new};
+ghost use Rattle.go_local_core.specs.Faults.{ident_fault, none_new_fault, spellings};
 ghost use Rattle.go_tree_nodes.specs.TypeShapes.{shape_idents};
-ghost use Rattle.go_walk_core.specs.local_core.Outline.{idents};
+ghost use Rattle.go_local_core.specs.Outline.{idents};
 ghost use Rattle.go_names_core.specs.Body.{func_idents};
 ghost use Rattle.go_names_core.specs.mirrors.Declaring.{is_second, faults_of_second, found_faults, AreNew};
 ghost use Rattle.go_names_core.specs.Scenes.{name_scene, local_declared, locals_declared};
 
 use crate::idents::{header_idents, listed_idents};
 use crate::meaning::Meant;
+use go_local_core::Fault;
+use go_local_core::scope_stack::{DeclId, NameList, ShortName};
 use go_scope_core::Scopes;
-use go_tree_nodes::text_core::Rule;
+use go_scope_core::text_core::Rule;
 use go_tree_nodes::{FuncDecl, Ident, Idents};
-use go_walk_core::local_core::Fault;
-use go_walk_core::open_core::{DeclId, NameList, ShortName};
 use std::alloc::{AllocError, Global};
 
 // What a name would be in the innermost block of a scope, behind those that were seen.

@@ -2,17 +2,17 @@
 
 ghost use Rattle.std.specs.Prelude.{◌≡◌, IfOk};
 ghost use Rattle.go_tree_nodes.specs.Shapes.{func_of};
-ghost use Rattle.go_walk_core.specs.local_core.Tables.{IsFuncPlaced};
+ghost use Rattle.go_local_core.specs.Tables.{IsFuncPlaced};
 ghost use Rattle.go_names_core.specs.Scope.{beyond_in};
 ghost use Rattle.go_names_core.specs.Body.{AreWalked, AreGiven};
 
 use crate::checker::Checker;
 use crate::walker::Walker;
+use go_local_core::Fault;
+use go_local_core::walks::visit_lines;
 use go_scope_core::Scopes;
 use go_scope_core::block_core::Blocks;
 use go_tree_nodes::FuncDecl;
-use go_walk_core::local_core::Fault;
-use go_walk_core::visit_lines;
 use std::alloc::{AllocError, Global};
 
 /// What was noted of a function, and the faults of the names that it declares.

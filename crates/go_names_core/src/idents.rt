@@ -2,7 +2,7 @@
 
 ghost use Rattle.std.specs.Prelude.{◌≡◌, ◌++◌, IfOk, OnOk, map};
 ghost use Rattle.go_tree_nodes.specs.TypeShapes.{shape_idents, shape_names, shape_results, shape_signature, params_of};
-ghost use Rattle.go_walk_core.specs.local_core.Outline.{idents, some_idents, param_idents, result_idents, signature_idents, receiver_idents};
+ghost use Rattle.go_local_core.specs.Outline.{idents, some_idents, param_idents, result_idents, signature_idents, receiver_idents};
 ghost use Rattle.go_names_core.specs.Body.{func_idents};
 
 use go_tree_nodes::{FuncDecl, Ident, Idents, Param, Receiver, Results, Signature};

@@ -21,10 +21,23 @@ pub use meaning::{Meant, Outside};
 
 /// What the crates above name of `go_block_core`.
 pub mod block_core {
-    pub use go_scope_core::block_core::Blocks;
+    pub use go_scope_core::block_core::{
+        Binding, Blocks, DeclKind, DeclRef, Imported, Target, import_specs,
+    };
 }
 
 /// What the crates above name of `go_local_core`.
 pub mod local_core {
-    pub use go_walk_core::local_core::Fault;
+    pub use go_local_core::Fault;
+    pub use go_local_core::walks::{Panics, are_terminating, lines_loop_faults};
+}
+
+/// What the crates above name of `go_scope_core`.
+pub mod scope_core {
+    pub use go_scope_core::{InScope, Scopes};
+}
+
+/// What the crates above name of `go_scope_stack`.
+pub mod scope_stack {
+    pub use go_local_core::scope_stack::DeclId;
 }

@@ -5,8 +5,8 @@ ghost use Rattle.go_scope_core.specs.Laws.{denotes};
 ghost use Rattle.go_names_core.specs.Scope.{is_of_function, meaning_of, open_look};
 
 use crate::meaning::{Meant, Outside};
+use go_local_core::scope_stack::DeclId;
 use go_scope_core::{InScope, Scopes};
-use go_walk_core::open_core::DeclId;
 use std::alloc::AllocError;
 
 /// The names that are open at a place of a function, with what they mean.

@@ -4,8 +4,8 @@ ghost use Rattle.std.specs.Prelude.{◌≡◌, [], ◌∷◌, ◌++◌, false, O
 ghost use Rattle.go_tree_nodes.specs.Shapes.{shape_value_spec, shape_exprs};
 ghost use Rattle.go_tree_nodes.specs.TypeShapes.{shape_idents};
 ghost use Rattle.go_tree_nodes.specs.Trees.{Define};
-ghost use Rattle.go_walk_core.specs.local_core.Steps.{Declare, EachFirst};
-ghost use Rattle.go_walk_core.specs.local_core.Outline.{spec_steps, simple_steps};
+ghost use Rattle.go_local_core.specs.Steps.{Declare, EachFirst};
+ghost use Rattle.go_local_core.specs.Outline.{spec_steps, simple_steps};
 ghost use Rattle.go_names_core.specs.Body.{func_idents, func_header};
 ghost use Rattle.go_scope_core.specs.Scopes.{with_open};
 ghost use Rattle.go_names_core.specs.mirrors.States.{state, IsAhead, LeadsTo, EntersTo, LeavesTo};
@@ -14,11 +14,11 @@ ghost use Rattle.go_names_core.specs.mirrors.StateLaws.{leads_none, leads_more, 
 use crate::checker::Checker;
 use crate::declaring::{declare, names_of, names_of_header};
 use crate::look::OpenNames;
+use go_local_core::Fault;
+use go_local_core::walks::Visitor;
 use go_scope_core::Scopes;
-use go_tree_nodes::text_core::Span;
+use go_scope_core::text_core::Span;
 use go_tree_nodes::{Definition, Expr, Exprs, FuncDecl, Simple, ValueKind, ValueSpec};
-use go_walk_core::Visitor;
-use go_walk_core::local_core::Fault;
 use std::alloc::{AllocError, Global};
 
 /// A walk through a function: what its pieces are checked with, the open blocks, what each local means by its number, what was

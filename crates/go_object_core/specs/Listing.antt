@@ -1,7 +1,7 @@
 -- How the functions of a package are listed.
 use Rattle.std.specs.Prelude.{ℕ, suc, List, [], ◌∷◌, ◌++◌, codes, decimal}
-use Rattle.go_instruction_core.specs.Writing.{instruction_text}
-use Rattle.go_instruction_core.specs.declared.instruction.Instruction.{Instruction}
+use Rattle.go_object_core.specs.instructions.Writing.{instruction_text}
+use Rattle.go_object_core.specs.declared.instructions.instruction.Instruction.{Instruction}
 use Rattle.go_object_core.specs.declared.object.FunctionCode.{FunctionCode}
 use Rattle.go_object_core.specs.Objects.{FunctionOf, function_shown}
 

@@ -1,6 +1,6 @@
 -- What an object holds.
 use Rattle.std.specs.Prelude.{ℕ, Bool, List, map}
-use Rattle.go_instruction_core.specs.declared.instruction.Instruction.{Instruction}
+use Rattle.go_object_core.specs.declared.instructions.instruction.Instruction.{Instruction}
 use Rattle.go_object_core.specs.declared.object.FunctionCode.{FunctionCode}
 use Rattle.go_object_core.specs.declared.object.Object.{Object}
 

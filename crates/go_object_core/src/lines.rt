@@ -3,9 +3,9 @@ ghost use Rattle.std.specs.Prelude.{◌≡◌, ◌++◌, map, string_bytes, IfOk
 ghost use Rattle.go_object_core.specs.Listing.{code_lines, function_lines, listing_of, reference_lines};
 ghost use Rattle.go_object_core.specs.Objects.{function_shown};
 
+use crate::instructions::Instruction;
 use crate::object::FunctionCode;
 use crate::words::{add_instruction, add_number};
-use go_instruction_core::Instruction;
 use std::alloc::{AllocError, Global};
 
 /// How declarations are written.

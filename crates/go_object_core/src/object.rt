@@ -2,7 +2,7 @@
 ghost use Rattle.std.specs.Prelude.{◌≡◌, option_map, slice_get};
 ghost use Rattle.go_object_core.specs.Listing.{references_of};
 
-use go_instruction_core::Instruction;
+use crate::instructions::Instruction;
 use go_path_core::ImportPath;
 use go_path_core::text_core::Name;
 

@@ -1,9 +1,9 @@
 //! How instructions are written.
 ghost use Rattle.std.specs.Prelude.{◌≡◌, ◌++◌, codes, decimal, string_bytes, OnOk};
 ghost use Rattle.std.specs.Fmt.{signed_decimal};
-ghost use Rattle.go_instruction_core.specs.Writing.{distance_text, instruction_text, letters_of, letters_text, word_text};
+ghost use Rattle.go_object_core.specs.instructions.Writing.{distance_text, instruction_text, letters_of, letters_text, word_text};
 
-use go_instruction_core::{Distance, Instruction, Letters, Word};
+use crate::instructions::{Distance, Instruction, Letters, Word};
 use std::alloc::AllocError;
 
 /// Adds a number.

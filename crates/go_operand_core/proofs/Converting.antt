@@ -1,8 +1,8 @@
 -- Conversions.
 use Rattle.std.proofs.Common.{◌≡◌, Bool, true, false, IsOk, Option, Result, Ok, Err, if◌then◌else◌, refl, sym, ap, subst, ◌∙◌, ◌⊎◌, inl, inr}
 use Rattle.std.proofs.lemmas.Bool.{and_from, and_parts, or_cases}
-use Rattle.go_constant_core.specs.text_core.declared.rule.Rule.{Rule}
-use Rattle.go_constant_core.specs.text_core.declared.rule.Rule.TheVariants.{C4, X1}
+use Rattle.go_token_core.specs.text_core.declared.rule.Rule.{Rule}
+use Rattle.go_token_core.specs.text_core.declared.rule.Rule.TheVariants.{C4, X1}
 use Rattle.go_term_core.specs.declared.term.Basic.{Basic}
 use Rattle.go_term_core.specs.declared.term.Basic.TheVariants as basics
 use Rattle.go_operand_core.specs.declared.types.ValueType.{ValueType}

@@ -1,9 +1,9 @@
 -- The table of operators.
 use Rattle.std.proofs.Common.{◌≡◌, Bool, true, false, ◌&&◌, ◌||◌, Some, None, Result, Ok, Err, if◌then◌else◌, refl, sym, ap, subst, ◌∙◌}
-use Rattle.go_constant_core.specs.text_core.declared.rule.Rule.{Rule}
-use Rattle.go_constant_core.specs.text_core.declared.rule.Rule.TheVariants.{Y3, Y7, X1}
-use Rattle.go_constant_core.specs.token_core.declared.kind.Operator.{Operator}
-use Rattle.go_constant_core.specs.token_core.declared.kind.Operator.TheVariants as operators
+use Rattle.go_token_core.specs.text_core.declared.rule.Rule.{Rule}
+use Rattle.go_token_core.specs.text_core.declared.rule.Rule.TheVariants.{Y3, Y7, X1}
+use Rattle.go_token_core.specs.declared.kind.Operator.{Operator}
+use Rattle.go_token_core.specs.declared.kind.Operator.TheVariants as operators
 use Rattle.go_term_core.specs.declared.term.Basic.{Basic}
 use Rattle.go_term_core.specs.declared.term.Basic.TheVariants as basics
 use Rattle.go_operand_core.specs.declared.types.ValueType.TheVariants as types

@@ -1,9 +1,9 @@
 -- The types and constants of what operators give.
 use Rattle.std.proofs.Common.{◌≡◌, ◌↔◌, Bool, true, false, ◌&&◌, Option, Some, None, IsSome, is_some, Result, Ok, Err, if◌then◌else◌, refl, sym, ap, subst, ◌⊎◌, inl, inr}
-use Rattle.go_constant_core.specs.text_core.declared.rule.Rule.{Rule}
-use Rattle.go_constant_core.specs.text_core.declared.rule.Rule.TheVariants.{Y3, Y7}
-use Rattle.go_constant_core.specs.token_core.declared.kind.Operator.{Operator}
-use Rattle.go_constant_core.specs.token_core.declared.kind.Operator.TheVariants as operators
+use Rattle.go_token_core.specs.text_core.declared.rule.Rule.{Rule}
+use Rattle.go_token_core.specs.text_core.declared.rule.Rule.TheVariants.{Y3, Y7}
+use Rattle.go_token_core.specs.declared.kind.Operator.{Operator}
+use Rattle.go_token_core.specs.declared.kind.Operator.TheVariants as operators
 use Rattle.go_constant_core.specs.declared.values.Constant.{Constant}
 use Rattle.go_constant_core.specs.Values as constants
 use Rattle.go_term_core.specs.declared.term.Basic.{Basic}

@@ -1,7 +1,7 @@
 -- Conversions, conditions and lengths.
 use Rattle.std.specs.Prelude.{Bool, false, ◌&&◌, ◌||◌, Option, Some, None, Result, Ok, Err, if◌then◌else◌}
-use Rattle.go_constant_core.specs.text_core.declared.rule.Rule.{Rule}
-use Rattle.go_constant_core.specs.text_core.declared.rule.Rule.TheVariants.{C4, X1}
+use Rattle.go_token_core.specs.text_core.declared.rule.Rule.{Rule}
+use Rattle.go_token_core.specs.text_core.declared.rule.Rule.TheVariants.{C4, X1}
 use Rattle.go_constant_core.specs.declared.values.Constant.{Constant}
 use Rattle.go_constant_core.specs.Values as constants
 use Rattle.go_term_core.specs.declared.term.Basic.{Basic}

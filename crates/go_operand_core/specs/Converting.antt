@@ -1,6 +1,6 @@
 -- The law of conversions.
 use Rattle.std.specs.Prelude.{◌≡◌, false, IsTrue, IsOk, Some, None, Ok, Err}
-use Rattle.go_constant_core.specs.text_core.declared.rule.Rule.TheVariants.{C4, X1}
+use Rattle.go_token_core.specs.text_core.declared.rule.Rule.TheVariants.{C4, X1}
 use Rattle.go_term_core.specs.declared.term.Basic.{Basic}
 use Rattle.go_term_core.specs.declared.term.Basic.TheVariants as basics
 use Rattle.go_operand_core.specs.declared.types.ValueType.{ValueType}

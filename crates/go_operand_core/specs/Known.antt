@@ -1,6 +1,6 @@
 -- Constants are values of the types that they have.
 use Rattle.std.specs.Prelude.{◌≡◌, ⊤, Bool, true, Option, Some, None, Ok}
-use Rattle.go_constant_core.specs.token_core.declared.kind.Operator.{Operator}
+use Rattle.go_token_core.specs.declared.kind.Operator.{Operator}
 use Rattle.go_constant_core.specs.declared.values.Constant.{Constant}
 use Rattle.go_term_core.specs.declared.term.Basic.{Basic}
 use Rattle.go_operand_core.specs.declared.types.ValueType.{ValueType}

@@ -12,5 +12,3 @@ pub mod Refusals
 pub mod Variables
 pub mod Converting
 pub mod constant_core
-pub mod text_core
-pub mod tree_core

@@ -1,8 +1,8 @@
 -- Laws of what is refused: bit operators and shifts, and divisions by a constant 0.
 use Rattle.std.specs.Prelude.{◌≡◌, ◌⊎◌, Bool, Some, None, Err, pos}
-use Rattle.go_constant_core.specs.text_core.declared.rule.Rule.TheVariants.{Y3, Y7, X1}
-use Rattle.go_constant_core.specs.token_core.declared.kind.Operator.{Operator}
-use Rattle.go_constant_core.specs.token_core.declared.kind.Operator.TheVariants as operators
+use Rattle.go_token_core.specs.text_core.declared.rule.Rule.TheVariants.{Y3, Y7, X1}
+use Rattle.go_token_core.specs.declared.kind.Operator.{Operator}
+use Rattle.go_token_core.specs.declared.kind.Operator.TheVariants as operators
 use Rattle.go_constant_core.specs.declared.values.Constant.TheVariants as constant
 use Rattle.go_term_core.specs.declared.term.Basic.TheVariants as basics
 use Rattle.go_operand_core.specs.declared.types.ValueType.{ValueType}

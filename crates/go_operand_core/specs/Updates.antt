@@ -1,9 +1,9 @@
 -- `x op= y`, `x++` and `x--`.
 use Rattle.std.specs.Prelude.{Option, Some, None, Result, Ok, Err, if◌then◌else◌, pos}
-use Rattle.go_constant_core.specs.text_core.declared.rule.Rule.{Rule}
-use Rattle.go_constant_core.specs.text_core.declared.rule.Rule.TheVariants.{Y3}
-use Rattle.go_constant_core.specs.token_core.declared.kind.Operator.{Operator}
-use Rattle.go_constant_core.specs.token_core.declared.kind.Operator.TheVariants as operators
+use Rattle.go_token_core.specs.text_core.declared.rule.Rule.{Rule}
+use Rattle.go_token_core.specs.text_core.declared.rule.Rule.TheVariants.{Y3}
+use Rattle.go_token_core.specs.declared.kind.Operator.{Operator}
+use Rattle.go_token_core.specs.declared.kind.Operator.TheVariants as operators
 use Rattle.go_constant_core.specs.declared.values.Constant.TheVariants as constants
 use Rattle.go_operand_core.specs.declared.types.ValueType.TheVariants as types
 use Rattle.go_operand_core.specs.declared.types.Operand.{Operand}

@@ -6,9 +6,9 @@ use crate::assignments::assignable;
 use crate::operators::value;
 use crate::types::{Operand, TypeLooks, ValueType};
 use crate::values::{basic_under, form_basic, is_over};
-use go_constant_core::text_core::Rule;
 use go_constant_core::{Constant, text_length};
 use go_term_core::Basic;
+use go_token_core::text_core::Rule;
 use std::alloc::{AllocError, Global};
 
 fn convertible<E: TypeLooks>(env: &E, value_type: &ValueType<E::Type>, t: &E::Type) -> bool

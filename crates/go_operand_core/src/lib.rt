@@ -30,15 +30,5 @@ pub use values::{basic_under, default_type, form_basic};
 
 /// What the crates above name of `go_constant_core`.
 pub mod constant_core {
-    pub use go_constant_core::{Constant, ConstantText, natural};
-}
-
-/// What the crates above name of `go_text_core`.
-pub mod text_core {
-    pub use go_constant_core::text_core::Rule;
-}
-
-/// What the crates above name of `go_tree_core`.
-pub mod tree_core {
-    pub use go_term_core::tree_core::Role;
+    pub use go_constant_core::Constant;
 }

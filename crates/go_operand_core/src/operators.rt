@@ -6,9 +6,9 @@ use crate::assignments::{common, comparable};
 use crate::types::{Operand, TypeLooks, ValueType};
 use crate::values::{basic_under, is_over};
 use go_constant_core::Constant;
-use go_constant_core::text_core::Rule;
-use go_constant_core::token_core::Operator;
 use go_term_core::Basic;
+use go_token_core::Operator;
+use go_token_core::text_core::Rule;
 use std::alloc::{AllocError, Global};
 
 /// What a binary operator is for.

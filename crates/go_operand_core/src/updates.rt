@@ -5,8 +5,8 @@ ghost use Rattle.go_operand_core.specs.Updates as updates;
 use crate::operators::{binary, refused_binary, value};
 use crate::types::{Operand, TypeLooks, ValueType};
 use go_constant_core::Constant;
-use go_constant_core::text_core::Rule;
-use go_constant_core::token_core::Operator;
+use go_token_core::Operator;
+use go_token_core::text_core::Rule;
 use std::alloc::{AllocError, Global};
 
 fn operator_of(operator: Operator) -> Operator

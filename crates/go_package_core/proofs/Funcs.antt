@@ -6,8 +6,8 @@ use Rattle.go_tree_nodes.specs.declared.decls.ValueKind.{ValueKind}
 use Rattle.go_tree_nodes.specs.Trees.{Separated, One, Then, ValueSpecTree, TypeSpecTree, Specs, Single, Group, DeclTree, Value, Types, Func, FuncTree, FileTree}
 use Rattle.go_term_core.specs.decl_core.Outer.{Outer, value_spec_outers, type_spec_outers, decl_outers}
 use Rattle.go_term_core.specs.decl_core.TopDecls.{TopDeclTree, numbered, named_decls, value_spec_decls, type_spec_decls, specs_decls, decl_decls, top_decls}
-use Rattle.go_ready_core.specs.file_core.Stands.{decl_funcs, file_funcs}
-use Rattle.go_ready_core.specs.Inlines.{form_funcs, outline_funcs}
+use Rattle.go_body_core.specs.file.Stands.{decl_funcs, file_funcs}
+use Rattle.go_package_core.specs.prepare.Inlines.{form_funcs, outline_funcs}
 
 listed_both : (a b : List TopDeclTree) → outline_funcs (a ++ b) ≡ outline_funcs a ++ outline_funcs b
 listed_both [] b = refl

@@ -3,24 +3,24 @@ use Rattle.std.proofs.Common.{◌≡◌, ℕ, ◌+◌, ◌++◌, inl, inr, List,
 use Rattle.std.specs.Prelude.{◌↔◌, Option, Some, Bool, Contains, slice_get}
 use Rattle.std.specs.List.{AllZip, enumerate_from}
 use Rattle.go_tree_nodes.specs.Trees.{FileTree}
-use Rattle.go_ready_core.specs.table_core.Entries.{Entry, find_entry}
-use Rattle.go_ready_core.specs.type_core.Meanings.{one_settled}
-use Rattle.go_ready_core.specs.entry_core.Entries.{package_meanings}
-use Rattle.go_ready_core.specs.entry_core.Meanings.{declared_alone}
-use Rattle.go_ready_core.specs.fault_core.declared.places.PackageFault.{PackageFault}
-use Rattle.go_ready_core.specs.fault_core.TypeFaults.{faults_of_types}
-use Rattle.go_ready_core.specs.handle_core.Declarations.{Declaration}
-use Rattle.go_ready_core.specs.expr_core.Laws.{use_place}
-use Rattle.go_ready_core.specs.report_core.Faults.{IsSettled}
-use Rattle.go_ready_core.specs.report_core.Settled.{settled_are_one}
-use Rattle.go_ready_core.specs.face_core.Faces.{TheFace}
-use Rattle.go_ready_core.specs.face_core.Written.{decls_of}
-use Rattle.go_ready_core.specs.file_core.Occurring.{files_have_occurrences}
-use Rattle.go_ready_core.specs.answer_core.Shown.{package_shown}
-use Rattle.go_ready_core.specs.Packages.{PackageIn, entries_in, outlines_in, scene_in, shows_in, targets_in, written_in}
-use Rattle.go_ready_core.specs.Values.{AreDeclared, AreLooped}
-use Rattle.go_ready_core.proofs.Faulty.{one_looped}
-use Rattle.go_ready_core.proofs.Tables.{have_one_table}
+use Rattle.go_type_core.specs.table_core.Entries.{Entry, find_entry}
+use Rattle.go_type_core.proofs.Meanings.{one_settled}
+use Rattle.go_body_core.specs.typexpr_core.EntryEntries.{package_meanings}
+use Rattle.go_body_core.specs.typexpr_core.EntryMeanings.{declared_alone}
+use Rattle.go_report_core.specs.declared.type_faults.places.PackageFault.{PackageFault}
+use Rattle.go_report_core.specs.type_faults.TypeFaults.{faults_of_types}
+use Rattle.go_report_core.specs.handle_core.Declarations.{Declaration}
+use Rattle.go_report_core.specs.expr_core.Laws.{use_place}
+use Rattle.go_report_core.specs.Faults.{IsSettled}
+use Rattle.go_report_core.proofs.Settled.{settled_are_one}
+use Rattle.go_report_core.specs.declared_core.Faces.{TheFace}
+use Rattle.go_report_core.specs.declared_core.Written.{decls_of}
+use Rattle.go_body_core.proofs.FileOccurring.{files_have_occurrences}
+use Rattle.go_report_core.specs.answer.Shown.{package_shown}
+use Rattle.go_package_core.specs.prepare.Packages.{PackageIn, entries_in, outlines_in, scene_in, shows_in, targets_in, written_in}
+use Rattle.go_package_core.specs.prepare.Values.{AreDeclared, AreLooped}
+use Rattle.go_package_core.proofs.PrepareFaulty.{one_looped}
+use Rattle.go_package_core.proofs.PrepareTables.{have_one_table}
 use Rattle.go_package_core.specs.Checked.{AnswersOf, CheckedOf, IsChecked, IsFileChecked, all_faults, imports_at, stand_at}
 use Rattle.go_package_core.specs.Laws.{OneCheck, PackageHasOccurrences}
 use Rattle.go_package_core.proofs.Numbered.{numbered_at, zip_pair, zip_same}

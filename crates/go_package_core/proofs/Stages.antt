@@ -7,29 +7,29 @@ use Rattle.std.proofs.lemmas.List.FromFn.{length-enumerate_from}
 use Rattle.go_tree_nodes.specs.Trees.{FileTree}
 use Rattle.go_term_core.specs.decl_core.declared.keys.DeclRef.{DeclRef}
 use Rattle.go_term_core.specs.Terms.{Term}
-use Rattle.go_ready_core.specs.alias_core.Aliases.{target_by}
-use Rattle.go_ready_core.specs.table_core.Entries.{Entry}
-use Rattle.go_ready_core.specs.entry_core.Meanings.{Shows}
-use Rattle.go_ready_core.specs.entry_core.Outlines.{FileOutline, outline_of}
-use Rattle.go_ready_core.specs.fault_core.declared.places.PackageFault.{PackageFault}
-use Rattle.go_ready_core.specs.inline_core.Types.{InlineOf}
-use Rattle.go_ready_core.specs.face_core.Faces.{TheFace}
-use Rattle.go_ready_core.specs.face_core.Here.{far_type}
-use Rattle.go_ready_core.specs.face_core.Packages.{PackageFacesModel}
-use Rattle.go_ready_core.specs.face_core.Written.{WrittenOf, decls_of, package_written}
-use Rattle.go_ready_core.specs.env_core.Scenes.{SceneModel}
-use Rattle.go_ready_core.specs.value_core.Package.{PlacedOf, placed_decls}
-use Rattle.go_ready_core.specs.handle_core.Declarations.{Declaration}
+use Rattle.go_body_core.specs.typexpr_core.AliasesAliases.{target_by}
+use Rattle.go_type_core.specs.table_core.Entries.{Entry}
+use Rattle.go_body_core.specs.typexpr_core.EntryMeanings.{Shows}
+use Rattle.go_body_core.specs.typexpr_core.EntryOutlines.{FileOutline, outline_of}
+use Rattle.go_report_core.specs.declared.type_faults.places.PackageFault.{PackageFault}
+use Rattle.go_inline_core.specs.Types.{InlineOf}
+use Rattle.go_report_core.specs.declared_core.Faces.{TheFace}
+use Rattle.go_report_core.specs.declared_core.Here.{far_type}
+use Rattle.go_report_core.specs.declared_core.Packages.{PackageFacesModel}
+use Rattle.go_report_core.specs.declared_core.Written.{WrittenOf, decls_of, package_written}
+use Rattle.go_body_core.specs.env_core.Scenes.{SceneModel}
+use Rattle.go_value_core.specs.Package.{PlacedOf, placed_decls}
+use Rattle.go_report_core.specs.handle_core.Declarations.{Declaration}
 use Rattle.go_local_core.specs.declared.Fault.{Fault}
-use Rattle.go_ready_core.specs.report_core.Faults.{IsSettled}
-use Rattle.go_ready_core.specs.body_core.Notes.{TheUse}
-use Rattle.go_ready_core.specs.known_core.Alike.{decls_stand_alike}
-use Rattle.go_ready_core.specs.answer_core.Shown.{package_shown}
-use Rattle.go_ready_core.specs.Inlines.{initial_in, initial_types, types_stand}
-use Rattle.go_ready_core.specs.Laws.{package_placed}
-use Rattle.go_ready_core.specs.Packages.{PackageIn, outlines_in, scene_in, shows_in, targets_in}
-use Rattle.go_ready_core.specs.Types.{AreTypes}
-use Rattle.go_ready_core.specs.Values.{AreDeclared, AreLooped}
+use Rattle.go_report_core.specs.Faults.{IsSettled}
+use Rattle.go_body_core.specs.Notes.{TheUse}
+use Rattle.go_package_values.proofs.Alike.{decls_stand_alike}
+use Rattle.go_report_core.specs.answer.Shown.{package_shown}
+use Rattle.go_package_core.specs.prepare.Inlines.{initial_in, initial_types, types_stand}
+use Rattle.go_package_core.specs.prepare.Laws.{package_placed}
+use Rattle.go_package_core.specs.prepare.Packages.{PackageIn, outlines_in, scene_in, shows_in, targets_in}
+use Rattle.go_package_core.specs.prepare.Types.{AreTypes}
+use Rattle.go_package_core.specs.prepare.Values.{AreDeclared, AreLooped}
 use Rattle.go_package_core.specs.Checked.{AnswersOf, CheckedOf, IsChecked, IsFileChecked}
 
 -- as many files have types as there are

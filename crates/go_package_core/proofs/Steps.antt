@@ -9,38 +9,38 @@ use Rattle.std.proofs.lemmas.List.{get_or_default, length-map, length-append, ta
 use Rattle.std.proofs.lemmas.List.FromFn.{length-enumerate_from}
 use Rattle.std.proofs.lemmas.Option.{slice_get-map, slice_get_read}
 use Rattle.go_tree_nodes.specs.Trees.{FuncTree, FileTree}
-use Rattle.go_ready_core.specs.parse_core.declared.error.SynFault.{SynFault}
-use Rattle.go_ready_core.specs.graph_core.Packages.{trees_of, tree_shown}
-use Rattle.go_ready_core.specs.graph_core.Sources.{SourceModel, source}
+use Rattle.go_parse_core.specs.declared.error.SynFault.{SynFault}
+use Rattle.go_block_core.specs.graph_core.Packages.{trees_of, tree_shown}
+use Rattle.go_block_core.specs.graph_core.Sources.{SourceModel, source}
 use Rattle.go_term_core.specs.decl_core.declared.places.Place.{Place}
 use Rattle.go_term_core.specs.decl_core.declared.tops.Outline.{Outline}
 use Rattle.go_term_core.specs.decl_core.TopDecls.{TopDeclTree, top_decls}
-use Rattle.go_ready_core.specs.block_core.declared.imports.Imported.{Imported}
-use Rattle.go_ready_core.specs.table_core.Entries.{Entry}
-use Rattle.go_ready_core.specs.entry_core.Meanings.{Shows, file_meaning}
-use Rattle.go_ready_core.specs.entry_core.Outlines.{FileOutline, outline_of, outline_shown}
-use Rattle.go_ready_core.specs.entry_core.Numbered.{flat_more}
-use Rattle.go_ready_core.specs.fault_core.declared.places.PackageFault.{PackageFault}
-use Rattle.go_ready_core.specs.handle_core.Declarations.{Declaration}
+use Rattle.go_block_core.specs.declared.imports.Imported.{Imported}
+use Rattle.go_type_core.specs.table_core.Entries.{Entry}
+use Rattle.go_body_core.specs.typexpr_core.EntryMeanings.{Shows, file_meaning}
+use Rattle.go_body_core.specs.typexpr_core.EntryOutlines.{FileOutline, outline_of, outline_shown}
+use Rattle.go_body_core.specs.typexpr_core.EntryNumbered.{flat_more}
+use Rattle.go_report_core.specs.declared.type_faults.places.PackageFault.{PackageFault}
+use Rattle.go_report_core.specs.handle_core.Declarations.{Declaration}
 use Rattle.go_local_core.specs.declared.Fault.{Fault}
-use Rattle.go_ready_core.specs.report_core.Faults.{IsSettled}
-use Rattle.go_ready_core.specs.inline_core.Types.{InlineOf}
-use Rattle.go_ready_core.specs.inline_core.Inline.{inlines}
-use Rattle.go_ready_core.specs.inline_core.Trees.{outline_types}
-use Rattle.go_ready_core.specs.inline_core.Outlines.{outline_all}
-use Rattle.go_ready_core.specs.face_core.Faces.{TheFace}
-use Rattle.go_ready_core.specs.face_core.Laws.{FileDecl, file_decl, package_decls}
-use Rattle.go_ready_core.specs.env_core.Scenes.{SceneModel}
-use Rattle.go_ready_core.specs.func_core.Stands.{FileStand, kinds_in_scene}
-use Rattle.go_ready_core.specs.func_core.Laws.{AreFuncTypes}
-use Rattle.go_ready_core.specs.file_core.Files.{file_uses, file_faults, file_locals}
-use Rattle.go_ready_core.specs.file_core.Stands.{AreFunctionTypes, AreInitialTypes, file_funcs}
-use Rattle.go_ready_core.specs.answer_core.Outer.{outer_faults}
-use Rattle.go_ready_core.specs.Inlines as inside
-use Rattle.go_ready_core.specs.Inlines.{AreFunctionsIn, initial_in, outline_funcs, types_stand}
-use Rattle.go_ready_core.specs.Packages.{PackageIn, outlines_in, scene_in, shows_in, stand_in}
-use Rattle.go_ready_core.proofs.Lists.{zip_both}
-use Rattle.go_ready_core.proofs.Values.{held_there}
+use Rattle.go_report_core.specs.Faults.{IsSettled}
+use Rattle.go_inline_core.specs.Types.{InlineOf}
+use Rattle.go_inline_core.specs.Inline.{inlines}
+use Rattle.go_inline_core.specs.Trees.{outline_types}
+use Rattle.go_inline_core.proofs.Outlines.{outline_all}
+use Rattle.go_report_core.specs.declared_core.Faces.{TheFace}
+use Rattle.go_report_core.specs.declared_core.Laws.{FileDecl, file_decl, package_decls}
+use Rattle.go_body_core.specs.env_core.Scenes.{SceneModel}
+use Rattle.go_body_core.specs.function.Stands.{FileStand, kinds_in_scene}
+use Rattle.go_body_core.specs.function.Laws.{AreFuncTypes}
+use Rattle.go_body_core.specs.file.Files.{file_uses, file_faults, file_locals}
+use Rattle.go_body_core.specs.file.Stands.{AreFunctionTypes, AreInitialTypes, file_funcs}
+use Rattle.go_report_core.specs.answer.Outer.{outer_faults}
+use Rattle.go_package_core.specs.prepare.Inlines as inside
+use Rattle.go_package_core.specs.prepare.Inlines.{AreFunctionsIn, initial_in, outline_funcs, types_stand}
+use Rattle.go_package_core.specs.prepare.Packages.{PackageIn, outlines_in, scene_in, shows_in, stand_in}
+use Rattle.go_package_core.proofs.PrepareLists.{zip_both}
+use Rattle.go_package_core.proofs.PrepareValues.{held_there}
 use Rattle.go_package_core.specs.Checked.{AnswersOf, IsFileChecked, all_faults, decls_before, imports_at, stand_at}
 use Rattle.go_package_core.proofs.Funcs.{funcs_all}
 use Rattle.go_package_core.proofs.Numbered.{front_within, numbered_at, numbered_more, take_map, zip_read}

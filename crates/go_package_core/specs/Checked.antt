@@ -8,26 +8,26 @@ use Rattle.std.specs.List.{AllZip, enumerate_from}
 use Rattle.std.specs.Option.{option_map}
 use Rattle.go_tree_nodes.specs.Trees.{FileTree}
 use Rattle.go_term_core.specs.decl_core.TopDecls.{top_decls}
-use Rattle.go_ready_core.specs.block_core.declared.imports.Imported.{Imported}
-use Rattle.go_ready_core.specs.table_core.Entries.{Entry}
-use Rattle.go_ready_core.specs.entry_core.Outlines.{outline_of}
-use Rattle.go_ready_core.specs.fault_core.declared.places.PackageFault.{PackageFault}
-use Rattle.go_ready_core.specs.handle_core.Declarations.{Declaration}
+use Rattle.go_block_core.specs.declared.imports.Imported.{Imported}
+use Rattle.go_type_core.specs.table_core.Entries.{Entry}
+use Rattle.go_body_core.specs.typexpr_core.EntryOutlines.{outline_of}
+use Rattle.go_report_core.specs.declared.type_faults.places.PackageFault.{PackageFault}
+use Rattle.go_report_core.specs.handle_core.Declarations.{Declaration}
 use Rattle.go_local_core.specs.declared.Fault.{Fault}
-use Rattle.go_ready_core.specs.report_core.Faults.{IsSettled}
-use Rattle.go_ready_core.specs.answer_core.declared.locals.HeldLocal.{HeldLocal}
-use Rattle.go_ready_core.specs.face_core.Faces.{TheFace, face_shown, operand_shown}
-use Rattle.go_ready_core.specs.face_core.Laws.{package_decls}
-use Rattle.go_ready_core.specs.face_core.Packages.{PackageFacesModel}
-use Rattle.go_ready_core.specs.face_core.Written.{decls_of}
-use Rattle.go_ready_core.specs.body_core.Notes.{TheUse, TheLocal}
-use Rattle.go_ready_core.specs.func_core.Stands.{FileStand}
-use Rattle.go_ready_core.specs.file_core.Files.{file_uses, file_faults, file_locals}
-use Rattle.go_ready_core.specs.answer_core.Outer.{outer_faults}
-use Rattle.go_ready_core.specs.answer_core.Shown.{package_shown}
-use Rattle.go_ready_core.specs.Packages.{PackageIn, outlines_in, scene_in, stand_in}
-use Rattle.go_ready_core.specs.Types.{AreTypes}
-use Rattle.go_ready_core.specs.Values.{AreDeclared, AreLooped}
+use Rattle.go_report_core.specs.Faults.{IsSettled}
+use Rattle.go_report_core.specs.declared.answer.locals.HeldLocal.{HeldLocal}
+use Rattle.go_report_core.specs.declared_core.Faces.{TheFace, face_shown, operand_shown}
+use Rattle.go_report_core.specs.declared_core.Laws.{package_decls}
+use Rattle.go_report_core.specs.declared_core.Packages.{PackageFacesModel}
+use Rattle.go_report_core.specs.declared_core.Written.{decls_of}
+use Rattle.go_body_core.specs.Notes.{TheUse, TheLocal}
+use Rattle.go_body_core.specs.function.Stands.{FileStand}
+use Rattle.go_body_core.specs.file.Files.{file_uses, file_faults, file_locals}
+use Rattle.go_report_core.specs.answer.Outer.{outer_faults}
+use Rattle.go_report_core.specs.answer.Shown.{package_shown}
+use Rattle.go_package_core.specs.prepare.Packages.{PackageIn, outlines_in, scene_in, stand_in}
+use Rattle.go_package_core.specs.prepare.Types.{AreTypes}
+use Rattle.go_package_core.specs.prepare.Values.{AreDeclared, AreLooped}
 use Rattle.go_package_core.specs.declared.checked.CheckedPackage.{CheckedPackage}
 use Rattle.go_package_core.specs.declared.checked.FileAnswers.{FileAnswers}
 

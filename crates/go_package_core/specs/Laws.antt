@@ -2,11 +2,11 @@
 use Rattle.std.specs.Prelude.{◌≡◌, ◌<◌, ℕ, List, Some, All, length, map, slice_get}
 use Rattle.go_tree_nodes.specs.Trees.{FileTree}
 use Rattle.go_tree_nodes.specs.Rules.{Wf_file}
-use Rattle.go_tree_core.specs.Occurrences.{file_occs}
-use Rattle.go_ready_core.specs.block_core.Naming.{file_specs}
-use Rattle.go_ready_core.specs.table_core.Entries.{Entry}
-use Rattle.go_ready_core.specs.expr_core.Laws.{use_place, occurrence_place}
-use Rattle.go_ready_core.specs.Packages.{PackageIn}
+use Rattle.go_parse_core.specs.tree_core.Occurrences.{file_occs}
+use Rattle.go_block_core.specs.Naming.{file_specs}
+use Rattle.go_type_core.specs.table_core.Entries.{Entry}
+use Rattle.go_report_core.specs.expr_core.Laws.{use_place, occurrence_place}
+use Rattle.go_package_core.specs.prepare.Packages.{PackageIn}
 use Rattle.go_package_core.specs.Checked.{AnswersOf, CheckedOf, IsChecked, imports_at}
 use Rattle.go_tree_nodes.specs.Spelling.{IsPlaced}
 

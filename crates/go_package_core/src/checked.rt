@@ -1,9 +1,9 @@
 //! What the check of a package gives.
 use go_local_core::Fault;
-use go_ready_core::answer_core::{Answer, HeldLocal};
-use go_ready_core::face_core::{Face, PackageFaces};
-use go_ready_core::type_core::PackageTypes;
+use go_report_core::answer::{Answer, HeldLocal};
+use go_report_core::declared_core::{Face, PackageFaces};
 use go_term_core::{Signature, TypeTerm};
+use go_type_core::PackageTypes;
 
 /// What stands in a file of a package. It holds what it names, and lends nothing of the package.
 pub struct FileAnswers {

@@ -2,9 +2,9 @@
 ghost use Rattle.std.specs.Prelude.{◌≡◌, ◌++◌, [], ◌∷◌, IfOk, OnOk, map};
 ghost use Rattle.go_package_core.specs.Checked.{local_shown};
 
-use go_ready_core::answer_core::{HeldLocal, HeldValues, hold_local};
-use go_ready_core::body_core::Local;
-use go_text_core::add;
+use go_body_core::Local;
+use go_path_core::text_core::add;
+use go_report_core::answer::{HeldLocal, HeldValues, hold_local};
 use std::alloc::{AllocError, Global};
 
 // Adds a local, held.

@@ -1,35 +1,35 @@
 //! The check of a package.
 ghost use Rattle.std.specs.Prelude.{◌≡◌, ◌++◌, All, List, IfOk, length, map};
 ghost use Rattle.std.specs.List.{AllByRecursion};
-ghost use Rattle.go_ready_core.specs.table_core.Entries.{Entry};
-ghost use Rattle.go_ready_core.specs.table_core.Tables.{AreOthers};
-ghost use Rattle.go_ready_core.specs.entry_core.Outlines.{outline_shown};
-ghost use Rattle.go_ready_core.specs.env_core.Scenes.{scene_shown};
-ghost use Rattle.go_ready_core.specs.value_core.Laws.{AreFaces};
-ghost use Rattle.go_ready_core.specs.value_core.Package.{AreThroughThemselves, placed_decls};
-ghost use Rattle.go_ready_core.specs.Inlines.{IsPlacedOutline};
-ghost use Rattle.go_ready_core.specs.Packages.{outlines_in, package_in_shown, shows_in};
-ghost use Rattle.go_ready_core.specs.Types.{AreTypes};
+ghost use Rattle.go_type_core.specs.table_core.Entries.{Entry};
+ghost use Rattle.go_type_core.specs.table_core.Tables.{AreOthers};
+ghost use Rattle.go_body_core.specs.typexpr_core.EntryOutlines.{outline_shown};
+ghost use Rattle.go_body_core.specs.env_core.Scenes.{scene_shown};
+ghost use Rattle.go_value_core.specs.Laws.{AreFaces};
+ghost use Rattle.go_value_core.specs.Package.{AreThroughThemselves, placed_decls};
+ghost use Rattle.go_package_core.specs.prepare.Inlines.{IsPlacedOutline};
+ghost use Rattle.go_package_core.specs.prepare.Packages.{outlines_in, package_in_shown, shows_in};
+ghost use Rattle.go_package_core.specs.prepare.Types.{AreTypes};
 ghost use Rattle.go_package_core.specs.Checked.{IsChecked, checked_shown};
 ghost use Rattle.go_package_core.specs.mirrors.Stages.{IsReady};
 ghost use Rattle.go_tree_nodes.specs.Spelling.{IsPlaced};
 
 use crate::checked::CheckedPackage;
 use crate::files::{Declared, check_files};
-use go_ready_core::answer_core::{held_faces, shown_faces};
-use go_ready_core::block_core::Blocks;
-use go_ready_core::entry_core::ImportedNames;
-use go_ready_core::env_core::Scene;
-use go_ready_core::face_core::{FaceTable, TypesHere, WrittenFaces};
-use go_ready_core::handle_core::Home;
-use go_ready_core::inline_core::InlineTypes;
-use go_ready_core::known_core::package_values;
-use go_ready_core::type_core::TypeTable;
-use go_ready_core::value_core::through_itself;
-use go_ready_core::{
+use crate::prepare::{
     OwnTypes, PackageAt, Ready, make_ready, package_aliases, package_outlines, package_types,
 };
+use go_block_core::Blocks;
+use go_body_core::env_core::Scene;
+use go_body_core::typexpr_core::ImportedNames;
+use go_inline_core::InlineTypes;
+use go_package_values::package_values;
+use go_report_core::answer::{held_faces, shown_faces};
+use go_report_core::declared_core::{FaceTable, TypesHere, WrittenFaces};
+use go_report_core::handle_core::Home;
 use go_term_core::decl_core::Outline;
+use go_type_core::TypeTable;
+use go_value_core::through_itself;
 use std::alloc::{AllocError, Global};
 use std::marker::Brand;
 

@@ -1,12 +1,12 @@
 -- The samples of aliases are computed.
 use Rattle.std.proofs.Common.{◌≡◌, List, [], ◌∷◌, Err, refl, sym, subst}
-use Rattle.go_scan_core.specs.text_core.declared.rule.Rule.TheVariants.{P1}
-use Rattle.go_scan_core.specs.token_core.declared.kind.Keyword.TheVariants as keyword
-use Rattle.go_scan_core.specs.token_core.declared.kind.Operator.TheVariants as operator
+use Rattle.go_tree_nodes.specs.text_core.declared.rule.Rule.TheVariants.{P1}
+use Rattle.go_tree_nodes.specs.token_core.declared.kind.Keyword.TheVariants as keyword
+use Rattle.go_tree_nodes.specs.token_core.declared.kind.Operator.TheVariants as operator
 use Rattle.go_tree_nodes.specs.Samples.{at}
 use Rattle.go_tree_nodes.specs.Spelling.{mark, word}
 use Rattle.go_tree_nodes.specs.Terminals.{Terminal}
-use Rattle.go_parse_stmts.specs.parse_types.mirrors.Marks.{Grammar}
+use Rattle.go_parse_reader.specs.types.mirrors.Marks.{Grammar}
 use Rattle.go_parse_core.specs.AliasSamples.{alias_before, IsNoFile, AliasesAreOfNames}
 use Rattle.go_parse_core.specs.Refusing.{IsRuleOf}
 use Rattle.go_parse_core.specs.mirrors.FileReading.{imports_go, decl_at, top_at, tops_go, file_at}

@@ -6,10 +6,10 @@ use Rattle.go_tree_nodes.specs.declared.files.TopDecl.{TopDecl}
 use Rattle.go_tree_nodes.specs.Terminals.{Terminal}
 use Rattle.go_tree_nodes.specs.Trees.{TopTree}
 use Rattle.go_tree_nodes.specs.Shapes.{top_of}
-use Rattle.go_parse_stmts.specs.parse_types.declared.stop.Stop.{Stop}
-use Rattle.go_parse_stmts.specs.parse_types.mirrors.Giving.{Fails}
-use Rattle.go_parse_stmts.specs.parse_types.mirrors.Marks.{Stuck, ◌>>=◌}
-use Rattle.go_parse_stmts.specs.parse_types.CodeSteps.{fails_along}
+use Rattle.go_parse_reader.specs.declared.types.stop.Stop.{Stop}
+use Rattle.go_parse_reader.specs.types.mirrors.Giving.{Fails}
+use Rattle.go_parse_reader.specs.types.mirrors.Marks.{Stuck, ◌>>=◌}
+use Rattle.go_parse_reader.proofs.TypesCodeSteps.{fails_along}
 use Rattle.go_parse_core.specs.mirrors.FileReading.{top_at, tops_go}
 use Rattle.go_parse_core.proofs.FileFound.{tops_turn}
 use Rattle.go_parse_core.proofs.FileSound.{top_shorter}

@@ -1,21 +1,21 @@
 -- What reading imports gives from the middle of their list on.
 use Rattle.std.specs.Prelude.{map}
 use Rattle.std.proofs.Common.{◌≡◌, ℕ, zero, suc, ◌-◌, ◌<◌, ◌≤◌, List, [], ◌∷◌, ◌++◌, length, Some, None, Ok, Err, refl, sym, ap, ◌∙◌, arith, length-append}
-use Rattle.go_scan_core.specs.text_core.declared.span.Span.{Span}
-use Rattle.go_scan_core.specs.token_core.declared.kind.Keyword.TheVariants as keyword
-use Rattle.go_scan_core.specs.token_core.declared.kind.Operator.TheVariants as operator
+use Rattle.go_tree_nodes.specs.text_core.declared.span.Span.{Span}
+use Rattle.go_tree_nodes.specs.token_core.declared.kind.Keyword.TheVariants as keyword
+use Rattle.go_tree_nodes.specs.token_core.declared.kind.Operator.TheVariants as operator
 use Rattle.go_tree_nodes.specs.declared.files.ImportDecl.{ImportDecl}
 use Rattle.go_tree_nodes.specs.Shapes.{import_of}
 use Rattle.go_tree_nodes.specs.Spelling.{spell_import, spell_specs}
 use Rattle.go_tree_nodes.specs.Terminals.{Terminal}
 use Rattle.go_tree_nodes.specs.Trees.{Specs, ImportSpecTree, ImportTree}
-use Rattle.go_parse_stmts.specs.parse_types.declared.stop.Stop.{Stop}
-use Rattle.go_parse_stmts.specs.parse_types.mirrors.Giving.{Fails}
-use Rattle.go_parse_stmts.specs.parse_types.mirrors.Marks.{◌>>=◌, Reading, need, mark_at, keyword_at}
-use Rattle.go_parse_stmts.specs.parse_types.CodeSteps.{fails_along}
-use Rattle.go_parse_stmts.specs.parse_types.Marks.{mark_shorter, need_ok, word_shorter}
-use Rattle.go_parse_stmts.specs.mirrors.StmtReading.{specs_at}
-use Rattle.go_parse_stmts.proofs.Specs.{specs_sound}
+use Rattle.go_parse_reader.specs.declared.types.stop.Stop.{Stop}
+use Rattle.go_parse_reader.specs.types.mirrors.Giving.{Fails}
+use Rattle.go_parse_reader.specs.types.mirrors.Marks.{◌>>=◌, Reading, need, mark_at, keyword_at}
+use Rattle.go_parse_reader.proofs.TypesCodeSteps.{fails_along}
+use Rattle.go_parse_reader.proofs.TypesMarks.{mark_shorter, need_ok, word_shorter}
+use Rattle.go_parse_core.specs.stmts.mirrors.StmtReading.{specs_at}
+use Rattle.go_parse_core.proofs.StmtsSpecs.{specs_sound}
 use Rattle.go_parse_core.specs.mirrors.FileReading.{import_spec_at, imports_by, imports_go}
 use Rattle.go_parse_core.proofs.FileSound.{import_spec_sound}
 

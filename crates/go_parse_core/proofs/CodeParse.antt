@@ -1,7 +1,7 @@
 -- What the answers of the parser mean.
 use Rattle.std.proofs.Common.{◌≡◌, ℕ, ◌<◌, ◌≤◌, ◌^◌, List, length, Ok, Err, sym, ap, subst, arith, inl, inr}
 use Rattle.std.specs.List.{All}
-use Rattle.go_scan_core.specs.token_core.declared.token.Token.{Token}
+use Rattle.go_tree_nodes.specs.token_core.declared.token.Token.{Token}
 use Rattle.go_scan_core.specs.Texts.{IsFilled}
 use Rattle.go_scan_core.proofs.Answered.{one_list}
 use Rattle.go_scan_core.specs.Tokens as scanned
@@ -10,9 +10,9 @@ use Rattle.go_tree_nodes.specs.Heights.{file_height}
 use Rattle.go_tree_nodes.specs.Spelling.{spell_file}
 use Rattle.go_tree_nodes.specs.Terminals.{Terminal, terminals, InOrder}
 use Rattle.go_tree_nodes.specs.Trees.{FileTree}
-use Rattle.go_parse_stmts.specs.parse_types.declared.stop.Stop.{Stop}
-use Rattle.go_parse_stmts.specs.parse_types.declared.stop.Stop.TheVariants as stop
-use Rattle.go_parse_stmts.specs.parse_types.mirrors.Giving.{Fails}
+use Rattle.go_parse_reader.specs.declared.types.stop.Stop.{Stop}
+use Rattle.go_parse_reader.specs.declared.types.stop.Stop.TheVariants as stop
+use Rattle.go_parse_reader.specs.types.mirrors.Giving.{Fails}
 use Rattle.go_parse_core.specs.declared.error.ParseError.{ParseError}
 use Rattle.go_parse_core.specs.declared.error.ParseError.TheVariants as errors
 use Rattle.go_parse_core.specs.Correct.{HasTree, max_height}

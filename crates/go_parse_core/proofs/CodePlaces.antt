@@ -2,14 +2,14 @@
 use Rattle.std.proofs.Common.{◌≡◌, ℕ, ◌+◌, ◌<◌, ◌≤◌, ◌⊎◌, inl, inr, List, [], ◌∷◌, Bool, true, false, Option, Some, None, refl, subst, sym, arith, nat_le, if◌then◌else◌}
 use Rattle.std.specs.List.{All}
 use Rattle.std.proofs.lemmas.List.Elements.{All-head, All-tail}
-use Rattle.go_scan_core.specs.text_core.declared.span.Span.{Span}
-use Rattle.go_scan_core.specs.text_core.Slices.{slice_of}
-use Rattle.go_scan_core.specs.token_core.declared.kind.Operator.{Operator}
-use Rattle.go_scan_core.specs.token_core.declared.kind.Operator.TheVariants as operator
-use Rattle.go_scan_core.specs.token_core.declared.kind.TokenKind.{TokenKind}
-use Rattle.go_scan_core.specs.token_core.declared.kind.TokenKind.TheVariants as token
-use Rattle.go_scan_core.specs.token_core.declared.token.Token.{Token}
-use Rattle.go_scan_core.specs.token_core.Numbers.{integer_value_of}
+use Rattle.go_tree_nodes.specs.text_core.declared.span.Span.{Span}
+use Rattle.go_tree_nodes.specs.text_core.Slices.{slice_of}
+use Rattle.go_tree_nodes.specs.token_core.declared.kind.Operator.{Operator}
+use Rattle.go_tree_nodes.specs.token_core.declared.kind.Operator.TheVariants as operator
+use Rattle.go_tree_nodes.specs.token_core.declared.kind.TokenKind.{TokenKind}
+use Rattle.go_tree_nodes.specs.token_core.declared.kind.TokenKind.TheVariants as token
+use Rattle.go_tree_nodes.specs.token_core.declared.token.Token.{Token}
+use Rattle.go_tree_nodes.specs.token_core.Numbers.{integer_value_of}
 use Rattle.go_scan_core.specs.Texts.{IsFilled}
 use Rattle.go_scan_core.specs.Tokens as scanned
 use Rattle.go_tree_nodes.specs.Terminals.{Number, Stray, name_kind, number_kind, text_kind, kind_at, least_width_of, least_width, terminals, InOrder}

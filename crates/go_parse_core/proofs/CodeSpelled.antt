@@ -2,12 +2,12 @@
 use Rattle.std.proofs.Common.{◌≡◌, ℕ, ◌≤◌, Bool, true, inl, inr, List, Option, Some, Ok, refl, sym, subst, arith, nat_le, if◌then◌else◌}
 use Rattle.std.proofs.lemmas.Bool.Decides.{nat_tests}
 use Rattle.std.proofs.lemmas.List.Elements.{All-map, All-weaker}
-use Rattle.go_scan_core.specs.text_core.declared.span.Span.{Span}
-use Rattle.go_scan_core.specs.text_core.Slices.{slice_of}
-use Rattle.go_scan_core.specs.token_core.declared.kind.TokenKind.{TokenKind}
-use Rattle.go_scan_core.specs.token_core.declared.kind.TokenKind.TheVariants as token
-use Rattle.go_scan_core.specs.token_core.declared.token.Token.{Token}
-use Rattle.go_scan_core.specs.token_core.Numbers.{integer_value_of}
+use Rattle.go_tree_nodes.specs.text_core.declared.span.Span.{Span}
+use Rattle.go_tree_nodes.specs.text_core.Slices.{slice_of}
+use Rattle.go_tree_nodes.specs.token_core.declared.kind.TokenKind.{TokenKind}
+use Rattle.go_tree_nodes.specs.token_core.declared.kind.TokenKind.TheVariants as token
+use Rattle.go_tree_nodes.specs.token_core.declared.token.Token.{Token}
+use Rattle.go_tree_nodes.specs.token_core.Numbers.{integer_value_of}
 use Rattle.go_scan_core.specs.Texts.{HasItsText, IsSpelled}
 use Rattle.go_scan_core.proofs.Answered.{tokens_of_answer}
 use Rattle.go_scan_core.proofs.TextLemmas.{slice_of-token}

@@ -1,9 +1,9 @@
 -- Reading finds each file that is spelled.
 use Rattle.std.proofs.Common.{◌≡◌, ℕ, zero, suc, ◌+◌, ◌<◌, ◌≤◌, false, List, [], ◌∷◌, ◌++◌, length, Option, Some, None, Result, Ok, refl, ap, ◌∙◌, subst, arith, inl, inr, append_assoc, length-append}
-use Rattle.go_scan_core.specs.text_core.declared.span.Span.{Span}
-use Rattle.go_scan_core.specs.token_core.declared.kind.Keyword.TheVariants as keyword
-use Rattle.go_scan_core.specs.token_core.declared.kind.Operator.{Operator}
-use Rattle.go_scan_core.specs.token_core.declared.kind.Operator.TheVariants as operator
+use Rattle.go_tree_nodes.specs.text_core.declared.span.Span.{Span}
+use Rattle.go_tree_nodes.specs.token_core.declared.kind.Keyword.TheVariants as keyword
+use Rattle.go_tree_nodes.specs.token_core.declared.kind.Operator.{Operator}
+use Rattle.go_tree_nodes.specs.token_core.declared.kind.Operator.TheVariants as operator
 use Rattle.go_tree_nodes.specs.declared.names.Ident.{Ident}
 use Rattle.go_tree_nodes.specs.declared.names.TextLiteral.{TextLiteral}
 use Rattle.go_tree_nodes.specs.declared.types.TypeName.{TypeName}
@@ -18,15 +18,15 @@ use Rattle.go_tree_nodes.specs.Trees.{SignatureTree, Specs, FuncTree, DeclTree, 
 use Rattle.go_tree_nodes.specs.Spelling.{mark, word, spell_ident, spell_text, spell_some, spell_type_name, spell_value_spec, spell_specs, keyword_of, spell_value, spell_type_spec, spell_lines, spell_signature, spell_receiver_name, spell_receiver, spell_decl, spell_tops, spell_import_name, spell_import, spell_imports, spell_file}
 use Rattle.go_tree_nodes.specs.Rules.{Wf_specs, Wf_decl, Wf_tops, Wf_imports}
 use Rattle.go_tree_nodes.specs.Heights.{specs_height, value_height, types_height, signature_height, lines_height, decl_height, tops_height, file_height}
-use Rattle.go_parse_stmts.specs.parse_types.mirrors.Marks.{Stuck, ◌>>=◌, Reading, need, mark_at, keyword_at, name_at}
-use Rattle.go_parse_stmts.specs.parse_types.mirrors.TypeReading.{type_at, signature_at}
-use Rattle.go_parse_stmts.specs.parse_types.Marks.{AgreesAt, bind_agrees, agrees_along}
-use Rattle.go_parse_stmts.specs.parse_types.Types.{type_signature_complete}
-use Rattle.go_parse_stmts.specs.mirrors.StmtReading.{specs_at, value_at, types_at, Braced, braced, block_at}
-use Rattle.go_parse_stmts.proofs.Ends.{Ends, ends_semicolon}
-use Rattle.go_parse_stmts.proofs.Specs.{FoundSpec, specs_complete}
-use Rattle.go_parse_stmts.proofs.Values.{value_complete, types_complete, value_word_here}
-use Rattle.go_parse_stmts.proofs.StmtFound.{block_complete}
+use Rattle.go_parse_reader.specs.types.mirrors.Marks.{Stuck, ◌>>=◌, Reading, need, mark_at, keyword_at, name_at}
+use Rattle.go_parse_reader.specs.types.mirrors.TypeReading.{type_at, signature_at}
+use Rattle.go_parse_reader.proofs.TypesMarks.{AgreesAt, bind_agrees, agrees_along}
+use Rattle.go_parse_reader.proofs.TypesTypes.{type_signature_complete}
+use Rattle.go_parse_core.specs.stmts.mirrors.StmtReading.{specs_at, value_at, types_at, Braced, braced, block_at}
+use Rattle.go_parse_core.proofs.StmtsEnds.{Ends, ends_semicolon}
+use Rattle.go_parse_core.proofs.StmtsSpecs.{FoundSpec, specs_complete}
+use Rattle.go_parse_core.proofs.StmtsValues.{value_complete, types_complete, value_word_here}
+use Rattle.go_parse_core.proofs.StmtsStmtFound.{block_complete}
 use Rattle.go_parse_core.specs.Correct.{IsTreeOf}
 use Rattle.go_parse_core.specs.mirrors.FileReading.{import_spec, import_spec_at, imports_by, imports_go, receiver, receiver_at, receiver_by, func_tree, func_at, by_values, decl_at, top_at, tops_go, file_at}
 

@@ -1,8 +1,8 @@
 -- Reading finds no other files than those that are spelled.
 use Rattle.std.proofs.Common.{◌≡◌, ℕ, zero, suc, ◌+◌, ◌<◌, ◌≤◌, Bool, true, false, List, [], ◌∷◌, ◌++◌, length, Option, Some, None, Result, Ok, refl, sym, ap, ◌∙◌, subst, arith, append_assoc, length-append}
-use Rattle.go_scan_core.specs.text_core.declared.span.Span.{Span}
-use Rattle.go_scan_core.specs.token_core.declared.kind.Keyword.TheVariants as keyword
-use Rattle.go_scan_core.specs.token_core.declared.kind.Operator.TheVariants as operator
+use Rattle.go_tree_nodes.specs.text_core.declared.span.Span.{Span}
+use Rattle.go_tree_nodes.specs.token_core.declared.kind.Keyword.TheVariants as keyword
+use Rattle.go_tree_nodes.specs.token_core.declared.kind.Operator.TheVariants as operator
 use Rattle.go_tree_nodes.specs.declared.names.Ident.{Ident}
 use Rattle.go_tree_nodes.specs.declared.decls.ValueKind.{ValueKind}
 use Rattle.go_tree_nodes.specs.declared.files.Receiver.{Receiver}
@@ -11,16 +11,16 @@ use Rattle.go_tree_nodes.specs.Trees.{FuncTree, DeclTree, Value, Types, Func, To
 use Rattle.go_tree_nodes.specs.Spelling.{mark, word, spell_ident, spell_text, spell_some, spell_type_name, spell_specs, spell_lines, spell_signature, spell_receiver_name, spell_receiver, spell_func, spell_decl, spell_tops, spell_import_name, spell_import, spell_imports, spell_file}
 use Rattle.go_tree_nodes.specs.Rules.{Wf_decl, Wf_tops, Wf_imports}
 use Rattle.go_tree_nodes.specs.Heights.{receiver_height, decl_height, tops_height, file_height}
-use Rattle.go_parse_stmts.specs.parse_types.mirrors.Marks.{Stuck, ◌>>=◌, Reading, MarkAhead, need, mark_at, keyword_at, name_at, text_at, some_mark}
-use Rattle.go_parse_stmts.specs.parse_types.mirrors.TypeReading.{type_name_at, type_at, signature_at}
-use Rattle.go_parse_stmts.specs.parse_types.Marks.{mark_was, word_was, name_was, text_was, some_mark_was, bind_ok}
-use Rattle.go_parse_stmts.specs.parse_types.Lists.{ReadsItem, ItemsRead}
-use Rattle.go_parse_stmts.specs.parse_types.TypeFacts.{type_name_sound}
-use Rattle.go_parse_stmts.specs.parse_types.Types.{type_signature_sound}
-use Rattle.go_parse_stmts.specs.mirrors.StmtReading.{specs_at, value_at, value_word, types_at, braced, block_at}
-use Rattle.go_parse_stmts.proofs.Specs.{specs_sound}
-use Rattle.go_parse_stmts.proofs.Values.{value_sound, types_sound, value_word_was}
-use Rattle.go_parse_stmts.proofs.StmtSound.{block_reads, block_sound}
+use Rattle.go_parse_reader.specs.types.mirrors.Marks.{Stuck, ◌>>=◌, Reading, MarkAhead, need, mark_at, keyword_at, name_at, text_at, some_mark}
+use Rattle.go_parse_reader.specs.types.mirrors.TypeReading.{type_name_at, type_at, signature_at}
+use Rattle.go_parse_reader.proofs.TypesMarks.{mark_was, word_was, name_was, text_was, some_mark_was, bind_ok}
+use Rattle.go_parse_reader.proofs.TypesLists.{ReadsItem, ItemsRead}
+use Rattle.go_parse_reader.proofs.TypesTypeFacts.{type_name_sound}
+use Rattle.go_parse_reader.proofs.TypesTypes.{type_signature_sound}
+use Rattle.go_parse_core.specs.stmts.mirrors.StmtReading.{specs_at, value_at, value_word, types_at, braced, block_at}
+use Rattle.go_parse_core.proofs.StmtsSpecs.{specs_sound}
+use Rattle.go_parse_core.proofs.StmtsValues.{value_sound, types_sound, value_word_was}
+use Rattle.go_parse_core.proofs.StmtsStmtSound.{block_reads, block_sound}
 use Rattle.go_parse_core.specs.Correct.{IsTreeOf}
 use Rattle.go_parse_core.specs.mirrors.FileReading.{import_spec, named_import, dotted_import, import_spec_at, imports_by, imports_go, is_receiver_name, named_receiver, receiver_name, receiver, receiver_at, receiver_by, func_tree, func_at, by_func, by_types, by_values, decl_at, top_at, tops_go, file_at}
 

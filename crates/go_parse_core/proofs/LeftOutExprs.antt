@@ -1,7 +1,7 @@
 -- Expressions with marks, and expressions whose types leave out semicolons, say the same.
 use Rattle.std.proofs.Common.{◌≡◌, ℕ, ◌+◌, Bool, true, false, Option, Some, None, refl}
-use Rattle.go_scan_core.specs.token_core.declared.kind.Operator.{Operator}
-use Rattle.go_scan_core.specs.token_core.declared.kind.Operator.TheVariants as operator
+use Rattle.go_tree_nodes.specs.token_core.declared.kind.Operator.{Operator}
+use Rattle.go_tree_nodes.specs.token_core.declared.kind.Operator.TheVariants as operator
 use Rattle.go_tree_nodes.specs.Terminals.{Number, terminal}
 use Rattle.go_tree_nodes.specs.Trees.{Separated, One, Then, ExprTree, ItemTrees, Integer, Text, Named, Paren, Unary, Binary, Select, Call, Literal, StructLiteral, NoItems, Item}
 use Rattle.go_tree_nodes.specs.Spelling.{mark, spell_ident, spell_text, spell_some, spell_type_name, spell_key, spell, spell_items, spell_exprs, spell_some_exprs}

@@ -1,9 +1,9 @@
 -- Files with marks, and files that leave out semicolons, say the same.
 use Rattle.std.proofs.Common.{◌≡◌, ℕ, List, [], ◌∷◌, ◌++◌, refl, sym, ap, ◌∙◌, subst}
 use Rattle.std.proofs.lemmas.List.{append-nil}
-use Rattle.go_scan_core.specs.text_core.declared.span.Span.{Span}
-use Rattle.go_scan_core.specs.token_core.declared.kind.Keyword.TheVariants as keyword
-use Rattle.go_scan_core.specs.token_core.declared.kind.Operator.TheVariants as operator
+use Rattle.go_tree_nodes.specs.text_core.declared.span.Span.{Span}
+use Rattle.go_tree_nodes.specs.token_core.declared.kind.Keyword.TheVariants as keyword
+use Rattle.go_tree_nodes.specs.token_core.declared.kind.Operator.TheVariants as operator
 use Rattle.go_tree_nodes.specs.declared.names.TextLiteral.{TextLiteral}
 use Rattle.go_tree_nodes.specs.declared.files.ImportName.{ImportName}
 use Rattle.go_tree_nodes.specs.declared.files.ImportName.TheVariants as import_name

@@ -1,7 +1,7 @@
 -- Parts of what a tree writes, taken apart and put together again.
 use Rattle.std.proofs.Common.{◌≡◌, ℕ, ◌+◌, max, List, [], ◌∷◌, ◌++◌, Option, Some, None, refl, sym, ap, ◌∙◌, subst, inl, inr, append_assoc}
-use Rattle.go_scan_core.specs.text_core.declared.span.Span.{Span}
-use Rattle.go_scan_core.specs.token_core.declared.kind.Operator.TheVariants as operator
+use Rattle.go_tree_nodes.specs.text_core.declared.span.Span.{Span}
+use Rattle.go_tree_nodes.specs.token_core.declared.kind.Operator.TheVariants as operator
 use Rattle.go_tree_nodes.specs.Terminals.{Terminal}
 use Rattle.go_tree_nodes.specs.Spelling.{mark, spell_some}
 use Rattle.go_tree_nodes.specs.Rules.{IsKept}

@@ -1,8 +1,8 @@
 -- Types with marks, and types whose semicolons are left out, say the same.
 use Rattle.std.proofs.Common.{◌≡◌, Bool, List, ◌++◌, Option, Some, None, refl, subst}
-use Rattle.go_scan_core.specs.text_core.declared.span.Span.{Span}
-use Rattle.go_scan_core.specs.token_core.declared.kind.Keyword.TheVariants as keyword
-use Rattle.go_scan_core.specs.token_core.declared.kind.Operator.TheVariants as operator
+use Rattle.go_tree_nodes.specs.text_core.declared.span.Span.{Span}
+use Rattle.go_tree_nodes.specs.token_core.declared.kind.Keyword.TheVariants as keyword
+use Rattle.go_tree_nodes.specs.token_core.declared.kind.Operator.TheVariants as operator
 use Rattle.go_tree_nodes.specs.declared.names.Ident.{Ident}
 use Rattle.go_tree_nodes.specs.declared.types.TypeName.{TypeName}
 use Rattle.go_tree_nodes.specs.declared.types.TypeName.TheVariants as type_name

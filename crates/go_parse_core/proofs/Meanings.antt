@@ -1,15 +1,15 @@
 -- What each answer of reading means.
 use Rattle.std.proofs.Common.{◌≡◌, ℕ, ◌+◌, ◌≤◌, ◌∙◌, List, Result, Ok, Err, subst, sym, arith, inl, inr}
-use Rattle.go_scan_core.specs.text_core.declared.rule.Rule.{Rule}
-use Rattle.go_parse_stmts.specs.parse_types.Marks.{ok_same}
-use Rattle.go_scan_core.specs.token_core.declared.token.LexFault.{LexFault}
-use Rattle.go_scan_core.specs.token_core.declared.token.Token.{Token}
+use Rattle.go_tree_nodes.specs.text_core.declared.rule.Rule.{Rule}
+use Rattle.go_parse_reader.proofs.TypesMarks.{ok_same}
+use Rattle.go_tree_nodes.specs.token_core.declared.token.LexFault.{LexFault}
+use Rattle.go_tree_nodes.specs.token_core.declared.token.Token.{Token}
 use Rattle.go_scan_core.specs.Tokens.{IsAnswer}
 use Rattle.go_scan_core.proofs.Answered.{one_list, not_both}
 use Rattle.go_tree_nodes.specs.Terminals.{Terminal, terminals}
 use Rattle.go_tree_nodes.specs.Trees.{FileTree}
 use Rattle.go_tree_nodes.specs.Heights.{file_height}
-use Rattle.go_parse_stmts.specs.parse_types.mirrors.Marks.{Stuck, Grammar, TooHigh}
+use Rattle.go_parse_reader.specs.types.mirrors.Marks.{Stuck, Grammar, TooHigh}
 use Rattle.go_parse_core.specs.Correct.{IsTreeOf, HasTree, HasOneTree, HasNoTree, HasNoLowTree, max_height}
 use Rattle.go_parse_core.specs.Refusing.{HasOneRule, IsRuleOf}
 use Rattle.go_parse_core.specs.mirrors.FileReading.{file_at}

@@ -2,12 +2,12 @@
 use Rattle.std.proofs.Common.{◌≡◌, ℕ, Bool, true, false, List, [], ◌∷◌, Option, Some, None, refl, sym, subst, nat_le, if◌then◌else◌}
 use Rattle.std.specs.List.{All}
 use Rattle.std.proofs.lemmas.List.Elements.{All-nil, All-cons, All-head, All-tail}
-use Rattle.go_scan_core.specs.text_core.declared.span.Span.{Span}
-use Rattle.go_scan_core.specs.text_core.Slices.{slice_of}
-use Rattle.go_scan_core.specs.token_core.declared.kind.TokenKind.{TokenKind}
-use Rattle.go_scan_core.specs.token_core.declared.kind.TokenKind.TheVariants as token
-use Rattle.go_scan_core.specs.token_core.declared.token.Token.{Token}
-use Rattle.go_scan_core.specs.token_core.Numbers.{integer_value_of}
+use Rattle.go_tree_nodes.specs.text_core.declared.span.Span.{Span}
+use Rattle.go_tree_nodes.specs.text_core.Slices.{slice_of}
+use Rattle.go_tree_nodes.specs.token_core.declared.kind.TokenKind.{TokenKind}
+use Rattle.go_tree_nodes.specs.token_core.declared.kind.TokenKind.TheVariants as token
+use Rattle.go_tree_nodes.specs.token_core.declared.token.Token.{Token}
+use Rattle.go_tree_nodes.specs.token_core.Numbers.{integer_value_of}
 use Rattle.go_tree_nodes.specs.Terminals.{TerminalKind, Spelled, Number, Quoted, Stray, name_kind, number_kind, text_kind, kind_at, Terminal, terminals}
 use Rattle.go_tree_core.specs.declared.occurrence.Role.{Role}
 use Rattle.go_tree_core.specs.declared.occurrence.Role.TheVariants as role

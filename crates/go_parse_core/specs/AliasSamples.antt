@@ -2,9 +2,9 @@
 --
 -- The Go specification, "Alias declarations".
 use Rattle.std.specs.Prelude.{ℕ, List, [], ◌∷◌, Some, None, codes}
-use Rattle.go_scan_core.specs.text_core.declared.rule.Rule.TheVariants.{P1}
-use Rattle.go_scan_core.specs.token_core.declared.kind.Keyword.TheVariants as keyword
-use Rattle.go_scan_core.specs.token_core.declared.kind.Operator.TheVariants as operator
+use Rattle.go_tree_nodes.specs.text_core.declared.rule.Rule.TheVariants.{P1}
+use Rattle.go_tree_nodes.specs.token_core.declared.kind.Keyword.TheVariants as keyword
+use Rattle.go_tree_nodes.specs.token_core.declared.kind.Operator.TheVariants as operator
 use Rattle.go_tree_nodes.specs.declared.types.TypeName.TheVariants as type_names
 use Rattle.go_tree_nodes.specs.Samples.{at, called, type_at, alias_of}
 use Rattle.go_tree_nodes.specs.Spelling.{mark, word, spell_ident}

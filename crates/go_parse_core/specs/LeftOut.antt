@@ -1,10 +1,10 @@
 -- Trees that write all their semicolons, and texts that leave out some before a closing mark.
 use Rattle.std.specs.Prelude.{◌≡◌, ◌⊎◌, ℕ, Bool, true, false, List, [], ◌∷◌, ◌++◌, Option, Some, None, Ok}
-use Rattle.go_scan_core.specs.text_core.declared.span.Span.{Span}
-use Rattle.go_scan_core.specs.token_core.declared.kind.Keyword.TheVariants as keyword
-use Rattle.go_scan_core.specs.token_core.declared.kind.Operator.{Operator}
-use Rattle.go_scan_core.specs.token_core.declared.kind.Operator.TheVariants as operator
-use Rattle.go_scan_core.specs.token_core.declared.token.Token.{Token}
+use Rattle.go_tree_nodes.specs.text_core.declared.span.Span.{Span}
+use Rattle.go_tree_nodes.specs.token_core.declared.kind.Keyword.TheVariants as keyword
+use Rattle.go_tree_nodes.specs.token_core.declared.kind.Operator.{Operator}
+use Rattle.go_tree_nodes.specs.token_core.declared.kind.Operator.TheVariants as operator
+use Rattle.go_tree_nodes.specs.token_core.declared.token.Token.{Token}
 use Rattle.go_scan_core.specs.Tokens.{IsAnswer}
 use Rattle.go_tree_nodes.specs.Terminals.{TerminalKind, Terminal, Number, Mark, terminal, terminals}
 use Rattle.go_tree_nodes.specs.Trees.{Separated, One, Then, TypeTree, FieldTrees, MethodTrees, SignatureTree, ResultTree, ParamTrees, NamedType, Pointer, ParenType, Struct, Interface, NoFields, NamedFields, EmbeddedField, NoMethods, Method, Signed, NoResult, OneResult, Results, NoParams, Param, ExprTree, ItemTrees, Integer, Text, Named, Paren, Unary, Binary, Select, Call, Literal, StructLiteral, NoItems, Item, ValueSpecTree, Specs, Single, Group, ValueTree, TypeSpecTree, TypeDeclTree, SimpleTree, Alone, Step, Assign, Update, Define, IfTree, ForTree, Forever, While, Clauses, StmtTree, BranchTree, ElseTree, Lines, Empty, Declare, Simple, Return, Break, Continue, Block, If, For, Branch, NoElse, ElseBlock, ElseIf, NoLines, Line, FuncTree, DeclTree, Value, Types, Func, TopTree, ImportSpecTree, ImportTree, FileTree}

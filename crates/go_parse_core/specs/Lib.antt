@@ -5,6 +5,5 @@ pub mod Names
 pub mod Parsing
 pub mod Refusing
 pub mod mirrors
-pub mod scan_core
-pub mod token_core
+pub mod stmts
 pub mod tree_core

@@ -1,10 +1,10 @@
 -- Each name and literal of a text, and each occurrence of its tree, is spelled as the text has it.
 use Rattle.std.specs.Prelude.{◌≡◌, ℕ, List, All, Some, Ok}
 use Rattle.std.specs.Str.{IsUtf8}
-use Rattle.go_scan_core.specs.text_core.declared.span.Span.{Span}
-use Rattle.go_scan_core.specs.text_core.Slices.{slice_of}
-use Rattle.go_scan_core.specs.token_core.declared.token.Token.{Token}
-use Rattle.go_scan_core.specs.token_core.Numbers.{integer_value_of}
+use Rattle.go_tree_nodes.specs.text_core.declared.span.Span.{Span}
+use Rattle.go_tree_nodes.specs.text_core.Slices.{slice_of}
+use Rattle.go_tree_nodes.specs.token_core.declared.token.Token.{Token}
+use Rattle.go_tree_nodes.specs.token_core.Numbers.{integer_value_of}
 use Rattle.go_scan_core.specs.Tokens.{IsAnswer}
 use Rattle.go_tree_nodes.specs.Terminals.{TerminalKind, Spelled, Number, Quoted, Word, Mark, Stray, Terminal, terminals}
 use Rattle.go_tree_nodes.specs.Trees.{FileTree}

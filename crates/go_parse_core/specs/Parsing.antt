@@ -1,6 +1,6 @@
 -- What `parse` answers.
 use Rattle.std.specs.Prelude.{◌≡◌, ◌≤◌, ◌^◌, ◌<◌, ℕ, List, length, Result, Ok, Err}
-use Rattle.go_scan_core.specs.token_core.declared.token.Comment.{Comment}
+use Rattle.go_tree_nodes.specs.token_core.declared.token.Comment.{Comment}
 use Rattle.go_scan_core.specs.Cutting.{comments_in}
 use Rattle.go_scan_core.specs.Tokens.{IsAnswerOf}
 use Rattle.go_tree_nodes.specs.declared.files.File.{File}

@@ -1,13 +1,13 @@
 -- Which of P1 and P2 a text has that is refused.
 use Rattle.std.specs.Prelude.{◌≡◌, ℕ, List, Result, Ok, Err}
-use Rattle.go_scan_core.specs.text_core.declared.rule.Rule.{Rule}
-use Rattle.go_scan_core.specs.text_core.declared.rule.Rule.TheVariants.{P1, P2}
-use Rattle.go_scan_core.specs.token_core.declared.token.Token.{Token}
+use Rattle.go_tree_nodes.specs.text_core.declared.rule.Rule.{Rule}
+use Rattle.go_tree_nodes.specs.text_core.declared.rule.Rule.TheVariants.{P1, P2}
+use Rattle.go_tree_nodes.specs.token_core.declared.token.Token.{Token}
 use Rattle.go_scan_core.specs.Tokens.{IsAnswer}
 use Rattle.go_tree_nodes.specs.Terminals.{terminals}
 use Rattle.go_tree_nodes.specs.declared.files.File.{File}
 use Rattle.go_tree_nodes.specs.Trees.{FileTree}
-use Rattle.go_parse_stmts.specs.parse_types.mirrors.Marks.{Stuck, Grammar, TooHigh}
+use Rattle.go_parse_reader.specs.types.mirrors.Marks.{Stuck, Grammar, TooHigh}
 use Rattle.go_parse_core.specs.declared.error.ParseError.{ParseError}
 use Rattle.go_parse_core.specs.declared.error.ParseError.TheVariants as errors
 use Rattle.go_parse_core.specs.mirrors.FileReading.{file_at}

@@ -1,6 +1,6 @@
 //! Why a text has no tree.
 
-use go_scan_core::text_core::Rule;
+use go_tree_nodes::text_core::Rule;
 use std::alloc::AllocError;
 
 /// A fault of a text, and where it stands.

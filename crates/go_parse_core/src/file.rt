@@ -1,14 +1,14 @@
 //! Declarations of the package block, and files.
 ghost use Rattle.std.specs.Prelude.{◌≡◌, ◌<◌, ◌^◌, length, map};
 ghost use Rattle.go_tree_nodes.specs.Shapes.{decl_of, file_of, top_of};
-ghost use Rattle.go_parse_stmts.specs.parse_types.mirrors.Giving.{Gives};
+ghost use Rattle.go_parse_reader.specs.types.mirrors.Giving.{Gives};
 ghost use Rattle.go_parse_core.specs.mirrors.FileReading.{decl_at, file_at, top_at, tops_go};
 
 use crate::funcs::func;
 use crate::imports::imports;
-use go_parse_stmts::parse_types::{Ahead, Stop, add, fitted};
-use go_parse_stmts::{type_decl, value_decl, value_keyword};
-use go_scan_core::token_core::{Keyword, Operator};
+use crate::stmts::{type_decl, value_decl, value_keyword};
+use go_parse_reader::types::{Ahead, Stop, add, fitted};
+use go_tree_nodes::token_core::{Keyword, Operator};
 use go_tree_nodes::{Decl, File, TopDecl};
 use std::alloc::Global;
 

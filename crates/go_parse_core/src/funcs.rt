@@ -1,16 +1,16 @@
 //! Functions and methods.
 ghost use Rattle.std.specs.Prelude.{◌≡◌, ◌<◌, ◌^◌, IfOk};
-ghost use Rattle.go_scan_core.specs.token_core.declared.kind.Operator.TheVariants as operator;
+ghost use Rattle.go_tree_nodes.specs.token_core.declared.kind.Operator.TheVariants as operator;
 ghost use Rattle.go_tree_nodes.specs.Shapes.{func_of};
-ghost use Rattle.go_parse_stmts.specs.parse_types.mirrors.Giving.{Gives};
-ghost use Rattle.go_parse_stmts.specs.parse_types.mirrors.Marks.{mark_at, name_at};
+ghost use Rattle.go_parse_reader.specs.types.mirrors.Giving.{Gives};
+ghost use Rattle.go_parse_reader.specs.types.mirrors.Marks.{mark_at, name_at};
 ghost use Rattle.go_parse_core.specs.mirrors.FileReading as reading;
 ghost use Rattle.go_parse_core.specs.mirrors.FileReading.{func_at, is_receiver_name, receiver_at, receiver_by};
 
-use go_parse_stmts::block;
-use go_parse_stmts::parse_types::{Ahead, Stop, signature, type_name};
-use go_scan_core::text_core::Span;
-use go_scan_core::token_core::Operator;
+use crate::stmts::block;
+use go_parse_reader::types::{Ahead, Stop, signature, type_name};
+use go_tree_nodes::text_core::Span;
+use go_tree_nodes::token_core::Operator;
 use go_tree_nodes::{FuncDecl, Ident, Receiver};
 use std::alloc::{AllocError, Global};
 

@@ -1,15 +1,15 @@
 //! Import declarations.
 ghost use Rattle.std.specs.Prelude.{◌≡◌, suc, length, map, IfOk};
-ghost use Rattle.go_scan_core.specs.token_core.declared.kind.Operator.TheVariants as operator;
+ghost use Rattle.go_tree_nodes.specs.token_core.declared.kind.Operator.TheVariants as operator;
 ghost use Rattle.go_tree_nodes.specs.Shapes.{import_of, shape_import_line, shape_import_spec, shape_import_specs};
-ghost use Rattle.go_parse_stmts.specs.parse_types.mirrors.EntryShapes.{list_all};
-ghost use Rattle.go_parse_stmts.specs.parse_types.mirrors.Giving.{Gives};
-ghost use Rattle.go_parse_stmts.specs.parse_types.mirrors.Marks.{mark_at};
-ghost use Rattle.go_parse_stmts.specs.mirrors.StmtReading.{specs_at};
+ghost use Rattle.go_parse_reader.specs.types.mirrors.EntryShapes.{list_all};
+ghost use Rattle.go_parse_reader.specs.types.mirrors.Giving.{Gives};
+ghost use Rattle.go_parse_reader.specs.types.mirrors.Marks.{mark_at};
+ghost use Rattle.go_parse_core.specs.stmts.mirrors.StmtReading.{specs_at};
 ghost use Rattle.go_parse_core.specs.mirrors.FileReading.{dotted_import, import_spec_at, imports_go};
 
-use go_parse_stmts::parse_types::{Ahead, Stop, add, fitted};
-use go_scan_core::token_core::{Keyword, Operator};
+use go_parse_reader::types::{Ahead, Stop, add, fitted};
+use go_tree_nodes::token_core::{Keyword, Operator};
 use go_tree_nodes::{ImportDecl, ImportLine, ImportName, ImportSpec, ImportSpecs};
 use std::alloc::{AllocError, Global};
 

@@ -18,6 +18,7 @@ mod funcs;
 mod imports;
 mod laws;
 mod parsed;
+pub mod stmts;
 
 pub use error::{ParseError, SynFault};
 pub use laws::{
@@ -26,12 +27,12 @@ pub use laws::{
 };
 pub use parsed::{Parsed, parse, tree_of};
 
-/// What the crates above name of `go_parse_types`.
-pub mod parse_types {
-    pub use go_parse_stmts::parse_types::add;
+/// What the crates above name of `go_parse_reader`.
+pub mod parse_reader {
+    pub use go_parse_reader::types::add;
 }
 
-/// What the crates above name of `go_token_core`.
-pub mod token_core {
-    pub use go_scan_core::token_core::{KEYWORDS, characters_of};
+/// What the crates above name of `go_tree_core`.
+pub mod tree_core {
+    pub use go_tree_core::{Occ, OccId, at, occurrences, renamed};
 }

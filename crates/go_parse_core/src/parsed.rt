@@ -16,11 +16,11 @@ ghost use Rattle.go_parse_core.specs.mirrors.Stopping.{IsErrorOf};
 
 use crate::error::{ParseError, SynFault};
 use crate::file::file;
-use go_parse_stmts::parse_types::{Ahead, Stop};
-use go_scan_core::text_core::Rule;
-use go_scan_core::token_core::{Comment, ScanError};
+use go_parse_reader::types::{Ahead, Stop};
 use go_scan_core::{comments, scan};
 use go_tree_nodes::File;
+use go_tree_nodes::text_core::Rule;
+use go_tree_nodes::token_core::{Comment, ScanError};
 use std::alloc::{AllocError, Global};
 use std::marker::Model;
 use std::sync::Arc;

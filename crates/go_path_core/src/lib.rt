@@ -23,7 +23,5 @@ pub use modules::{Module, overlaps};
 
 /// What the crates above name of `go_text_core`.
 pub mod text_core {
-    pub use go_text_core::{
-        Name, Rule, Span, add, boxed, is_blank, is_digit, is_exported, is_letter, same_id,
-    };
+    pub use go_text_core::{Name, Rule, Span, add, boxed, is_blank, is_exported};
 }

@@ -1,10 +1,10 @@
 -- The names in place of an identifier: those that are found by what names mean, or those that are found by types.
 use Rattle.std.proofs.Common.{ℕ, List}
-use Rattle.go_hint_core.specs.spot_core.Opened.{FileUsed}
-use Rattle.go_hint_core.specs.snap_core.Snapshots.{FoundFile}
-use Rattle.go_hint_core.specs.place_core.Completed.{IsOfTypes, names_placed}
-use Rattle.go_hint_core.specs.place_core.Completions.{AreFoundAt, stand_of}
-use Rattle.go_hint_core.specs.Hints.{AreNamesByTypes}
+use Rattle.go_cursor_core.specs.Opened.{FileUsed}
+use Rattle.go_complete_core.specs.snap_core.Snapshots.{FoundFile}
+use Rattle.go_complete_core.specs.place.Completed.{IsOfTypes, names_placed}
+use Rattle.go_complete_core.specs.place.Completions.{AreFoundAt, stand_of}
+use Rattle.go_complete_core.specs.hint.Hints.{AreNamesByTypes}
 use Rattle.go_query_core.specs.Completing.{IsAskedAt, IsCompletionIn}
 
 module _ (f : FoundFile) (offset : ℕ) (u : FileUsed) (found : List (List ℕ)) (asked : IsAskedAt f offset u) where

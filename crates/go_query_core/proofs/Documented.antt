@@ -2,20 +2,20 @@
 use Rattle.std.proofs.Common.{◌≡◌, ◌≢◌, ◌⊎◌, inl, inr, ℕ, Bool, false, List, sym, ap, ◌∙◌, subst}
 use Rattle.std.specs.Prelude.{◌↔◌, IsTrue}
 use Rattle.std.proofs.lemmas.Bool.{true≢false}
-use Rattle.go_text_core.specs.declared.rule.Rule.{Rule}
-use Rattle.go_text_core.specs.declared.rule.Rule.TheVariants.{M0}
-use Rattle.go_decl_core.specs.declared.keys.DeclRef.{DeclRef}
-use Rattle.go_list_core.specs.graph_core.declared.imports.ImportOutcome.TheVariants.{Refused}
-use Rattle.go_list_core.specs.graph_core.Packages.{trees_of}
-use Rattle.go_list_core.specs.graph_core.Sources.{SourceModel}
-use Rattle.go_symbol_core.specs.block_core.Exports.{exported_names}
-use Rattle.go_symbol_core.specs.block_core.Holding.{package_block}
-use Rattle.go_symbol_core.specs.Symbols.{AreSymbols, SymbolOf}
-use Rattle.go_list_core.specs.Importing.{IsJudgedAt}
-use Rattle.go_hint_core.specs.part_core.Inputs.{InputModel, path_in}
-use Rattle.go_hint_core.specs.part_core.Parts.{ContentOf, IsPart, PartModel}
-use Rattle.go_hint_core.specs.summary_core.Summaries.{SummaryModel}
-use Rattle.go_hint_core.specs.snap_core.Snapshots.{SnapshotModel}
+use Rattle.go_tree_nodes.specs.text_core.declared.rule.Rule.{Rule}
+use Rattle.go_tree_nodes.specs.text_core.declared.rule.Rule.TheVariants.{M0}
+use Rattle.go_expr_core.specs.decl_core.declared.keys.DeclRef.{DeclRef}
+use Rattle.go_import_core.specs.graph_core.declared.imports.ImportOutcome.TheVariants.{Refused}
+use Rattle.go_import_core.specs.graph_core.Packages.{trees_of}
+use Rattle.go_import_core.specs.graph_core.Sources.{SourceModel}
+use Rattle.go_declared_core.specs.block_core.Exports.{exported_names}
+use Rattle.go_declared_core.specs.block_core.Holding.{package_block}
+use Rattle.go_doc_core.specs.symbol.Symbols.{AreSymbols, SymbolOf}
+use Rattle.go_import_core.specs.list.Importing.{IsJudgedAt}
+use Rattle.go_complete_core.specs.package_core.PackagePartInputs.{InputModel, path_in}
+use Rattle.go_complete_core.specs.package_core.PackagePartParts.{ContentOf, IsPart, PartModel}
+use Rattle.go_complete_core.specs.summary_core.Summaries.{SummaryModel}
+use Rattle.go_complete_core.specs.snap_core.Snapshots.{SnapshotModel}
 use Rattle.go_query_core.specs.Documenting.{DocOf, IsDoc, IsDocRefusal, IsExportedDoc, IsImportRefused, IsImportedDoc, IsImportedPart, IsOwnDoc}
 use Rattle.go_query_core.specs.Parts.{IsPartOf}
 

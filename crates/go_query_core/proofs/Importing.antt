@@ -5,29 +5,29 @@ use Rattle.std.specs.List.Sorted.{IsStrictlySortedBy}
 use Rattle.std.specs.List.{flat_map}
 use Rattle.std.proofs.lemmas.List.Elements.{Contains-append_cases, Contains-append_left, Contains-append_right}
 use Rattle.std.proofs.lemmas.Option.{get_or_from_slice_get, same_Some, slice_get_within}
-use Rattle.go_list_core.specs.graph_core.declared.imports.ImportAt.{ImportAt}
-use Rattle.go_list_core.specs.graph_core.declared.imports.ImportOutcome.{ImportOutcome}
-use Rattle.go_list_core.specs.graph_core.declared.imports.ImportOutcome.TheVariants as outcomes
-use Rattle.go_list_core.specs.graph_core.Imports.{content_texts, import_texts}
-use Rattle.go_list_core.specs.graph_core.Packages.{HasNoClause, trees_of}
-use Rattle.go_list_core.specs.graph_core.Sources.{SourceModel}
-use Rattle.go_list_core.specs.graph_core.Workspaces.{IsWorkspace, PackageModel, by_bytes}
-use Rattle.go_list_core.specs.graph_core.Assemblies.{tree_at, tree_of}
-use Rattle.go_list_core.specs.graph_core.OutcomeLaws.{has_one_outcome}
-use Rattle.go_list_core.specs.graph_core.Zips.{numbered_at}
-use Rattle.go_symbol_core.specs.block_core.declared.imports.Imported.{Imported}
-use Rattle.go_symbol_core.specs.block_core.declared.imports.Imported.TheVariants as given
-use Rattle.go_symbol_core.specs.block_core.Exports.{ExportsModel}
-use Rattle.go_symbol_core.specs.block_core.Naming.{AreInFile, IsGiven, file_specs, import_at}
-use Rattle.go_symbol_core.specs.block_core.NamingLemmas.{same_texts, text_of}
-use Rattle.go_hint_core.specs.part_core.Parts.{PartModel}
-use Rattle.go_hint_core.specs.whole_core.Inputs.{AreParts, ComesTo, Shown}
-use Rattle.go_hint_core.specs.shown_core.Shown.{MayBeShown, import_paths, path_in}
-use Rattle.go_hint_core.specs.whole_core.Known.{IsImportedPath}
-use Rattle.go_hint_core.specs.whole_core.mirrors.Steps.{AreRight, IsRight}
-use Rattle.go_hint_core.specs.whole_core.Parts.{path_told}
-use Rattle.go_hint_core.specs.whole_core.PartsWhole.{all_right}
-use Rattle.go_hint_core.specs.whole_core.Theirs.{imports_lead, passes}
+use Rattle.go_import_core.specs.graph_core.declared.imports.ImportAt.{ImportAt}
+use Rattle.go_import_core.specs.graph_core.declared.imports.ImportOutcome.{ImportOutcome}
+use Rattle.go_import_core.specs.graph_core.declared.imports.ImportOutcome.TheVariants as outcomes
+use Rattle.go_import_core.specs.graph_core.Imports.{content_texts, import_texts}
+use Rattle.go_import_core.specs.graph_core.Packages.{HasNoClause, trees_of}
+use Rattle.go_import_core.specs.graph_core.Sources.{SourceModel}
+use Rattle.go_import_core.specs.graph_core.Workspaces.{IsWorkspace, PackageModel, by_bytes}
+use Rattle.go_import_core.specs.graph_core.Assemblies.{tree_at, tree_of}
+use Rattle.go_import_core.specs.graph_core.OutcomeLaws.{has_one_outcome}
+use Rattle.go_import_core.specs.graph_core.Zips.{numbered_at}
+use Rattle.go_declared_core.specs.block_core.declared.imports.Imported.{Imported}
+use Rattle.go_declared_core.specs.block_core.declared.imports.Imported.TheVariants as given
+use Rattle.go_declared_core.specs.block_core.Exports.{ExportsModel}
+use Rattle.go_declared_core.specs.block_core.Naming.{AreInFile, IsGiven, file_specs, import_at}
+use Rattle.go_declared_core.specs.block_core.NamingLemmas.{same_texts, text_of}
+use Rattle.go_complete_core.specs.package_core.PackagePartParts.{PartModel}
+use Rattle.go_complete_core.specs.snap_core.WholeWorkspaceInputs.{AreParts, ComesTo, Shown}
+use Rattle.go_complete_core.specs.summary_core.ShownShown.{MayBeShown, import_paths, path_in}
+use Rattle.go_complete_core.specs.snap_core.WholeWorkspaceKnown.{IsImportedPath}
+use Rattle.go_complete_core.specs.snap_core.WholeWorkspaceMirrors.Steps.{AreRight, IsRight}
+use Rattle.go_complete_core.specs.snap_core.WholeWorkspaceParts.{path_told}
+use Rattle.go_complete_core.specs.snap_core.WholeWorkspacePartsWhole.{all_right}
+use Rattle.go_complete_core.specs.snap_core.WholeWorkspaceTheirs.{imports_lead, passes}
 use Rattle.go_query_core.specs.Entries.{AreImports, EntryOf, HasPath, Imports, IsEntry}
 
 -- the paths of imports, and the imports

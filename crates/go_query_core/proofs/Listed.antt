@@ -7,19 +7,19 @@ use Rattle.std.specs.Ordering.{nat_cmp}
 use Rattle.std.proofs.lemmas.List.Elements.{Contains-get_or}
 use Rattle.std.proofs.lemmas.Map.Keys.{sorted_from_strictly_increasing}
 use Rattle.std.proofs.lemmas.Option.{get_or_from_slice_get, same_Some, slice_get-get_or, slice_get_within}
-use Rattle.go_list_core.specs.graph_core.declared.imports.ImportOutcome.TheVariants.{Package}
-use Rattle.go_list_core.specs.graph_core.Imports.{HasNoPackage, IsNumbered}
-use Rattle.go_list_core.specs.graph_core.Packages.{IsAssembled}
-use Rattle.go_list_core.specs.graph_core.Sources.{SourceModel}
-use Rattle.go_list_core.specs.graph_core.Numbers.{has_one_number}
-use Rattle.go_list_core.specs.graph_core.Workspaces.{IsWorkspace, PackageModel}
-use Rattle.go_list_core.specs.graph_core.Zips.{numbered_at, zip_at, zip_back}
-use Rattle.go_list_core.specs.Importing.{IsImportable, IsJudgedAt}
-use Rattle.go_hint_core.specs.part_core.Inputs.{path_in}
-use Rattle.go_hint_core.specs.part_core.Parts.{PartModel}
-use Rattle.go_hint_core.specs.whole_core.Inputs as inputs
-use Rattle.go_hint_core.specs.whole_core.PartsWhole.{all_right}
-use Rattle.go_hint_core.specs.snap_core.Snapshots.{IsPartAt, IsSnapshot, SnapshotModel}
+use Rattle.go_import_core.specs.graph_core.declared.imports.ImportOutcome.TheVariants.{Package}
+use Rattle.go_import_core.specs.graph_core.Imports.{HasNoPackage, IsNumbered}
+use Rattle.go_import_core.specs.graph_core.Packages.{IsAssembled}
+use Rattle.go_import_core.specs.graph_core.Sources.{SourceModel}
+use Rattle.go_import_core.specs.graph_core.Numbers.{has_one_number}
+use Rattle.go_import_core.specs.graph_core.Workspaces.{IsWorkspace, PackageModel}
+use Rattle.go_import_core.specs.graph_core.Zips.{numbered_at, zip_at, zip_back}
+use Rattle.go_import_core.specs.list.Importing.{IsImportable, IsJudgedAt}
+use Rattle.go_complete_core.specs.package_core.PackagePartInputs.{path_in}
+use Rattle.go_complete_core.specs.package_core.PackagePartParts.{PartModel}
+use Rattle.go_complete_core.specs.snap_core.WholeWorkspaceInputs as inputs
+use Rattle.go_complete_core.specs.snap_core.WholeWorkspacePartsWhole.{all_right}
+use Rattle.go_complete_core.specs.snap_core.Snapshots.{IsPartAt, IsSnapshot, SnapshotModel}
 use Rattle.go_query_core.specs.Entries.{EntryOf, entry_with}
 use Rattle.go_query_core.specs.Listing.{AreEntries, IsEntryOf, IsListing}
 use Rattle.go_query_core.specs.Parts.{HasPart, IsPartOf}

@@ -9,16 +9,16 @@ use Rattle.std.proofs.lemmas.List.{length-map}
 use Rattle.std.proofs.lemmas.Map.Keys.{Less-from_sorted, sorted_from_all_adjacent}
 use Rattle.std.proofs.lemmas.Cmp.{nat_list_cmp_total}
 use Rattle.std.proofs.lemmas.Option.{get_or_from_slice_get, same_Some, slice_get-get_or, slice_get_within}
-use Rattle.go_list_core.specs.graph_core.Workspaces.{IsWorkspace, PackageModel, by_bytes}
-use Rattle.go_list_core.specs.graph_core.Zips.{zip_at, zip_back, zip_length}
-use Rattle.go_hint_core.specs.part_core.Parts.{PartModel}
-use Rattle.go_hint_core.specs.summary_core.Summaries.{SummaryModel, path_of}
-use Rattle.go_hint_core.specs.whole_core.Inputs.{AreParts, AreToldTo, Tells}
-use Rattle.go_hint_core.specs.whole_core.mirrors.Steps.{AreRight, IsRight}
-use Rattle.go_hint_core.specs.whole_core.Parts.{path_told}
-use Rattle.go_hint_core.specs.whole_core.PartsWhole.{all_right}
-use Rattle.go_hint_core.specs.shown_core.Shown.{MayBeShown, Picks}
-use Rattle.go_hint_core.specs.shown_core.Picking.{picks_both, picks_sorted}
+use Rattle.go_import_core.specs.graph_core.Workspaces.{IsWorkspace, PackageModel, by_bytes}
+use Rattle.go_import_core.specs.graph_core.Zips.{zip_at, zip_back, zip_length}
+use Rattle.go_complete_core.specs.package_core.PackagePartParts.{PartModel}
+use Rattle.go_complete_core.specs.summary_core.Summaries.{SummaryModel, path_of}
+use Rattle.go_complete_core.specs.snap_core.WholeWorkspaceInputs.{AreParts, AreToldTo, Tells}
+use Rattle.go_complete_core.specs.snap_core.WholeWorkspaceMirrors.Steps.{AreRight, IsRight}
+use Rattle.go_complete_core.specs.snap_core.WholeWorkspaceParts.{path_told}
+use Rattle.go_complete_core.specs.snap_core.WholeWorkspacePartsWhole.{all_right}
+use Rattle.go_complete_core.specs.summary_core.ShownShown.{MayBeShown, Picks}
+use Rattle.go_complete_core.specs.summary_core.ShownPicking.{picks_both, picks_sorted}
 use Rattle.go_query_core.specs.Entries.{AreDeps, EntryOf, HasPath, IsEntry, Reaches}
 
 path_at : (ps : List PackageModel) (i : ℕ) (d : PackageModel) → get_or (keys_of ps) i d.0 ≡ (get_or ps i d).0

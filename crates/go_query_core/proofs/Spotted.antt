@@ -5,33 +5,33 @@ use Rattle.std.proofs.lemmas.Bool.{eqb-true, eq-eqb}
 use Rattle.std.proofs.lemmas.List.{length-map}
 use Rattle.std.proofs.lemmas.Option.{get_or_from_slice_get, slice_get-get_or, slice_get-map, slice_get_within}
 use Rattle.std.proofs.lemmas.List.Elements.{Contains-append_right}
-use Rattle.go_text_core.specs.declared.rule.Rule.{Rule}
-use Rattle.go_text_core.specs.declared.rule.Rule.TheVariants.{M0}
-use Rattle.go_tree_core.specs.declared.occurrence.Occ.{Occ}
-use Rattle.go_tree_core.specs.declared.occurrence.Role.{Role}
-use Rattle.go_tree_core.specs.Occurrences.{Covers, CoversAt, Follow, NoneCovers, file_occs, is_identifier}
-use Rattle.go_tree_core.proofs.Order.{occs_follow}
-use Rattle.go_hint_core.specs.expr_core.Laws.{occurrence_place, use_place}
-use Rattle.go_symbol_core.specs.parse_core.Parsing.{IsParse}
-use Rattle.go_list_core.specs.graph_core.Packages.{tree_shown, trees_of}
-use Rattle.go_list_core.specs.graph_core.Sources.{IsRead, SourceModel}
-use Rattle.go_list_core.specs.graph_core.Workspaces.{IsWorkspace}
-use Rattle.go_list_core.specs.graph_core.Assemblies.{tree_at}
-use Rattle.go_list_core.specs.graph_core.Zips.{zip_back}
-use Rattle.go_hint_core.specs.ready_core.Packages.{trees_in}
-use Rattle.go_hint_core.specs.used_core.Used.{FileUse}
-use Rattle.go_hint_core.specs.part_core.Inputs.{IsInput}
-use Rattle.go_hint_core.specs.part_core.Parts.{PartModel}
-use Rattle.go_hint_core.specs.whole_core.Inputs.{Tells}
-use Rattle.go_hint_core.specs.whole_core.PartsWhole.{all_right}
-use Rattle.go_hint_core.specs.part_core.Laws.{PartHasOccurrences}
-use Rattle.go_hint_core.specs.snap_core.Snapshots.{FoundFile, HasNoFile, IsFileAt, IsSnapshot, SnapshotModel}
-use Rattle.go_hint_core.specs.snap_core.Faulty.{read_there}
-use Rattle.go_hint_core.specs.spot_core.Laws.{NamesAreOccurrences, occurrence_of}
-use Rattle.go_hint_core.specs.spot_core.Opened.{FileUsed, file_names, first_name}
-use Rattle.go_hint_core.specs.spot_core.Used.{begins_at}
-use Rattle.go_hint_core.specs.fitting_core.Fitting.{ShowsItsExports}
-use Rattle.go_hint_core.specs.complete_core.Exporting.{part_shows}
+use Rattle.go_tree_nodes.specs.text_core.declared.rule.Rule.{Rule}
+use Rattle.go_tree_nodes.specs.text_core.declared.rule.Rule.TheVariants.{M0}
+use Rattle.go_parse_core.specs.tree_core.declared.occurrence.Occ.{Occ}
+use Rattle.go_parse_core.specs.tree_core.declared.occurrence.Role.{Role}
+use Rattle.go_parse_core.specs.tree_core.Occurrences.{Covers, CoversAt, Follow, NoneCovers, file_occs, is_identifier}
+use Rattle.go_parse_core.specs.tree_core.Order.{occs_follow}
+use Rattle.go_expr_core.specs.Laws.{occurrence_place, use_place}
+use Rattle.go_parse_core.specs.Parsing.{IsParse}
+use Rattle.go_import_core.specs.graph_core.Packages.{tree_shown, trees_of}
+use Rattle.go_import_core.specs.graph_core.Sources.{IsRead, SourceModel}
+use Rattle.go_import_core.specs.graph_core.Workspaces.{IsWorkspace}
+use Rattle.go_import_core.specs.graph_core.Assemblies.{tree_at}
+use Rattle.go_import_core.specs.graph_core.Zips.{zip_back}
+use Rattle.go_complete_core.specs.package_core.PreparePackages.{trees_in}
+use Rattle.go_complete_core.specs.report_core.UsageUsed.{FileUse}
+use Rattle.go_complete_core.specs.package_core.PackagePartInputs.{IsInput}
+use Rattle.go_complete_core.specs.package_core.PackagePartParts.{PartModel}
+use Rattle.go_complete_core.specs.snap_core.WholeWorkspaceInputs.{Tells}
+use Rattle.go_complete_core.specs.snap_core.WholeWorkspacePartsWhole.{all_right}
+use Rattle.go_complete_core.specs.package_core.PackagePartLaws.{PartHasOccurrences}
+use Rattle.go_complete_core.specs.snap_core.Snapshots.{FoundFile, HasNoFile, IsFileAt, IsSnapshot, SnapshotModel}
+use Rattle.go_complete_core.specs.snap_core.Faulty.{read_there}
+use Rattle.go_cursor_core.specs.Laws.{NamesAreOccurrences, occurrence_of}
+use Rattle.go_cursor_core.specs.Opened.{FileUsed, file_names, first_name}
+use Rattle.go_cursor_core.specs.Used.{begins_at}
+use Rattle.go_complete_core.specs.candidate_core.FittingFitting.{ShowsItsExports}
+use Rattle.go_complete_core.proofs.Exporting.{part_shows}
 use Rattle.go_query_core.specs.Completing.{IsAskedAt, IsCompletion, IsCompletionIn, IsUnasked, IsUnaskedIn}
 use Rattle.go_query_core.specs.Defining.{IsLacking, IsUnused}
 use Rattle.go_query_core.specs.mirrors.Spots.{BeginsAt, HasSpots}

@@ -2,31 +2,31 @@
 use Rattle.std.proofs.Common.{◌≡◌, ℕ, ◌+◌, ◌<◌, ◌≤◌, ◌||◌, ◌⊎◌, inl, inr, Bool, true, false, List, length, drop, get_or, Some, Ok, slice_get, sym, ap, ◌∙◌, subst}
 use Rattle.std.specs.Prelude.{◌↔◌, Err, IsTrue, Result, option_map}
 use Rattle.std.proofs.lemmas.Bool.{true≢false}
-use Rattle.go_text_core.specs.declared.rule.Rule.{Rule}
-use Rattle.go_text_core.specs.declared.rule.Rule.TheVariants.{M0}
-use Rattle.go_token_core.specs.declared.token.LexFault.{LexFault}
-use Rattle.go_token_core.specs.declared.token.Token.{Token}
+use Rattle.go_tree_nodes.specs.text_core.declared.rule.Rule.{Rule}
+use Rattle.go_tree_nodes.specs.text_core.declared.rule.Rule.TheVariants.{M0}
+use Rattle.go_tree_nodes.specs.token_core.declared.token.LexFault.{LexFault}
+use Rattle.go_tree_nodes.specs.token_core.declared.token.Token.{Token}
 use Rattle.go_scan_core.specs.Cutting.{tokens_of}
 use Rattle.std.specs.List.{list_any}
 use Rattle.std.proofs.lemmas.List.{drop_all, drop_more, length-map}
 use Rattle.std.proofs.lemmas.Option.{get_or_from_slice_get, slice_get-get_or, slice_get-map, slice_get_within}
 use Rattle.go_tree_nodes.specs.Trees.{FileTree}
-use Rattle.go_tree_core.specs.Occurrences.{CoversAt, NoneCovers, file_occs}
-use Rattle.go_hint_core.specs.denote_core.declared.things.Outcome.TheVariants as outcomes
-use Rattle.go_hint_core.specs.handle_core.Declarations.{Declaration}
-use Rattle.go_hint_core.specs.expr_core.Laws.{occurrence_place, use_place}
-use Rattle.go_symbol_core.specs.parse_core.Parsing.{IsParse}
-use Rattle.go_list_core.specs.graph_core.Packages.{tree_shown, trees_of}
-use Rattle.go_list_core.specs.graph_core.Sources.{IsContent, IsRead, SourceModel}
-use Rattle.go_list_core.specs.graph_core.Workspaces.{IsWorkspace}
-use Rattle.go_list_core.specs.graph_core.Assemblies.{tree_at}
-use Rattle.go_hint_core.specs.ready_core.Packages.{trees_in}
-use Rattle.go_hint_core.specs.used_core.Used.{FileUse}
-use Rattle.go_hint_core.specs.part_core.Inputs.{IsInput}
-use Rattle.go_hint_core.specs.whole_core.PartsWhole.{all_right}
-use Rattle.go_hint_core.specs.part_core.Laws.{PartHasOccurrences}
-use Rattle.go_hint_core.specs.snap_core.Snapshots.{FoundFile, HasNoFile, IsFileAt, IsSnapshot, SnapshotModel}
-use Rattle.go_hint_core.specs.snap_core.Faulty.{read_there}
+use Rattle.go_parse_core.specs.tree_core.Occurrences.{CoversAt, NoneCovers, file_occs}
+use Rattle.go_expr_core.specs.denote_core.declared.things.Outcome.TheVariants as outcomes
+use Rattle.go_declared_core.specs.handle_core.Declarations.{Declaration}
+use Rattle.go_expr_core.specs.Laws.{occurrence_place, use_place}
+use Rattle.go_parse_core.specs.Parsing.{IsParse}
+use Rattle.go_import_core.specs.graph_core.Packages.{tree_shown, trees_of}
+use Rattle.go_import_core.specs.graph_core.Sources.{IsContent, IsRead, SourceModel}
+use Rattle.go_import_core.specs.graph_core.Workspaces.{IsWorkspace}
+use Rattle.go_import_core.specs.graph_core.Assemblies.{tree_at}
+use Rattle.go_complete_core.specs.package_core.PreparePackages.{trees_in}
+use Rattle.go_complete_core.specs.report_core.UsageUsed.{FileUse}
+use Rattle.go_complete_core.specs.package_core.PackagePartInputs.{IsInput}
+use Rattle.go_complete_core.specs.snap_core.WholeWorkspacePartsWhole.{all_right}
+use Rattle.go_complete_core.specs.package_core.PackagePartLaws.{PartHasOccurrences}
+use Rattle.go_complete_core.specs.snap_core.Snapshots.{FoundFile, HasNoFile, IsFileAt, IsSnapshot, SnapshotModel}
+use Rattle.go_complete_core.specs.snap_core.Faulty.{read_there}
 use Rattle.go_query_core.specs.Defining.{Declares, IsDefinition, IsDefinitionIn, IsIdentifierAt, IsLacking, IsRefusal, IsRefusalIn, IsUnused, IsUseIn, is_over}
 use Rattle.go_query_core.specs.mirrors.Uses.{HasOccurrences}
 

@@ -2,12 +2,12 @@
 --
 -- The Go specification, "Declarations and scope", "Qualified identifiers", "Selectors", "Composite literals".
 use Rattle.std.specs.Prelude.{◌≡◌, ◌⊎◌, ◌<◌, ◌≤◌, ℕ, List, Contains}
-use Rattle.go_text_core.specs.declared.rule.Rule.{Rule}
-use Rattle.go_text_core.specs.declared.rule.Rule.TheVariants.{Q1, Q2}
-use Rattle.go_tree_core.specs.Occurrences.{NoneCovers, file_occs}
-use Rattle.go_hint_core.specs.snap_core.Snapshots.{FoundFile, IsFileAt, SnapshotModel}
-use Rattle.go_hint_core.specs.spot_core.Opened.{FileUsed, file_names}
-use Rattle.go_hint_core.specs.place_core.Completions.{AreNamesAt}
+use Rattle.go_tree_nodes.specs.text_core.declared.rule.Rule.{Rule}
+use Rattle.go_tree_nodes.specs.text_core.declared.rule.Rule.TheVariants.{Q1, Q2}
+use Rattle.go_parse_core.specs.tree_core.Occurrences.{NoneCovers, file_occs}
+use Rattle.go_complete_core.specs.snap_core.Snapshots.{FoundFile, IsFileAt, SnapshotModel}
+use Rattle.go_cursor_core.specs.Opened.{FileUsed, file_names}
+use Rattle.go_complete_core.specs.place.Completions.{AreNamesAt}
 use Rattle.go_query_core.specs.Defining.{HasNoPart, IsUnused, LacksFile}
 
 -- the identifier that is used at an offset of a file, with the spot where it stands

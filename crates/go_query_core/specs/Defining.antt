@@ -3,18 +3,18 @@
 -- The Go specification, "Declarations and scope", "Qualified identifiers", "Selectors".
 use Rattle.std.specs.Prelude.{◌≡◌, ◌⊎◌, ℕ, Bool, true, false, ◌&&◌, nat_le, nat_lt, List, Ok, Some, IsTrue, slice_get}
 use Rattle.std.specs.List.{list_any}
-use Rattle.go_text_core.specs.declared.rule.Rule.{Rule}
-use Rattle.go_text_core.specs.declared.rule.Rule.TheVariants.{Q1, Q2, Q3}
-use Rattle.go_token_core.specs.declared.kind.TokenKind.{TokenKind}
-use Rattle.go_token_core.specs.declared.kind.TokenKind.TheVariants as kinds
-use Rattle.go_token_core.specs.declared.token.Token.{Token}
+use Rattle.go_tree_nodes.specs.text_core.declared.rule.Rule.{Rule}
+use Rattle.go_tree_nodes.specs.text_core.declared.rule.Rule.TheVariants.{Q1, Q2, Q3}
+use Rattle.go_tree_nodes.specs.token_core.declared.kind.TokenKind.{TokenKind}
+use Rattle.go_tree_nodes.specs.token_core.declared.kind.TokenKind.TheVariants as kinds
+use Rattle.go_tree_nodes.specs.token_core.declared.token.Token.{Token}
 use Rattle.go_scan_core.specs.Cutting.{tokens_of}
-use Rattle.go_tree_core.specs.Occurrences.{CoversAt, NoneCovers, file_occs}
-use Rattle.go_hint_core.specs.denote_core.declared.things.Outcome.TheVariants as outcomes
-use Rattle.go_hint_core.specs.used_core.Used.{FileUse, TheOutcome}
-use Rattle.go_hint_core.specs.handle_core.Declarations.{Declaration}
-use Rattle.go_hint_core.specs.part_core.Parts.{PartModel}
-use Rattle.go_hint_core.specs.snap_core.Snapshots.{FoundFile, HasNoFile, IsFileAt, IsPartAt, SnapshotModel}
+use Rattle.go_parse_core.specs.tree_core.Occurrences.{CoversAt, NoneCovers, file_occs}
+use Rattle.go_expr_core.specs.denote_core.declared.things.Outcome.TheVariants as outcomes
+use Rattle.go_complete_core.specs.report_core.UsageUsed.{FileUse, TheOutcome}
+use Rattle.go_declared_core.specs.handle_core.Declarations.{Declaration}
+use Rattle.go_complete_core.specs.package_core.PackagePartParts.{PartModel}
+use Rattle.go_complete_core.specs.snap_core.Snapshots.{FoundFile, HasNoFile, IsFileAt, IsPartAt, SnapshotModel}
 
 abbrev pub is_identifier : TokenKind → Bool
 is_identifier kinds.Identifier = true

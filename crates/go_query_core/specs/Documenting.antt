@@ -2,16 +2,16 @@
 --
 -- The Go specification, "Exported identifiers", "Import declarations".
 use Rattle.std.specs.Prelude.{◌≡◌, ◌≢◌, ◌⊎◌, ℕ, List, Some, slice_get, map}
-use Rattle.go_text_core.specs.declared.rule.Rule.{Rule}
-use Rattle.go_text_core.specs.declared.rule.Rule.TheVariants.{Q1}
-use Rattle.go_list_core.specs.graph_core.declared.imports.ImportOutcome.TheVariants.{Package, Refused}
-use Rattle.go_list_core.specs.graph_core.Packages.{IsPackageName, trees_of}
-use Rattle.go_symbol_core.specs.block_core.Exports.{exported_names}
-use Rattle.go_list_core.specs.Importing.{IsJudgedAt}
-use Rattle.go_symbol_core.specs.Symbols.{AreSymbols, SymbolOf, symbol_shown}
-use Rattle.go_hint_core.specs.part_core.Inputs.{path_in}
-use Rattle.go_hint_core.specs.part_core.Parts.{PartModel}
-use Rattle.go_hint_core.specs.snap_core.Snapshots.{SnapshotModel}
+use Rattle.go_tree_nodes.specs.text_core.declared.rule.Rule.{Rule}
+use Rattle.go_tree_nodes.specs.text_core.declared.rule.Rule.TheVariants.{Q1}
+use Rattle.go_import_core.specs.graph_core.declared.imports.ImportOutcome.TheVariants.{Package, Refused}
+use Rattle.go_import_core.specs.graph_core.Packages.{IsPackageName, trees_of}
+use Rattle.go_declared_core.specs.block_core.Exports.{exported_names}
+use Rattle.go_import_core.specs.list.Importing.{IsJudgedAt}
+use Rattle.go_doc_core.specs.symbol.Symbols.{AreSymbols, SymbolOf, symbol_shown}
+use Rattle.go_complete_core.specs.package_core.PackagePartInputs.{path_in}
+use Rattle.go_complete_core.specs.package_core.PackagePartParts.{PartModel}
+use Rattle.go_complete_core.specs.snap_core.Snapshots.{SnapshotModel}
 use Rattle.go_query_core.specs.declared.documenting.PackageDoc.{PackageDoc}
 use Rattle.go_query_core.specs.Defining.{HasNoPart}
 use Rattle.go_query_core.specs.Parts.{IsPartOf}

@@ -3,15 +3,15 @@
 -- The Go specification, "Import declarations"; `go help list`, `go help internal`.
 use Rattle.std.specs.Prelude.{◌≡◌, ◌↔◌, ℕ, List, Some, Contains, slice_get}
 use Rattle.std.specs.List.Sorted.{IsStrictlySortedBy}
-use Rattle.go_path_core.specs.Path.{MayImport, elements}
-use Rattle.go_list_core.specs.graph_core.declared.imports.ImportAt.{ImportAt}
-use Rattle.go_list_core.specs.graph_core.declared.imports.ImportOutcome.TheVariants.{Package}
-use Rattle.go_list_core.specs.graph_core.Imports.{IsNumbered, IsOutcome}
-use Rattle.go_list_core.specs.graph_core.Sources.{SourceModel}
-use Rattle.go_list_core.specs.graph_core.Workspaces.{IsWorkspace, PackageModel, by_bytes}
-use Rattle.go_hint_core.specs.part_core.Parts.{PartModel}
-use Rattle.go_hint_core.specs.whole_core.Inputs.{ReachesPackage}
-use Rattle.go_hint_core.specs.snap_core.Snapshots.{IsSnapshot, SnapshotModel}
+use Rattle.go_import_core.specs.path_core.Path.{MayImport, elements}
+use Rattle.go_import_core.specs.graph_core.declared.imports.ImportAt.{ImportAt}
+use Rattle.go_import_core.specs.graph_core.declared.imports.ImportOutcome.TheVariants.{Package}
+use Rattle.go_import_core.specs.graph_core.Imports.{IsNumbered, IsOutcome}
+use Rattle.go_import_core.specs.graph_core.Sources.{SourceModel}
+use Rattle.go_import_core.specs.graph_core.Workspaces.{IsWorkspace, PackageModel, by_bytes}
+use Rattle.go_complete_core.specs.package_core.PackagePartParts.{PartModel}
+use Rattle.go_complete_core.specs.snap_core.WholeWorkspaceInputs.{ReachesPackage}
+use Rattle.go_complete_core.specs.snap_core.Snapshots.{IsSnapshot, SnapshotModel}
 
 -- a package of a snapshot by its number and its part, as the package of a path sees it
 pub record EntryOf : Type 0 where

@@ -3,9 +3,9 @@ use Rattle.std.specs.Prelude.{◌≡◌, ◌↔◌, ℕ, List, All, Contains, ma
 use Rattle.std.specs.List.{AllZip}
 use Rattle.std.specs.List.Sorted.{IsStrictlyIncreasing, IsStrictlySortedBy}
 use Rattle.std.specs.Ordering.{nat_cmp}
-use Rattle.go_list_core.specs.Importing.{IsImportable}
-use Rattle.go_hint_core.specs.part_core.Parts.{PartModel}
-use Rattle.go_hint_core.specs.snap_core.Snapshots.{SnapshotModel}
+use Rattle.go_import_core.specs.list.Importing.{IsImportable}
+use Rattle.go_complete_core.specs.package_core.PackagePartParts.{PartModel}
+use Rattle.go_complete_core.specs.snap_core.Snapshots.{SnapshotModel}
 use Rattle.go_query_core.specs.Entries.{EntryOf, entry_with}
 use Rattle.go_query_core.specs.Parts.{IsPartOf}
 

@@ -1,9 +1,9 @@
 -- Parts of snapshots by paths.
 use Rattle.std.specs.Prelude.{◌≡◌, ℕ, List, Some, slice_get}
-use Rattle.go_list_core.specs.graph_core.Imports.{IsNumbered}
-use Rattle.go_list_core.specs.graph_core.Sources.{SourceModel}
-use Rattle.go_hint_core.specs.part_core.Parts.{PartModel}
-use Rattle.go_hint_core.specs.snap_core.Snapshots.{SnapshotModel}
+use Rattle.go_import_core.specs.graph_core.Imports.{IsNumbered}
+use Rattle.go_import_core.specs.graph_core.Sources.{SourceModel}
+use Rattle.go_complete_core.specs.package_core.PackagePartParts.{PartModel}
+use Rattle.go_complete_core.specs.snap_core.Snapshots.{SnapshotModel}
 
 -- the package of a path has this number and this part
 pub record IsPartOf (s : SnapshotModel) (path : List ℕ) (number : ℕ) (p : PartModel) : Type 0 where

@@ -1,3 +1,20 @@
 -- What the crates above name of go_snap_core.
-pub use Rattle.go_hint_core.specs.snap_core.Snapshots as Snapshots
-pub use Rattle.go_hint_core.specs.snap_core.declared as declared
+pub use Rattle.go_complete_core.specs.snap_core.Faulty as Faulty
+pub use Rattle.go_complete_core.specs.snap_core.MakeSearching as MakeSearching
+pub use Rattle.go_complete_core.specs.snap_core.NearClosing as NearClosing
+pub use Rattle.go_complete_core.specs.snap_core.NearExpressions as NearExpressions
+pub use Rattle.go_complete_core.specs.snap_core.NearLooks as NearLooks
+pub use Rattle.go_complete_core.specs.snap_core.NearNear as NearNear
+pub use Rattle.go_complete_core.specs.snap_core.NearPiecesProofs as NearPiecesProofs
+pub use Rattle.go_complete_core.specs.snap_core.Snapshots as Snapshots
+pub use Rattle.go_complete_core.specs.snap_core.WholeWorkspaceBeside as WholeWorkspaceBeside
+pub use Rattle.go_complete_core.specs.snap_core.WholeWorkspaceChecks as WholeWorkspaceChecks
+pub use Rattle.go_complete_core.specs.snap_core.WholeWorkspaceInputs as WholeWorkspaceInputs
+pub use Rattle.go_complete_core.specs.snap_core.WholeWorkspaceLists as WholeWorkspaceLists
+pub use Rattle.go_complete_core.specs.snap_core.WholeWorkspaceMirrors as WholeWorkspaceMirrors
+pub use Rattle.go_complete_core.specs.snap_core.WholeWorkspaceOrder as WholeWorkspaceOrder
+pub use Rattle.go_complete_core.specs.snap_core.WholeWorkspaceParts as WholeWorkspaceParts
+pub use Rattle.go_complete_core.specs.snap_core.WholeWorkspacePartsWhole as WholeWorkspacePartsWhole
+pub use Rattle.go_complete_core.specs.snap_core.WholeWorkspaceTheirs as WholeWorkspaceTheirs
+pub use Rattle.go_complete_core.specs.snap_core.WholeWorkspaceValues as WholeWorkspaceValues
+pub use Rattle.go_complete_core.specs.snap_core.declared as declared

@@ -1,23 +1,23 @@
 //! The names that could stand in place of an identifier that is used.
 ghost use Rattle.std.specs.Prelude.{◌≡◌, ◌⊎◌, All, IfErr, IfOk, MatchOption};
 ghost use Rattle.go_tree_nodes.specs.Shapes.{file_of};
-ghost use Rattle.go_tree_core.specs.Occurrences.{NoneCovers, file_occs};
-ghost use Rattle.go_hint_core.specs.spot_core.Spots.{spot_seen};
-ghost use Rattle.go_hint_core.specs.fitting_core.Fitting.{ShowsItsExports};
-ghost use Rattle.go_hint_core.specs.place_core.Completions.{texts_of};
-ghost use Rattle.go_hint_core.specs.snap_core.Snapshots.{file_in_shown};
+ghost use Rattle.go_parse_core.specs.tree_core.Occurrences.{NoneCovers, file_occs};
+ghost use Rattle.go_cursor_core.specs.Spots.{spot_seen};
+ghost use Rattle.go_complete_core.specs.candidate_core.FittingFitting.{ShowsItsExports};
+ghost use Rattle.go_complete_core.specs.place.Completions.{texts_of};
+ghost use Rattle.go_complete_core.specs.snap_core.Snapshots.{file_in_shown};
 ghost use Rattle.go_query_core.specs.Completing.{IsAskedAt, IsCompletion, IsCompletionIn, IsUnasked, IsUnaskedIn};
 ghost use Rattle.go_query_core.specs.mirrors.Spots.{BeginsAt, HasSpots};
 
 use crate::defining::{lacking, unused};
-use go_hint_core::complete_core::names_there;
-use go_hint_core::names_by_types;
-use go_hint_core::part_core::part_has_occurrences;
-use go_hint_core::snap_core::{FileIn, Snapshot};
-use go_hint_core::spot_core::{FoundSpot, names_are_occurrences, spot_in_file};
-use go_path_core::ImportPath;
-use go_text_core::Rule;
-use go_tree_core::at;
+use go_complete_core::hint::names_by_types;
+use go_complete_core::names_there;
+use go_complete_core::package_core::part_has_occurrences;
+use go_complete_core::snap_core::{FileIn, Snapshot};
+use go_cursor_core::{FoundSpot, names_are_occurrences, spot_in_file};
+use go_import_core::path_core::ImportPath;
+use go_parse_core::tree_core::at;
+use go_tree_nodes::text_core::Rule;
 use std::alloc::Global;
 
 // Where the identifier begins that is used at an offset of a file.

@@ -1,21 +1,21 @@
 //! Where an identifier that is used is declared.
 ghost use Rattle.std.specs.Prelude.{◌≡◌, ◌↔◌, ◌⊎◌, IfErr, IfOk, IsTrue, MatchOption};
 ghost use Rattle.std.specs.List.{list_any};
-ghost use Rattle.go_tree_core.specs.Occurrences.{NoneCovers, file_occs};
-ghost use Rattle.go_hint_core.specs.denote_core.declared.things.Outcome.TheVariants as outcomes;
-ghost use Rattle.go_hint_core.specs.snap_core.Snapshots.{file_in_shown};
+ghost use Rattle.go_parse_core.specs.tree_core.Occurrences.{NoneCovers, file_occs};
+ghost use Rattle.go_expr_core.specs.denote_core.declared.things.Outcome.TheVariants as outcomes;
+ghost use Rattle.go_complete_core.specs.snap_core.Snapshots.{file_in_shown};
 ghost use Rattle.go_query_core.specs.Defining.{Declares, IsDefinition, IsDefinitionIn, IsIdentifierAt, IsLacking, IsRefusal, IsRefusalIn, IsUnused, IsUseIn, is_identifier, is_over};
 ghost use Rattle.go_query_core.specs.mirrors.Uses.{HasOccurrences};
 
-use go_hint_core::answer_core::{Answer, Site};
-use go_hint_core::denote_core::Outcome;
-use go_hint_core::part_core::part_has_occurrences;
-use go_hint_core::snap_core::{FileIn, Snapshot};
-use go_path_core::ImportPath;
+use go_complete_core::package_core::part_has_occurrences;
+use go_complete_core::report_core::{Answer, Site};
+use go_complete_core::snap_core::{FileIn, Snapshot};
+use go_expr_core::denote_core::Outcome;
+use go_import_core::path_core::ImportPath;
+use go_parse_core::tree_core::at;
 use go_scan_core::scan;
-use go_text_core::Rule;
-use go_token_core::{ScanError, Token, TokenKind};
-use go_tree_core::at;
+use go_tree_nodes::text_core::Rule;
+use go_tree_nodes::token_core::{ScanError, Token, TokenKind};
 use std::alloc::{AllocError, Global};
 
 // Whether a token is an identifier.

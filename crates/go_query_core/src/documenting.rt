@@ -1,19 +1,19 @@
 //! What a package declares, with its doc comments.
 ghost use Rattle.std.specs.Prelude.{◌≡◌, ◌↔◌, ◌⊎◌, ◌<◌, IfErr, IfOk, IsTrue, length};
-ghost use Rattle.go_list_core.specs.graph_core.declared.imports.ImportOutcome.TheVariants.{Refused};
-ghost use Rattle.go_list_core.specs.Importing.{IsJudgedAt};
-ghost use Rattle.go_hint_core.specs.part_core.Inputs.{path_in};
+ghost use Rattle.go_import_core.specs.graph_core.declared.imports.ImportOutcome.TheVariants.{Refused};
+ghost use Rattle.go_import_core.specs.list.Importing.{IsJudgedAt};
+ghost use Rattle.go_complete_core.specs.package_core.PackagePartInputs.{path_in};
 ghost use Rattle.go_query_core.specs.Documenting.{IsDoc, IsDocRefusal, IsExportedDoc, IsImportRefused, IsImportedDoc, IsImportedPart, IsOwnDoc, doc_shown};
 ghost use Rattle.go_query_core.specs.Parts.{IsPartOf};
 
 use crate::parts::{own_part, part_there};
-use go_hint_core::part_core::Part;
-use go_hint_core::snap_core::Snapshot;
-use go_list_core::graph_core::ImportOutcome;
-use go_list_core::judge_import;
-use go_path_core::ImportPath;
-use go_symbol_core::{Symbol, exported_symbols, own_symbols};
-use go_text_core::Rule;
+use go_complete_core::package_core::Part;
+use go_complete_core::snap_core::Snapshot;
+use go_doc_core::symbol::{Symbol, exported_symbols, own_symbols};
+use go_import_core::graph_core::ImportOutcome;
+use go_import_core::list::judge_import;
+use go_import_core::path_core::ImportPath;
+use go_tree_nodes::text_core::Rule;
 use std::alloc::{AllocError, Global};
 
 /// What a package declares outside functions.

@@ -1,16 +1,16 @@
 //! What a listing shows of a package.
 ghost use Rattle.std.specs.Prelude.{◌≡◌, IfOk, Some, slice_get};
-ghost use Rattle.go_list_core.specs.graph_core.Packages.{IsPackageName, trees_of};
-ghost use Rattle.go_list_core.specs.graph_core.Workspaces.{IsWorkspace};
-ghost use Rattle.go_hint_core.specs.part_core.Inputs.{path_in};
-ghost use Rattle.go_hint_core.specs.shown_core.Shown.{texts};
+ghost use Rattle.go_import_core.specs.graph_core.Packages.{IsPackageName, trees_of};
+ghost use Rattle.go_import_core.specs.graph_core.Workspaces.{IsWorkspace};
+ghost use Rattle.go_complete_core.specs.package_core.PackagePartInputs.{path_in};
+ghost use Rattle.go_complete_core.specs.summary_core.ShownShown.{texts};
 ghost use Rattle.go_query_core.specs.Entries.{AreDeps, AreImports, IsEntry, entry_with};
 
-use go_hint_core::part_core::Part;
-use go_hint_core::shown_core::{deps_shown, imports_shown};
-use go_hint_core::snap_core::Snapshot;
-use go_list_core::graph_core::SourceFile;
-use go_path_core::ImportPath;
+use go_complete_core::package_core::Part;
+use go_complete_core::snap_core::Snapshot;
+use go_complete_core::summary_core::{deps_shown, imports_shown};
+use go_import_core::graph_core::SourceFile;
+use go_import_core::path_core::ImportPath;
 use std::alloc::{AllocError, Global};
 use std::marker::Model;
 
@@ -37,11 +37,11 @@ impl Drop for PackageEntry<'_> {
 
 impl<'s> Model for PackageEntry<'s> {
     ghost use Rattle.std.specs.Coded.{codes};
-    ghost use Rattle.go_list_core.specs.graph_core.Workspaces.{coded_package};
-    ghost use Rattle.go_symbol_core.specs.block_core.Blocks.{coded_blocks};
-    ghost use Rattle.go_hint_core.specs.face_core.codes.FaceCodes.{coded_face, coded_operand};
-    ghost use Rattle.go_hint_core.specs.summary_core.codes.SummaryCodes.{coded_summary};
-    ghost use Rattle.go_hint_core.specs.part_core.Inputs.{coded_input};
+    ghost use Rattle.go_import_core.specs.graph_core.Workspaces.{coded_package};
+    ghost use Rattle.go_declared_core.specs.block_core.Blocks.{coded_blocks};
+    ghost use Rattle.go_declared_core.specs.codes.FaceCodes.{coded_face, coded_operand};
+    ghost use Rattle.go_complete_core.specs.summary_core.codes.SummaryCodes.{coded_summary};
+    ghost use Rattle.go_complete_core.specs.package_core.PackagePartInputs.{coded_input};
     ghost use Rattle.go_query_core.specs.Entries.{EntryOf, IsEntry, entry_with};
 
     ghost Value = { EntryOf };

@@ -1,18 +1,18 @@
 //! The packages that a package could import.
 ghost use Rattle.std.specs.Prelude.{◌≡◌, ◌⊎◌, ◌<◌, All, IfErr, IfOk, length};
 ghost use Rattle.std.specs.List.{AllZip};
-ghost use Rattle.go_hint_core.specs.part_core.Inputs.{path_in};
+ghost use Rattle.go_complete_core.specs.package_core.PackagePartInputs.{path_in};
 ghost use Rattle.go_query_core.specs.Defining.{HasNoPart};
 ghost use Rattle.go_query_core.specs.Listing.{AreEntries, IsEntryOf, IsListing};
 ghost use Rattle.go_query_core.specs.Parts.{HasPart, IsPartOf};
 
 use crate::entry::PackageEntry;
 use crate::parts::{own_part, part_there};
-use go_hint_core::part_core::Part;
-use go_hint_core::snap_core::Snapshot;
-use go_list_core::importable;
-use go_path_core::ImportPath;
-use go_text_core::{Rule, add};
+use go_complete_core::package_core::Part;
+use go_complete_core::snap_core::Snapshot;
+use go_import_core::list::importable;
+use go_import_core::path_core::ImportPath;
+use go_tree_nodes::text_core::{Rule, add};
 use std::alloc::{AllocError, Global};
 
 /// A package, and those that it could import.

@@ -1,13 +1,13 @@
 //! Parts of snapshots by numbers.
 ghost use Rattle.std.specs.Prelude.{◌≡◌, MatchOption, Some, slice_get};
-ghost use Rattle.go_hint_core.specs.part_core.Parts.{PartModel};
-ghost use Rattle.go_hint_core.specs.snap_core.Snapshots.{IsPartAt};
+ghost use Rattle.go_complete_core.specs.package_core.PackagePartParts.{PartModel};
+ghost use Rattle.go_complete_core.specs.snap_core.Snapshots.{IsPartAt};
 ghost use Rattle.go_query_core.specs.Parts.{HasPart, IsPartOf};
 
-use go_hint_core::part_core::Part;
-use go_hint_core::snap_core::Snapshot;
-use go_list_core::number_of;
-use go_path_core::ImportPath;
+use go_complete_core::package_core::Part;
+use go_complete_core::snap_core::Snapshot;
+use go_import_core::list::number_of;
+use go_import_core::path_core::ImportPath;
 
 // The part of the package of a number, if it has one.
 fn part_at(snapshot: &Snapshot, number: usize) -> Option<&Part>

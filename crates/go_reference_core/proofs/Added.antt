@@ -3,8 +3,8 @@ use Rattle.std.proofs.Common.{◌≡◌, ◌↔◌, ◌++◌, ◌+◌, ◌<◌, 
 use Rattle.std.specs.Prelude.{AllPairs}
 use Rattle.std.proofs.lemmas.Bool.{cases_lt}
 use Rattle.std.proofs.lemmas.List.Kept.{AllPairs-cons}
-use Rattle.go_snap_core.specs.entry_core.Among.{Among, among_cases, among_from, among_left, among_right, among_to}
-use Rattle.go_snap_core.specs.whole_core.Lists.{all_from_among, pairs_head, pairs_tail}
+use Rattle.go_typexpr_core.proofs.EntryAmong.{Among, among_cases, among_from, among_left, among_right, among_to}
+use Rattle.go_query_core.specs.snap_core.WholeWorkspaceLists.{all_from_among, pairs_head, pairs_tail}
 use Rattle.go_reference_core.specs.declared.reference.Reference.{Reference}
 use Rattle.go_reference_core.specs.References.{IsBefore}
 use Rattle.go_reference_core.specs.mirrors.Adding.{Adds, Are}

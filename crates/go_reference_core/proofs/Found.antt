@@ -5,11 +5,11 @@ use Rattle.std.specs.Option.{option_map}
 use Rattle.std.specs.Prelude.{IsTrue, MatchOption, slice_get}
 use Rattle.std.proofs.lemmas.Bool.{true≢false}
 use Rattle.std.proofs.lemmas.Option.{none-some, slice_get-get_or, slice_get-map, slice_get_within}
-use Rattle.go_snap_core.specs.handle_core.Declarations.{Declaration}
-use Rattle.go_snap_core.specs.part_core.Parts.{FileOf, PartModel}
-use Rattle.go_snap_core.specs.used_core.Used.{FileUse}
-use Rattle.go_snap_core.specs.whole_core.Lists.{one_at}
-use Rattle.go_snap_core.specs.Snapshots.{SnapshotModel}
+use Rattle.go_handle_core.specs.Declarations.{Declaration}
+use Rattle.go_query_core.specs.package_core.PackagePartParts.{FileOf, PartModel}
+use Rattle.go_query_core.specs.report_core.UsageUsed.{FileUse}
+use Rattle.go_query_core.specs.snap_core.WholeWorkspaceLists.{one_at}
+use Rattle.go_query_core.specs.snap_core.Snapshots.{SnapshotModel}
 use Rattle.go_reference_core.specs.declared.reference.Reference.{Reference}
 use Rattle.go_reference_core.specs.References.{AreFileReferences, AreReferences, ByNumber, HasDeclaration, InFile, InPackage, IsBefore, IsFileOf, IsReference, IsReferenceIn}
 use Rattle.go_reference_core.specs.mirrors.Adding.{Adds, IsOfFiles, IsOfSlot, IsOfUses, IsUseAt}

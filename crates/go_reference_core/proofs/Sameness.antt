@@ -2,9 +2,9 @@
 use Rattle.std.proofs.Common.{◌≡◌, ◌↔◌, ◌∙◌, ℕ, Bool, true, false, List, sym, ap, subst}
 use Rattle.std.specs.Prelude.{IsTrue}
 use Rattle.std.proofs.lemmas.Bool.{true≢false}
-use Rattle.go_snap_core.specs.denote_core.declared.things.Outcome.TheVariants as outcomes
-use Rattle.go_snap_core.specs.handle_core.Declarations.{Declaration, Universe, Package, InFile}
-use Rattle.go_snap_core.specs.used_core.Used.{FileUse, TheOutcome}
+use Rattle.go_denote_core.specs.declared.things.Outcome.TheVariants as outcomes
+use Rattle.go_handle_core.specs.Declarations.{Declaration, Universe, Package, InFile}
+use Rattle.go_query_core.specs.report_core.UsageUsed.{FileUse, TheOutcome}
 use Rattle.go_term_core.specs.declared.term.MemberPlace.{MemberPlace}
 use Rattle.go_tree_core.specs.Occurrences.{is_identifier}
 use Rattle.go_universe_core.specs.declared.Predeclared.{Predeclared}

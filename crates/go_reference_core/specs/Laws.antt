@@ -1,9 +1,9 @@
 -- What joins references with definitions.
 use Rattle.std.specs.Prelude.{◌≡◌, ℕ, true, List}
 use Rattle.go_tree_core.specs.Occurrences.{is_identifier}
-use Rattle.go_snap_core.specs.handle_core.Declarations.{Declaration}
-use Rattle.go_snap_core.specs.used_core.Used.{FileUse}
-use Rattle.go_snap_core.specs.Snapshots.{FoundFile, IsFileAt, SnapshotModel}
+use Rattle.go_handle_core.specs.Declarations.{Declaration}
+use Rattle.go_query_core.specs.report_core.UsageUsed.{FileUse}
+use Rattle.go_query_core.specs.snap_core.Snapshots.{FoundFile, IsFileAt, SnapshotModel}
 use Rattle.go_query_core.specs.Defining.{Declares, IsUseIn}
 use Rattle.go_reference_core.specs.declared.reference.Reference.{Reference}
 use Rattle.go_reference_core.specs.References.{IsReference}

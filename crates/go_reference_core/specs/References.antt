@@ -3,11 +3,11 @@
 -- The Go specification, "Declarations and scope", "Qualified identifiers", "Selectors".
 use Rattle.std.specs.Prelude.{◌≡◌, ◌↔◌, ◌<◌, ⊤, ℕ, true, List, Some, AllPairs, Contains, slice_get}
 use Rattle.go_tree_core.specs.Occurrences.{is_identifier}
-use Rattle.go_snap_core.specs.denote_core.declared.things.Outcome.TheVariants as outcomes
-use Rattle.go_snap_core.specs.handle_core.Declarations.{Declaration}
-use Rattle.go_snap_core.specs.part_core.Parts.{FileOf, PartModel}
-use Rattle.go_snap_core.specs.used_core.Used.{FileUse, TheOutcome}
-use Rattle.go_snap_core.specs.Snapshots.{SnapshotModel}
+use Rattle.go_denote_core.specs.declared.things.Outcome.TheVariants as outcomes
+use Rattle.go_handle_core.specs.Declarations.{Declaration}
+use Rattle.go_query_core.specs.package_core.PackagePartParts.{FileOf, PartModel}
+use Rattle.go_query_core.specs.report_core.UsageUsed.{FileUse, TheOutcome}
+use Rattle.go_query_core.specs.snap_core.Snapshots.{SnapshotModel}
 use Rattle.go_query_core.specs.Defining.{Declares}
 use Rattle.go_reference_core.specs.declared.reference.Reference.{Reference}
 

@@ -1,16 +1,16 @@
 //! All uses of a declaration.
 ghost use Rattle.std.specs.Prelude.{◌≡◌, IfOk, MatchOption, None, OnOk, Some, slice_get};
-ghost use Rattle.go_snap_core.specs.handle_core.Declarations.{site_shown};
-ghost use Rattle.go_snap_core.specs.part_core.Parts.{FileOf, PartModel};
+ghost use Rattle.go_handle_core.specs.Declarations.{site_shown};
+ghost use Rattle.go_query_core.specs.package_core.PackagePartParts.{FileOf, PartModel};
 ghost use Rattle.go_reference_core.specs.References.{AreFileReferences, AreReferences, IsFileOf};
 ghost use Rattle.go_reference_core.specs.mirrors.Adding.{Adds, IsOfFiles, IsOfSlot, IsOfUses, IsUseAt};
 
 use crate::reference::Reference;
 use crate::sites::has_declaration;
 use go_handle_core::DeclSite;
-use go_snap_core::Snapshot;
-use go_snap_core::answer_core::Answer;
-use go_snap_core::part_core::Part;
+use go_query_core::package_core::Part;
+use go_query_core::report_core::Answer;
+use go_query_core::snap_core::Snapshot;
 use std::alloc::{AllocError, Global};
 
 // Adds the occurrence of three numbers, where it uses a declaration.

@@ -1,14 +1,14 @@
 //! Whether two declarations are the same.
 ghost use Rattle.std.specs.Prelude.{◌≡◌, ◌↔◌, IsTrue, MatchOption};
-ghost use Rattle.go_snap_core.specs.denote_core.declared.things.Outcome.TheVariants as outcomes;
-ghost use Rattle.go_snap_core.specs.handle_core.Declarations.{InFile, OfError, Package, Universe, site_shown};
+ghost use Rattle.go_denote_core.specs.declared.things.Outcome.TheVariants as outcomes;
+ghost use Rattle.go_handle_core.specs.Declarations.{InFile, OfError, Package, Universe, site_shown};
 ghost use Rattle.go_query_core.specs.Defining.{Declares};
 ghost use Rattle.go_reference_core.specs.References.{HasDeclaration, IsRefused};
 
+use go_denote_core::Outcome;
 use go_handle_core::DeclSite;
 use go_path_core::ImportPath;
-use go_snap_core::answer_core::{Answer, Site};
-use go_snap_core::denote_core::Outcome;
+use go_query_core::report_core::{Answer, Site};
 use go_term_core::MemberPlace;
 use go_universe_core::Predeclared;
 

@@ -11,8 +11,8 @@ use Rattle.std.proofs.lemmas.Cmp.{nat_cmp_total, nat_list_cmp_total, on_total, t
 use Rattle.std.proofs.lemmas.List.Sorted.{ranks_by}
 use Rattle.std.proofs.lemmas.Map.Keys.{Less-from_sorted}
 use Rattle.std.proofs.lemmas.Map.Lookups.{exact_bytes}
-use Rattle.go_term_core.specs.text_core.declared.rule.Rule.{Rule}
-use Rattle.go_term_core.specs.text_core.Rules.{rule_number}
+use Rattle.go_path_core.specs.text_core.declared.rule.Rule.{Rule}
+use Rattle.go_path_core.specs.text_core.Rules.{rule_number}
 use Rattle.go_expr_core.specs.local_core.declared.Fault.{Fault}
 use Rattle.go_report_core.specs.Faults.{number_order, fault_order, ComesBefore}
 use Rattle.go_report_core.proofs.Numbers.{same_rule}

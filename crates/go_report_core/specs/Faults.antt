@@ -7,8 +7,8 @@ use Rattle.std.specs.Cmp.Lexicographic.{slice_cmp}
 use Rattle.std.specs.Ordering.{nat_cmp, ordering_then}
 use Rattle.std.specs.declared.cmp.Ordering.{Ordering}
 use Rattle.std.specs.declared.cmp.Ordering.TheVariants.{Less}
-use Rattle.go_term_core.specs.text_core.declared.rule.Rule.{Rule}
-use Rattle.go_term_core.specs.text_core.Rules.{rule_number}
+use Rattle.go_path_core.specs.text_core.declared.rule.Rule.{Rule}
+use Rattle.go_path_core.specs.text_core.Rules.{rule_number}
 use Rattle.go_expr_core.specs.denote_core.declared.things.Outcome.TheVariants as outcomes
 use Rattle.go_expr_core.specs.declared.things.Use.{Use}
 use Rattle.go_expr_core.specs.local_core.declared.Fault.{Fault}

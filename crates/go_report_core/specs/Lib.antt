@@ -1,7 +1,12 @@
 pub mod Faults
 pub mod Laws
 pub mod mirrors
+pub mod type_faults
+pub mod answer
+pub mod usage
+pub mod declared_core
 pub mod denote_core
 pub mod expr_core
-pub mod literal_core
-pub mod local_core
+pub mod handle_core
+pub mod operand_core
+pub mod summary_core

@@ -5,5 +5,3 @@ pub mod Parts
 pub mod Texts
 pub mod Tokens
 pub mod mirrors
-pub mod text_core
-pub mod token_core

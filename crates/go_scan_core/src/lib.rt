@@ -16,13 +16,3 @@ mod scanner;
 
 pub use laws::{comments_are_the_answer, one_answer, one_list_of_comments, tokens_are_the_answer};
 pub use scanner::{comments, scan};
-
-/// What the crates above name of `go_text_core`.
-pub mod text_core {
-    pub use go_token_core::text_core::{Rule, Span};
-}
-
-/// What the crates above name of `go_token_core`.
-pub mod token_core {
-    pub use go_token_core::{Comment, KEYWORDS, Keyword, Operator, ScanError, characters_of};
-}

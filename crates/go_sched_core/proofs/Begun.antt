@@ -1,9 +1,9 @@
 -- The first action of a batch that is formed.
 use Rattle.std.proofs.Common.{◌≡◌, ℕ, ◌+◌, cond, List, ◌∷◌, Option, Some, None, refl, sym, ap, ◌∙◌, subst}
 use Rattle.std.specs.Prelude.{slice_set}
-use Rattle.go_batch_core.specs.part_core.Inputs.{InputModel, path_in}
-use Rattle.go_batch_core.specs.part_core.Parts.{PartModel}
-use Rattle.go_batch_core.specs.whole_core.Inputs.{IsInputAt}
+use Rattle.go_submit_core.specs.package_core.PackagePartInputs.{InputModel, path_in}
+use Rattle.go_submit_core.specs.package_core.PackagePartParts.{PartModel}
+use Rattle.go_submit_core.specs.snap_core.WholeWorkspaceInputs.{IsInputAt}
 use Rattle.go_batch_core.specs.Batches.{batch_with}
 use Rattle.go_batch_core.specs.Steadiness.{SteadyModel}
 use Rattle.go_batch_core.specs.declared.slot.Slot.TheVariants.{Taken}

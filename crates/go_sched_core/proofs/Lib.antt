@@ -6,3 +6,4 @@ pub mod Marking
 pub mod Outs
 pub mod Outside
 pub mod Runs
+pub mod Tells

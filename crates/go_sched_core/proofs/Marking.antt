@@ -1,10 +1,10 @@
 -- What the core keeps beside its state, as actions are handed out and finished, and batches are published.
 use Rattle.std.proofs.Common.{◌≡◌, ℕ, Bool, true, false, true≢false, cond, List, [], set, Option, Some, None, refl, sym, ap, ◌∙◌, subst}
 use Rattle.std.specs.Prelude.{IfSome, slice_get}
-use Rattle.go_batch_core.specs.graph_core.Workspaces.{PackageModel}
-use Rattle.go_batch_core.specs.part_core.Inputs.{InputModel, path_in}
-use Rattle.go_batch_core.specs.part_core.Parts.{PartModel}
-use Rattle.go_batch_core.specs.snap_core.Snapshots.{SnapshotModel}
+use Rattle.go_graph_core.specs.Workspaces.{PackageModel}
+use Rattle.go_submit_core.specs.package_core.PackagePartInputs.{InputModel, path_in}
+use Rattle.go_submit_core.specs.package_core.PackagePartParts.{PartModel}
+use Rattle.go_submit_core.specs.snap_core.Snapshots.{SnapshotModel}
 use Rattle.go_submit_core.proofs.Lists.{fold_push}
 use Rattle.go_submit_core.specs.Published.{IsEarlierPart, IsPartIn, LeavesWhere, batch_of, last_of, sources_of}
 use Rattle.go_submit_core.specs.Submitted.{submitted}

@@ -1,9 +1,9 @@
 -- What the steps leave of the actions that are handed out and not finished.
 use Rattle.std.proofs.Common.{◌≡◌, ◌⊎◌, inl, inr, ⊎_elim, ℕ, zero, suc, ◌+◌, ◌≤◌, List, [], ◌∷◌, refl, sym, ap, subst, arith, Option, Some, None}
 use Rattle.std.specs.Prelude.{slice_get, slice_set}
-use Rattle.go_text_core.specs.declared.rule.Rule.TheVariants.{M0, O5, Z1}
-use Rattle.go_batch_core.specs.part_core.Inputs.{InputModel}
-use Rattle.go_batch_core.specs.part_core.Parts.{PartModel}
+use Rattle.go_path_core.specs.text_core.declared.rule.Rule.TheVariants.{M0, O5, Z1}
+use Rattle.go_submit_core.specs.package_core.PackagePartInputs.{InputModel}
+use Rattle.go_submit_core.specs.package_core.PackagePartParts.{PartModel}
 use Rattle.go_batch_core.specs.Batches.{BatchModel}
 use Rattle.go_batch_core.specs.declared.slot.Slot.{Slot}
 use Rattle.go_batch_core.specs.declared.slot.Slot.TheVariants.{NoAction, Untaken, Taken, Finished}

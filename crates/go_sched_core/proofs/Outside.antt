@@ -4,9 +4,9 @@ use Rattle.std.specs.List.{list_any}
 use Rattle.std.specs.Str.{bytes_eq}
 use Rattle.std.proofs.lemmas.List.Folds.{list_any-append}
 use Rattle.std.proofs.lemmas.Slice.Eq.{bytes_eq-Decides}
-use Rattle.go_batch_core.specs.graph_core.Workspaces.{PackageModel, IsWorkspace, files_at, is_path_inside, replaced}
-use Rattle.go_batch_core.specs.head_core.Outside.{AreSameOutside, is_inside_any}
-use Rattle.go_batch_core.specs.head_core.Replacing.{replaced_outside, same_outside}
+use Rattle.go_graph_core.specs.Workspaces.{PackageModel, IsWorkspace, files_at, is_path_inside, replaced}
+use Rattle.go_import_core.specs.head.Outside.{AreSameOutside, is_inside_any}
+use Rattle.go_import_core.proofs.HeadReplacing.{replaced_outside, same_outside}
 use Rattle.go_submit_core.specs.Modules.{is_among, with_module, with_trees}
 use Rattle.go_submit_core.specs.Submitted.{submitted}
 use Rattle.go_submit_core.specs.declared.submission.Submission.{Submission}

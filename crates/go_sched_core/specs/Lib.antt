@@ -3,6 +3,7 @@ pub mod Laws
 pub mod Outs
 pub mod Prepared
 pub mod Service
+pub mod Sights
 pub mod Steps
 pub mod mirrors
 pub mod batch_core

@@ -1,6 +1,6 @@
 -- The actions of the batch that runs that were handed out and are not finished.
 use Rattle.std.specs.Prelude.{◌≡◌, ◌≤◌, ℕ, Option, Some, None, slice_get}
-use Rattle.go_batch_core.specs.part_core.Inputs.{InputModel}
+use Rattle.go_submit_core.specs.package_core.PackagePartInputs.{InputModel}
 use Rattle.go_batch_core.specs.declared.slot.Slot.TheVariants.{Taken}
 use Rattle.go_sched_core.specs.Service.{Service}
 use Rattle.go_sched_core.specs.declared.running.Running.{Running}

@@ -2,8 +2,8 @@
 use Rattle.std.specs.Prelude.{◌≡◌, ℕ, ◌+◌, Bool, true, false, not, ◌&&◌, ◌||◌, nat_eq, nat_le, nat_lt, if◌then◌else◌, List, [], length, Option, Some, None}
 use Rattle.std.specs.List.{fold, find, list_any}
 use Rattle.std.specs.Str.{bytes_eq}
-use Rattle.go_text_core.specs.declared.rule.Rule.{Rule}
-use Rattle.go_text_core.specs.declared.rule.Rule.TheVariants.{E1, H1, O1, O3, O4, O5}
+use Rattle.go_path_core.specs.text_core.declared.rule.Rule.{Rule}
+use Rattle.go_path_core.specs.text_core.declared.rule.Rule.TheVariants.{E1, H1, O1, O3, O4, O5}
 use Rattle.go_path_core.specs.Path.{overlap}
 use Rattle.go_submit_core.specs.Modules.{is_among, with_module, with_trees}
 use Rattle.go_submit_core.specs.Published.{modules_of, number_of}

@@ -1,10 +1,10 @@
 -- The steps of the service, by cases. It may choose which ready action it hands out.
 use Rattle.std.specs.Prelude.{◌≡◌, ◌≢◌, ℕ, ◌+◌, Bool, true, false, nat_eq, List, [], ◌∷◌, ◌++◌, length, Option, Some, None, remove, position}
-use Rattle.go_text_core.specs.declared.rule.Rule.{Rule}
-use Rattle.go_text_core.specs.declared.rule.Rule.TheVariants.{M0, O5, Z1}
-use Rattle.go_batch_core.specs.part_core.Inputs.{path_in}
-use Rattle.go_batch_core.specs.part_core.Parts.{PartModel}
-use Rattle.go_batch_core.specs.snap_core.Snapshots.{IsSnapshot, SnapshotModel}
+use Rattle.go_path_core.specs.text_core.declared.rule.Rule.{Rule}
+use Rattle.go_path_core.specs.text_core.declared.rule.Rule.TheVariants.{M0, O5, Z1}
+use Rattle.go_submit_core.specs.package_core.PackagePartInputs.{path_in}
+use Rattle.go_submit_core.specs.package_core.PackagePartParts.{PartModel}
+use Rattle.go_submit_core.specs.snap_core.Snapshots.{IsSnapshot, SnapshotModel}
 use Rattle.go_submit_core.specs.Published.{IsEarlierPart, batch_of, sources_of}
 use Rattle.go_submit_core.specs.Submitted.{submission_with, submitted}
 use Rattle.go_submit_core.specs.declared.submission.Submission.{Submission}

@@ -8,16 +8,16 @@ ghost use Rattle.go_sched_core.specs.Steps.{Step, accepts, held_with, session_wi
 ghost use Rattle.go_sched_core.specs.mirrors.Fitting.{ArePublished, Fits, FitsBegin, FitsHandOut, batches_after};
 ghost use Rattle.go_sched_core.specs.mirrors.Beside.{IsMove, finished, handed};
 ghost use Rattle.go_batch_core.specs.Planning.{IsPlanned};
-ghost use Rattle.go_batch_core.specs.whole_core.Inputs.{IsInputAt};
+ghost use Rattle.go_submit_core.specs.snap_core.WholeWorkspaceInputs.{IsInputAt};
 
 use crate::change::{Change, Hand};
 use crate::event::{Action, Event, Held, Reply, SessionId};
 use crate::machine::Core;
 use crate::rules::MAX_EVENTS;
 use crate::running::Running;
-use go_batch_core::part_core::PartInput;
 use go_batch_core::{Ending, Next, Planned, Steady};
 use go_path_core::Module;
+use go_submit_core::package_core::PartInput;
 use go_submit_core::{Batches, Submission, Ticket};
 use std::collections::LinkedList;
 

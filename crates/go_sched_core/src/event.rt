@@ -1,8 +1,8 @@
 //! Events and replies.
 use go_batch_core::{ReadInput, ReadPart};
 use go_path_core::Module;
+use go_path_core::text_core::Rule;
 use go_submit_core::{ModuleTree, Ticket};
-use go_text_core::Rule;
 
 /// The number of a session: that of its open among the accepted ones, from 1.
 #[derive(Clone, Copy, PartialEq, Eq)]

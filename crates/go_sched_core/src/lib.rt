@@ -24,5 +24,6 @@ pub use running::Running;
 
 /// What the crates above name of `go_batch_core`.
 pub mod batch_core {
-    pub use go_batch_core::{ReadPart, rebuild};
+    pub use go_batch_core::seen::Sight;
+    pub use go_batch_core::{ReadPart, Rebuilt, earlier_of};
 }

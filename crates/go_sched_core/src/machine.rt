@@ -2,13 +2,14 @@
 ghost use Rattle.std.specs.Prelude.{◌≡◌, ◌≤◌, IfErr, IfOk, length};
 ghost use Rattle.go_submit_core.specs.Published.{AreSound};
 ghost use Rattle.go_sched_core.specs.Service.{empty};
+ghost use Rattle.go_sched_core.specs.Sights.{RunsOnce};
 
 use crate::event::Held;
 use crate::rules::MAX_SESSIONS;
 use crate::running::Running;
 use go_batch_core::{Planned, Steady};
+use go_path_core::text_core::Rule;
 use go_submit_core::{Batches, Submission};
-use go_text_core::Rule;
 use std::alloc::Global;
 use std::collections::LinkedList;
 use std::marker::Model;
@@ -65,6 +66,16 @@ impl Model for Core {
     ghost invariant = { λ c. IsKept c.held.items (vec_capacity c.held) c.published c.running c.planned c.steady };
 }
 
+// What the packages of a batch that runs tell is one summary for each path.
+fn once_of(running: &Option<Running>)
+    ensures { RunsOnce running.now }
+{
+    match running {
+        Some(running) => running.batch.is_told_once(),
+        None => {}
+    }
+}
+
 impl Core {
     /// A core to which nothing happened.
     ///
@@ -104,6 +115,13 @@ impl Core {
     {
         let _last = self.published.last();
         &self.published
+    }
+
+    /// What the packages of the batch that runs tell is one summary for each path.
+    pub fn is_told_once(&self)
+        ensures { RunsOnce self.now.running }
+    {
+        once_of(&self.running);
     }
 
     /// How many sessions are open.

@@ -1,6 +1,6 @@
 //! What a step needs: all growth is here, and nothing changes.
 ghost use Rattle.std.specs.Prelude.{◌≡◌, ℕ, ◌+◌, ◌<◌, ◌^◌, ◌++◌, ◌∷◌, [], IfErr, IfOk, IfSome, MatchOption, Some, false};
-ghost use Rattle.go_batch_core.specs.graph_core.Workspaces.{AreAllRead};
+ghost use Rattle.go_graph_core.specs.Workspaces.{AreAllRead};
 ghost use Rattle.go_submit_core.specs.Modules.{with_trees};
 ghost use Rattle.go_submit_core.specs.Published.{IsEarlierPart, IsOneWorker, LeavesWhere, batch_of, last_of, sources_of};
 ghost use Rattle.go_submit_core.specs.Submitted.{submission_with, submitted};
@@ -17,15 +17,15 @@ use crate::event::{Event, Reply, SessionId};
 use crate::machine::Core;
 use crate::rules::is_running;
 use crate::running::{Formed, Running};
-use go_batch_core::graph_core::Workspace;
-use go_batch_core::part_core::Part;
-use go_batch_core::snap_core::{SharedSnapshot, Snapshot};
 use go_batch_core::{Batch, Over, Planned, ReadPart, Steady, plan_over};
+use go_graph_core::Workspace;
+use go_path_core::text_core::Rule;
 use go_path_core::{ImportPath, Module};
+use go_submit_core::package_core::Part;
+use go_submit_core::snap_core::{SharedSnapshot, Snapshot};
 use go_submit_core::{
     Batches, ModuleTree, PublishedBatch, Submission, Submissions, Ticket, add_trees,
 };
-use go_text_core::Rule;
 use std::alloc::{AllocError, Global};
 use std::collections::LinkedList;
 

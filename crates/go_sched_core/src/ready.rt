@@ -1,7 +1,7 @@
 //! A step in two: what it needs is made first, and the state changes without memory.
 ghost use Rattle.std.specs.Prelude.{◌≡◌, IfErr, IfOk, IfSome, IsTrue, MatchOption, false, true};
 ghost use Rattle.go_batch_core.specs.Batches.{NoneReady};
-ghost use Rattle.go_batch_core.specs.part_core.Parts.{PartModel};
+ghost use Rattle.go_submit_core.specs.package_core.PackagePartParts.{PartModel};
 ghost use Rattle.go_submit_core.specs.Published.{AreSound, BeginsWith};
 ghost use Rattle.go_sched_core.specs.Outs.{KnowsInput};
 ghost use Rattle.go_sched_core.specs.Prepared.{IsAllowed};
@@ -12,8 +12,8 @@ use crate::event::{Event, Reply};
 use crate::machine::Core;
 use crate::running::Running;
 use go_batch_core::{Batch, ReadPart, Steady};
+use go_path_core::text_core::Rule;
 use go_submit_core::Batches;
-use go_text_core::Rule;
 use std::alloc::{AllocError, Global};
 use std::marker::Model;
 

@@ -8,9 +8,9 @@ ghost use Rattle.go_sched_core.specs.Steps.{runs};
 use crate::event::{Held, SessionId};
 use crate::machine::Core;
 use crate::running::Running;
+use go_path_core::text_core::Rule;
 use go_path_core::{Module, overlaps};
 use go_submit_core::{ModuleTree, Submission, add_module, add_trees, is_among, is_same_module};
-use go_text_core::Rule;
 use std::alloc::AllocError;
 use std::collections::LinkedList;
 

@@ -6,7 +6,7 @@ ghost use Rattle.go_sched_core.specs.Steps.{Run};
 
 use crate::event::{Event, Reply};
 use crate::machine::Core;
-use go_text_core::Rule;
+use go_path_core::text_core::Rule;
 use std::alloc::Global;
 
 /// A core and what it replied.

@@ -4,9 +4,9 @@ use Rattle.std.specs.Str.{bytes_eq}
 use Rattle.std.proofs.lemmas.Bool.{true≢false}
 use Rattle.std.proofs.lemmas.List.Elements.{All-nil, All-cons, All-head, All-tail, All-push, All-pop}
 use Rattle.std.proofs.lemmas.Slice.Eq.{bytes_eq-Decides}
-use Rattle.go_block_core.specs.text_core.Text.{is_blank}
-use Rattle.go_block_core.specs.open_core.declared.DeclId.{DeclId}
-use Rattle.go_block_core.specs.open_core.Blocks.{in_block, innermost, with_innermost, block_with, block_after, is_new, NoneHas}
+use Rattle.go_text_core.specs.Text.{is_blank}
+use Rattle.go_block_core.specs.scope_stack.declared.DeclId.{DeclId}
+use Rattle.go_block_core.specs.scope_stack.Blocks.{in_block, innermost, with_innermost, block_with, block_after, is_new, NoneHas}
 use Rattle.go_block_core.specs.graph_core.Packages.{blank}
 use Rattle.go_scope_core.specs.Laws.{BlankStaysOut}
 

@@ -5,8 +5,8 @@ use Rattle.std.proofs.lemmas.Bool.{true≢false}
 use Rattle.std.proofs.lemmas.List.Elements.{All-contains}
 use Rattle.go_block_core.specs.Blocks.{file_binding}
 use Rattle.go_block_core.proofs.HoldingLaws.{never_hidden}
-use Rattle.go_block_core.specs.open_core.declared.DeclId.{DeclId}
-use Rattle.go_block_core.specs.open_core.Blocks.{in_block, found_in, NoneHas}
+use Rattle.go_block_core.specs.scope_stack.declared.DeclId.{DeclId}
+use Rattle.go_block_core.specs.scope_stack.Blocks.{in_block, found_in, NoneHas}
 use Rattle.go_block_core.specs.declared.binding.Binding.{Binding}
 use Rattle.go_block_core.specs.decl_core.declared.keys.DeclRef.{DeclRef}
 use Rattle.go_universe_core.specs.declared.Predeclared.{Predeclared}
@@ -15,7 +15,7 @@ use Rattle.go_universe_core.proofs.Spellings.{each_is_found}
 use Rattle.go_scope_core.specs.Models.{ScopesModel}
 use Rattle.go_scope_core.specs.Scopes.{Denoted, Universe, inside_universe, scope_blocks}
 use Rattle.go_scope_core.specs.Laws.{DenotesInnermost, DenotesOne, DenotesLocal, BlockHas, LocalHides, PackageNeverHidden, FileInside, UniverseOutermost, denotes}
-use Rattle.go_block_core.specs.open_core.Innermost.{found_innermost, innermost_found, found_none, none_found}
+use Rattle.go_block_core.specs.scope_stack.Innermost.{found_innermost, innermost_found, found_none, none_found}
 use Rattle.go_scope_core.proofs.Lookups.{inner_parts, by_parts, in_inside, by_inside, in_scope}
 
 pub denotes_innermost : DenotesInnermost

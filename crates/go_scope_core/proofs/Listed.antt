@@ -6,9 +6,9 @@ use Rattle.std.proofs.lemmas.List.{drop_more}
 use Rattle.std.proofs.lemmas.List.Folds.{list_any-append}
 use Rattle.std.proofs.lemmas.Slice.Eq.{bytes_eq-Decides}
 use Rattle.go_block_core.specs.Blocks.{held_in}
-use Rattle.go_block_core.specs.open_core.Blocks.{names_in, all_names, is_listed, list_name, list_names}
-use Rattle.go_block_core.specs.open_core.Names.{list_names-append}
-use Rattle.go_block_core.specs.open_core.News.{or_true}
+use Rattle.go_block_core.specs.scope_stack.Blocks.{names_in, all_names, is_listed, list_name, list_names}
+use Rattle.go_block_core.specs.scope_stack.Names.{list_names-append}
+use Rattle.go_block_core.specs.scope_stack.News.{or_true}
 use Rattle.go_universe_core.specs.declared.TheConstants.{PREDECLARED}
 use Rattle.go_universe_core.specs.declared.Predeclared.{Predeclared}
 use Rattle.go_universe_core.specs.Universe.{spelling_of}

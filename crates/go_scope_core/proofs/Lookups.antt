@@ -8,8 +8,8 @@ use Rattle.go_block_core.specs.declared.binding.Binding.{Binding}
 use Rattle.go_block_core.specs.decl_core.declared.keys.DeclRef.{DeclRef}
 use Rattle.go_block_core.specs.Blocks.{BlocksModel, held_in, file_has, file_binding}
 use Rattle.go_block_core.proofs.TableLemmas.{held_is_binding}
-use Rattle.go_block_core.specs.open_core.declared.DeclId.{DeclId}
-use Rattle.go_block_core.specs.open_core.Blocks.{in_block, found_in, or_else}
+use Rattle.go_block_core.specs.scope_stack.declared.DeclId.{DeclId}
+use Rattle.go_block_core.specs.scope_stack.Blocks.{in_block, found_in, or_else}
 use Rattle.go_universe_core.specs.declared.TheConstants.{PREDECLARED}
 use Rattle.go_universe_core.specs.declared.Predeclared.{Predeclared}
 use Rattle.go_universe_core.specs.Universe.{spelling_of, found}

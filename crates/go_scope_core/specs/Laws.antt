@@ -6,8 +6,8 @@ use Rattle.go_block_core.specs.decl_core.declared.keys.DeclRef.{DeclRef}
 use Rattle.go_block_core.specs.declared.binding.Binding.{Binding}
 use Rattle.go_block_core.specs.Blocks.{file_binding}
 use Rattle.go_block_core.specs.graph_core.Packages.{blank}
-use Rattle.go_block_core.specs.open_core.declared.DeclId.{DeclId}
-use Rattle.go_block_core.specs.open_core.Blocks.{in_block, found_in, innermost, with_innermost, block_with, block_after, NoneHas, IsInnermost}
+use Rattle.go_block_core.specs.scope_stack.declared.DeclId.{DeclId}
+use Rattle.go_block_core.specs.scope_stack.Blocks.{in_block, found_in, innermost, with_innermost, block_with, block_after, NoneHas, IsInnermost}
 use Rattle.go_scope_core.specs.Models.{ScopesModel}
 use Rattle.go_scope_core.specs.Scopes.{Denoted, Universe, Package, File, Local, inside_universe, scope_blocks}
 

@@ -2,8 +2,8 @@
 use Rattle.std.specs.Prelude.{refl, ℕ, List}
 use Rattle.std.specs.Coded.{Coded, code_by, coded×, coded_list, coded_ℕ}
 use Rattle.go_block_core.specs.Blocks.{BlocksModel, coded_blocks}
-use Rattle.go_block_core.specs.open_core.declared.DeclId.{DeclId}
-use Rattle.go_block_core.specs.open_core.contracts.DeclId as decl_id
+use Rattle.go_block_core.specs.scope_stack.declared.DeclId.{DeclId}
+use Rattle.go_block_core.specs.scope_stack.contracts.DeclId as decl_id
 
 -- the blocks of the package, the number of the file, and the open blocks of the function, the outermost first
 pub record ScopesModel : Type 0 where

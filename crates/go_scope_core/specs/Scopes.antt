@@ -6,7 +6,7 @@ use Rattle.go_universe_core.specs.Universe.{spelling_of}
 use Rattle.go_block_core.specs.declared.binding.Binding.{Binding}
 use Rattle.go_block_core.specs.decl_core.declared.keys.DeclRef.{DeclRef}
 use Rattle.go_block_core.specs.Blocks.{held_in}
-use Rattle.go_block_core.specs.open_core.declared.DeclId.{DeclId}
+use Rattle.go_block_core.specs.scope_stack.declared.DeclId.{DeclId}
 use Rattle.go_scope_core.specs.declared.scope.InScope.{InScope}
 use Rattle.go_scope_core.specs.declared.scope.InScope.TheVariants as answer
 use Rattle.go_scope_core.specs.Models.{ScopesModel, scopes_model}

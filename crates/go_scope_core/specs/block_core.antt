@@ -1,11 +1,12 @@
 -- What the crates above name of go_block_core.
-pub use Rattle.go_block_core.specs.All as AllPackages
 pub use Rattle.go_block_core.proofs.AllLemmas as AllLemmas
+pub use Rattle.go_block_core.specs.All as AllPackages
 pub use Rattle.go_block_core.proofs.BindingLemmas as BindingLemmas
 pub use Rattle.go_block_core.specs.Bindings as Bindings
 pub use Rattle.go_block_core.specs.Blocks as Blocks
 pub use Rattle.go_block_core.specs.Declarations as Declarations
 pub use Rattle.go_block_core.specs.Exports as Exports
+pub use Rattle.go_block_core.proofs.FaultLemmas as FaultLemmas
 pub use Rattle.go_block_core.specs.Faults as Faults
 pub use Rattle.go_block_core.proofs.GivenSteps as GivenSteps
 pub use Rattle.go_block_core.proofs.Growing as Growing
@@ -15,9 +16,8 @@ pub use Rattle.go_block_core.specs.Laws as Laws
 pub use Rattle.go_block_core.specs.Naming as Naming
 pub use Rattle.go_block_core.proofs.NamingLemmas as NamingLemmas
 pub use Rattle.go_block_core.proofs.OneBlocks as OneBlocks
-pub use Rattle.go_block_core.proofs.Pieces as Pieces
 pub use Rattle.go_block_core.proofs.Rising as Rising
+pub use Rattle.go_block_core.proofs.SortedOnce as SortedOnce
 pub use Rattle.go_block_core.specs.Tables as Tables
-pub use Rattle.go_block_core.specs.contracts as contracts
 pub use Rattle.go_block_core.specs.declared as declared
 pub use Rattle.go_block_core.specs.mirrors as mirrors

@@ -2,15 +2,15 @@
 ghost use Rattle.std.specs.Prelude.{◌≡◌, ℕ, List, Vec, [], Ok, IfOk, IfErr, OnOk, map};
 ghost use Rattle.std.specs.Global.{Global};
 ghost use denote.Ref.{Bor};
-ghost use Rattle.go_block_core.specs.open_core.Blocks.{list_names, all_names};
+ghost use Rattle.go_block_core.specs.scope_stack.Blocks.{list_names, all_names};
 ghost use Rattle.go_block_core.specs.Tables.{names_in};
 ghost use Rattle.go_block_core.specs.Blocks.{held_in};
 ghost use Rattle.go_universe_core.specs.Universe.{spelling_of};
 ghost use Rattle.go_scope_core.specs.Scopes.{universe};
 
 use go_block_core::Blocks;
-use go_block_core::open_core::{NameList, OpenBlocks};
-use go_block_core::text_core::Rule;
+use go_block_core::scope_stack::{NameList, OpenBlocks};
+use go_text_core::Rule;
 use go_universe_core::{PREDECLARED, Predeclared};
 use std::alloc::Global;
 

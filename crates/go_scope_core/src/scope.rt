@@ -1,14 +1,14 @@
 //! The blocks that are open at a place of a file.
 ghost use Rattle.std.specs.Prelude.{◌≡◌, ℕ, ◌<◌, ◌⊎◌, [], ◌∷◌, ◌++◌, length, map, IfOk, IfErr, OnOk, IfSome, IsSome, IsNone, IsOk, option_map, Some, true, false, List, ◌↔◌, Contains, AllPairs};
-ghost use Rattle.go_block_core.specs.open_core.Blocks.{found_in, innermost, with_innermost, is_taken, block_with, block_after, short_names, any_new, named, names_in, all_names, list_names, NoneHas, IsInnermost};
-ghost use Rattle.go_block_core.specs.text_core.Text.{is_blank};
+ghost use Rattle.go_block_core.specs.scope_stack.Blocks.{found_in, innermost, with_innermost, is_taken, block_with, block_after, short_names, any_new, named, names_in, all_names, list_names, NoneHas, IsInnermost};
+ghost use Rattle.go_text_core.specs.Text.{is_blank};
 ghost use Rattle.go_scope_core.specs.Models.{scopes_model};
 ghost use Rattle.go_scope_core.specs.Scopes.{Denoted, denoted_of, with_open, scope_blocks};
 
 use crate::names::listed_names;
-use go_block_core::open_core::{DeclId, NameList, OpenBlocks, ShortDecl};
-use go_block_core::text_core::Rule;
+use go_block_core::scope_stack::{DeclId, NameList, OpenBlocks, ShortDecl};
 use go_block_core::{Binding, Blocks, DeclRef};
+use go_text_core::Rule;
 use go_universe_core::{Predeclared, find_predeclared};
 use std::alloc::Global;
 use std::marker::Model;

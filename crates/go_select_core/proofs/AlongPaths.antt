@@ -2,11 +2,11 @@
 use Rattle.std.proofs.Common.{◌≡◌, ℕ, zero, suc, ◌+◌, ◌<◌, ◌≤◌, List, [], ◌∷◌, ◌++◌, length, map, drop, get_or, refl, sym, ap, ◌∙◌}
 use Rattle.std.specs.Prelude.{option_map, option_to_list, slice_get}
 use Rattle.std.proofs.lemmas.List.{append_assoc, append-nil, drop_more, drop_all}
-use Rattle.go_level_core.specs.table_core.Entries.{EntryLook, underlying_in}
+use Rattle.go_embed_core.specs.table_core.Entries.{EntryLook, underlying_in}
 use Rattle.go_term_core.specs.Terms.{Term}
 use Rattle.go_term_core.specs.declared.term.Field.{Field}
 use Rattle.go_term_core.specs.Shapes.{Line, fields_in}
-use Rattle.go_level_core.specs.embed_core.Owners.{owner_in, embeds_at}
+use Rattle.go_embed_core.specs.Owners.{owner_in, embeds_at}
 use Rattle.go_select_core.specs.PathNames.{embedded_target, field_name_at, names_along, term_field_name}
 
 -- one step more

@@ -7,11 +7,11 @@ use Rattle.std.specs.Cmp.Lexicographic.{slice_cmp, texts_ties, nat_list_cmp_tota
 use Rattle.std.specs.Str.{bytes_eq, chars}
 use Rattle.std.proofs.lemmas.Bool.{and_parts, and_from}
 use Rattle.std.proofs.lemmas.Slice.Eq.{bytes_eq-Decides}
-use Rattle.go_text_core.specs.Text.{exported, SameId}
-use Rattle.go_text_core.proofs.Each.{true_or_false}
+use Rattle.go_path_core.specs.text_core.Text.{exported, SameId}
+use Rattle.go_path_core.specs.text_core.Each.{true_or_false}
 use Rattle.go_select_core.specs.Selections.{IsIdBefore}
 use Rattle.go_select_core.specs.mirrors.Names.{Identifier, identifier_of, Key, key_shown, key_cmp, same_identifier}
-use Rattle.go_level_core.proofs.ListLemmas.{true_false}
+use Rattle.go_select_core.proofs.LevelsListLemmas.{true_false}
 
 pub identifiers_same : (a b : Identifier) → same_identifier a b ≡ true → a ≡ b
 identifiers_same a b h =

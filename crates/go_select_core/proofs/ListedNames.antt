@@ -13,28 +13,28 @@ use Rattle.std.specs.Str.{bytes_eq, chars}
 use Rattle.std.proofs.lemmas.Bool.{true≢false, and_parts, and_from, not-true, or_cases, or_left, or_right}
 use Rattle.std.proofs.lemmas.Slice.Eq.{bytes_eq-Decides}
 use Rattle.std.proofs.lemmas.Map.Keys.{sorted_head, sorted_tail}
-use Rattle.go_text_core.specs.Text.{exported, SameId, is_blank}
-use Rattle.go_text_core.specs.declared.name.Name.{Name}
-use Rattle.go_text_core.specs.declared.rule.Rule.{Rule}
-use Rattle.go_text_core.proofs.Each.{true_or_false}
+use Rattle.go_path_core.specs.text_core.Text.{exported, SameId, is_blank}
+use Rattle.go_path_core.specs.text_core.declared.name.Name.{Name}
+use Rattle.go_path_core.specs.text_core.declared.rule.Rule.{Rule}
+use Rattle.go_path_core.specs.text_core.Each.{true_or_false}
 use Rattle.go_term_core.specs.Terms.{Term}
 use Rattle.go_term_core.proofs.Members.{In, Rises, contained_in, in_back, in_contained, in_either, in_front, pairs_rise, rising_pairs}
-use Rattle.go_level_core.specs.table_core.Entries.{EntryLook}
-use Rattle.go_level_core.specs.embed_core.declared.member.Member as declared_member
-use Rattle.go_level_core.specs.embed_core.Owners.{Found, AFieldOf, AMethodOf, AnInterfaces, TheErrorMethod}
-use Rattle.go_level_core.specs.embed_core.OwnersShown.{found_shown, name_shown, member_package_shown}
-use Rattle.go_level_core.specs.declared.level.Reached.{Reached}
+use Rattle.go_embed_core.specs.table_core.Entries.{EntryLook}
+use Rattle.go_embed_core.specs.declared.member.Member as declared_member
+use Rattle.go_embed_core.specs.Owners.{Found, AFieldOf, AMethodOf, AnInterfaces, TheErrorMethod}
+use Rattle.go_embed_core.specs.OwnersShown.{found_shown, name_shown, member_package_shown}
+use Rattle.go_select_core.specs.declared.levels.level.Reached.{Reached}
 use Rattle.go_select_core.specs.declared.names.Known.{Known}
 use Rattle.go_select_core.specs.declared.names.Known.TheVariants.{One, More}
-use Rattle.go_level_core.specs.declared.search.Selected.{Selected}
-use Rattle.go_level_core.specs.Paths.{IsSelected}
-use Rattle.go_level_core.specs.Selectors.{Refused, FieldsIn, searched, IsFieldFound, IsSelectedAs, IsFoundSelected, IsFoundAs, IsSelectorAnswer}
-use Rattle.go_level_core.specs.Selectors as searches
+use Rattle.go_select_core.specs.declared.levels.search.Selected.{Selected}
+use Rattle.go_select_core.specs.levels.Paths.{IsSelected}
+use Rattle.go_select_core.specs.levels.Selectors.{Refused, FieldsIn, searched, IsFieldFound, IsSelectedAs, IsFoundSelected, IsFoundAs, IsSelectorAnswer}
+use Rattle.go_select_core.specs.levels.Selectors as searches
 use Rattle.go_select_core.specs.Selections.{IsIdBefore, IsSelectedBefore, AreSelections, IsListing}
 use Rattle.go_select_core.specs.mirrors.Names.{Identifier, identifier_of, identifier_in, Key, key_shown, key_cmp, same_identifier, names_shown, known_of, IsKnown, AreKnown}
 use Rattle.go_select_core.specs.mirrors.Listings.{IsWithin, AreWithin, AreListed, is_field_found, selected_at, listed_if, entry_listed, listed_of, IsShown, AreSelectionsIn, is_seen, named_if, seen_of}
 use Rattle.go_select_core.proofs.Identifiers.{identifiers_same, same_identifiers, same_swap, identifier_same, same_identifier_of, keys_tie, keys_apart, key_before, names_below}
-use Rattle.go_level_core.proofs.ListLemmas.{at_in, at_within}
+use Rattle.go_select_core.proofs.LevelsListLemmas.{at_in, at_within}
 use Rattle.go_select_core.proofs.Meanings.{selected_same}
 
 abbrev pub KeyedNames : Type 0

@@ -1,23 +1,23 @@
 -- An answer depends on what the operand's type reaches alone.
 use Rattle.std.proofs.Common.{◌≡◌, ℕ, suc, Bool, true, false, not, ◌&&◌, List, [], ◌∷◌, ◌++◌, Option, Some, None, Result, Ok, Err, Contains, refl, sym, ap, ◌∙◌, subst, arith, ◌⊎◌, inl, inr, if◌then◌else◌}
 use Rattle.std.proofs.lemmas.List.Elements.{Contains-append_left, Contains-append_right}
-use Rattle.go_text_core.specs.declared.rule.Rule.{Rule}
-use Rattle.go_level_core.specs.decl_core.declared.keys.DeclKey.{DeclKey}
+use Rattle.go_path_core.specs.text_core.declared.rule.Rule.{Rule}
+use Rattle.go_term_core.specs.decl_core.declared.keys.DeclKey.{DeclKey}
 use Rattle.go_term_core.specs.Terms.{Term, NoType, Predeclared, ErrorType, Defined, PointerTo, StructOf, InterfaceOf, Fields, NoField, AField, Methods, NoMethod, AMethod, term_keys, fields_keys, methods_keys, sign_keys}
 use Rattle.go_term_core.proofs.Members.{In as AmongItems}
-use Rattle.go_level_core.specs.table_core.Entries.{Member, Entry, EntryLook, term_in, methods_in, underlying_in, declared_methods, has_method, members_keys, entry_keys}
-use Rattle.go_level_core.specs.table_core.Laws.{LeadsTo, IsReached, AgreeFrom}
-use Rattle.go_level_core.specs.settle_core.declared.kind.Kind.{Kind}
-use Rattle.go_level_core.specs.settle_core.declared.kind.Kind.TheVariants as kinds
-use Rattle.go_level_core.specs.settle_core.Settled.{kind_of_term}
-use Rattle.go_level_core.specs.embed_core.Owners.{OwnerModel, EmbeddedEdge, embedded_edge, off, owner_in, embedded_edges, term_embedded, embedded_in, has_spelled, Found, Named, AFieldOf, fields_found, methods_found, declared_found, term_found, members_of}
-use Rattle.go_level_core.specs.embed_core.OwnersShown.{IsNamedAt, found_shown}
-use Rattle.go_level_core.specs.declared.search.Selected.{Selected}
-use Rattle.go_level_core.specs.Paths.{Step, FieldsLead, Hit, HasHit, IsSelected, IsMemberSpelled}
-use Rattle.go_level_core.specs.Selectors.{Searched, Refused, In, FieldsIn, unless_refused, term_kind_in, searched_under, searched, IsMissing, ambiguous, hidden, absent, IsFoundSelected, IsFoundAs, IsDenoted, IsRefused, IsSelectorAnswer}
+use Rattle.go_embed_core.specs.table_core.Entries.{Member, Entry, EntryLook, term_in, methods_in, underlying_in, declared_methods, has_method, members_keys, entry_keys}
+use Rattle.go_embed_core.specs.table_core.Laws.{LeadsTo, IsReached, AgreeFrom}
+use Rattle.go_term_core.specs.declared.settling.kind.Kind.{Kind}
+use Rattle.go_term_core.specs.declared.settling.kind.Kind.TheVariants as kinds
+use Rattle.go_term_core.specs.settling.Settled.{kind_of_term}
+use Rattle.go_embed_core.specs.Owners.{OwnerModel, EmbeddedEdge, embedded_edge, off, owner_in, embedded_edges, term_embedded, embedded_in, has_spelled, Found, Named, AFieldOf, fields_found, methods_found, declared_found, term_found, members_of}
+use Rattle.go_embed_core.specs.OwnersShown.{IsNamedAt, found_shown}
+use Rattle.go_select_core.specs.declared.levels.search.Selected.{Selected}
+use Rattle.go_select_core.specs.levels.Paths.{Step, FieldsLead, Hit, HasHit, IsSelected, IsMemberSpelled}
+use Rattle.go_select_core.specs.levels.Selectors.{Searched, Refused, In, FieldsIn, unless_refused, term_kind_in, searched_under, searched, IsMissing, ambiguous, hidden, absent, IsFoundSelected, IsFoundAs, IsDenoted, IsRefused, IsSelectorAnswer}
 use Rattle.go_select_core.specs.Laws.{found_keys, SelectionIsLocal, ListingIsLocal}
-use Rattle.go_level_core.proofs.ListLemmas.{at_in}
-use Rattle.go_level_core.proofs.Edges.{step_edge}
+use Rattle.go_select_core.proofs.LevelsListLemmas.{at_in}
+use Rattle.go_select_core.proofs.LevelsEdges.{step_edge}
 
 -- what is reached through a list of types that are reached
 

@@ -1,18 +1,18 @@
 -- What a selector denotes is one.
 use Rattle.std.proofs.Common.{◌≡◌, ℕ, ◌<◌, Bool, ◌||◌, List, length, Ok, refl, sym, ap, ◌∙◌, subst, arith, ◌⊎◌, inl, inr}
-use Rattle.go_text_core.specs.declared.rule.Rule.{Rule}
-use Rattle.go_text_core.specs.declared.rule.Rule.TheVariants as rules
-use Rattle.go_text_core.specs.Text.{is_blank}
+use Rattle.go_path_core.specs.text_core.declared.rule.Rule.{Rule}
+use Rattle.go_path_core.specs.text_core.declared.rule.Rule.TheVariants as rules
+use Rattle.go_path_core.specs.text_core.Text.{is_blank}
 use Rattle.go_term_core.specs.Terms.{Term}
-use Rattle.go_level_core.specs.table_core.Entries.{EntryLook}
-use Rattle.go_level_core.specs.embed_core.Owners.{OwnerModel, Found, Named, owner_in}
-use Rattle.go_level_core.specs.embed_core.OwnersShown.{IsNamedAt, found_shown}
-use Rattle.go_level_core.specs.declared.search.Selected.{Selected}
-use Rattle.go_level_core.specs.Paths.{FieldsLead, Hit, HasHit, IsSelected, IsAmbiguous, IsMemberSpelled}
-use Rattle.go_level_core.specs.Selectors.{Searched, Refused, In, FieldsIn, searched, IsFieldFound, IsMissing, ambiguous, hidden, absent, IsFoundSelected, IsRefused, IsRule, IsSelectorAnswer}
+use Rattle.go_embed_core.specs.table_core.Entries.{EntryLook}
+use Rattle.go_embed_core.specs.Owners.{OwnerModel, Found, Named, owner_in}
+use Rattle.go_embed_core.specs.OwnersShown.{IsNamedAt, found_shown}
+use Rattle.go_select_core.specs.declared.levels.search.Selected.{Selected}
+use Rattle.go_select_core.specs.levels.Paths.{FieldsLead, Hit, HasHit, IsSelected, IsAmbiguous, IsMemberSpelled}
+use Rattle.go_select_core.specs.levels.Selectors.{Searched, Refused, In, FieldsIn, searched, IsFieldFound, IsMissing, ambiguous, hidden, absent, IsFoundSelected, IsRefused, IsRule, IsSelectorAnswer}
 use Rattle.go_select_core.specs.Laws.{OnlyOneAnswer}
-use Rattle.go_level_core.proofs.ListLemmas.{true_false}
-use Rattle.go_level_core.proofs.Walks.{leads_same}
+use Rattle.go_select_core.proofs.LevelsListLemmas.{true_false}
+use Rattle.go_select_core.proofs.LevelsWalks.{leads_same}
 
 named_same : (o : OwnerModel) (name from : List ℕ) (i : ℕ) (f g : Found) → IsNamedAt o name from i f → IsNamedAt o name from i g → f ≡ g
 named_same o name from i f g a b =

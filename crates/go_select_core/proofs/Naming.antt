@@ -2,21 +2,21 @@
 use Rattle.std.proofs.Common.{◌≡◌, ℕ, zero, suc, ◌+◌, ◌<◌, ◌≤◌, Bool, true, false, List, [], ◌∷◌, length, map, get_or, Option, Some, None, refl, sym, ap, ◌∙◌, subst, arith, ◌⊎◌, inl, inr}
 use Rattle.std.specs.Prelude.{slice_get}
 use Rattle.std.proofs.lemmas.Bool.{true≢false}
-use Rattle.go_text_core.specs.Text.{SameId}
-use Rattle.go_text_core.proofs.Each.{true_or_false}
+use Rattle.go_path_core.specs.text_core.Text.{SameId}
+use Rattle.go_path_core.specs.text_core.Each.{true_or_false}
 use Rattle.go_term_core.specs.Shapes.{shape}
-use Rattle.go_level_core.specs.table_core.Entries.{EntryLook}
-use Rattle.go_level_core.specs.embed_core.declared.member.Member as declared_member
-use Rattle.go_level_core.specs.embed_core.Owners.{OwnerModel, Found, Named, members_of, owner_in}
-use Rattle.go_level_core.specs.embed_core.OwnersShown.{IsNamedAt, found_shown, name_shown, member_package_shown, named_shown}
-use Rattle.go_level_core.specs.declared.level.Reached.{Reached}
+use Rattle.go_embed_core.specs.table_core.Entries.{EntryLook}
+use Rattle.go_embed_core.specs.declared.member.Member as declared_member
+use Rattle.go_embed_core.specs.Owners.{OwnerModel, Found, Named, members_of, owner_in}
+use Rattle.go_embed_core.specs.OwnersShown.{IsNamedAt, found_shown, name_shown, member_package_shown, named_shown}
+use Rattle.go_select_core.specs.declared.levels.level.Reached.{Reached}
 use Rattle.go_select_core.specs.declared.names.Known.{Known}
 use Rattle.go_select_core.specs.declared.names.Known.TheVariants.{One, More}
-use Rattle.go_level_core.specs.mirrors.Ways.{At}
-use Rattle.go_level_core.specs.mirrors.Levels.{Before, IsClash}
+use Rattle.go_select_core.specs.levels.mirrors.Ways.{At}
+use Rattle.go_select_core.specs.levels.mirrors.Levels.{Before, IsClash}
 use Rattle.go_select_core.specs.mirrors.Names.{Identifier, identifier_of, identifier_in, same_identifier, known_of, IsNoted, AreNoted, IsSaid, IsSaidOrKnown, AreSaid, AreBefore, AreNamed}
 use Rattle.go_select_core.proofs.Identifiers.{identifiers_same, same_identifiers, identifier_same, same_identifier_of}
-use Rattle.go_level_core.proofs.ListLemmas.{at_same, at_within, at_read, less_or_same}
+use Rattle.go_select_core.proofs.LevelsListLemmas.{at_same, at_within, at_read, less_or_same}
 
 -- a member before (n, j) that the name names
 abbrev HitTo : EntryLook → List ℕ → List ℕ → List Reached → ℕ → ℕ → ℕ → ℕ → Reached → ℕ → Found → Type 0

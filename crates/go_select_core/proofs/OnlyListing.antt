@@ -3,14 +3,14 @@ use Rattle.std.proofs.Common.{◌≡◌, ℕ, Bool, List, [], ◌∷◌, map, Le
 use Rattle.std.specs.Prelude.{Ok}
 use Rattle.std.specs.Ordering.{nat_cmp}
 use Rattle.std.specs.Cmp.Lexicographic.{slice_cmp}
-use Rattle.go_text_core.specs.declared.name.Name.{Name}
+use Rattle.go_path_core.specs.text_core.declared.name.Name.{Name}
 use Rattle.go_term_core.specs.Terms.{Term}
 use Rattle.go_term_core.proofs.Members.{In, Rises, contained_in, in_contained, in_map, map_in, pairs_rise}
-use Rattle.go_level_core.specs.table_core.Entries.{EntryLook}
-use Rattle.go_level_core.specs.embed_core.Owners.{Found}
-use Rattle.go_level_core.specs.embed_core.OwnersShown.{found_shown}
-use Rattle.go_level_core.specs.declared.search.Selected.{Selected}
-use Rattle.go_level_core.specs.Selectors.{IsSelectorAnswer}
+use Rattle.go_embed_core.specs.table_core.Entries.{EntryLook}
+use Rattle.go_embed_core.specs.Owners.{Found}
+use Rattle.go_embed_core.specs.OwnersShown.{found_shown}
+use Rattle.go_select_core.specs.declared.levels.search.Selected.{Selected}
+use Rattle.go_select_core.specs.levels.Selectors.{IsSelectorAnswer}
 use Rattle.go_select_core.specs.Selections.{IsListing}
 use Rattle.go_select_core.specs.Laws.{name_listed, OneListing}
 use Rattle.go_select_core.proofs.Identifiers.{never_below, never_both}

@@ -3,19 +3,19 @@ use Rattle.std.proofs.Common.{◌≡◌, ℕ, zero, suc, ◌≤◌, Bool, true, 
 use Rattle.std.specs.Prelude.{nat_eq}
 use Rattle.std.specs.Map.{lookup}
 use Rattle.std.proofs.lemmas.Cmp.{nat_eq_equiv}
-use Rattle.go_level_core.specs.decl_core.declared.keys.DeclKey.{DeclKey}
+use Rattle.go_term_core.specs.decl_core.declared.keys.DeclKey.{DeclKey}
 use Rattle.go_term_core.specs.Terms.{Term, NoType, Predeclared, ErrorType, Defined, PointerTo, StructOf, InterfaceOf, Fields}
 use Rattle.go_term_core.proofs.Members.{In}
-use Rattle.go_level_core.specs.table_core.Entries.{Entry, find_entry, same_key, term_in, underlying_in}
-use Rattle.go_level_core.specs.table_core.Keys.{same_key_itself, same_key_true}
-use Rattle.go_level_core.specs.embed_core.Owners.{EmbeddedEdge, Found, owner_in, term_embedded, embedded_in}
-use Rattle.go_level_core.specs.Paths.{Step, FieldsLead, Hit}
+use Rattle.go_embed_core.specs.table_core.Entries.{Entry, find_entry, same_key, term_in, underlying_in}
+use Rattle.go_embed_core.specs.table_core.Keys.{same_key_itself, same_key_true}
+use Rattle.go_embed_core.specs.Owners.{EmbeddedEdge, Found, owner_in, term_embedded, embedded_in}
+use Rattle.go_select_core.specs.levels.Paths.{Step, FieldsLead, Hit}
 use Rattle.go_select_core.specs.Laws.{ShortPathsSuffice}
-use Rattle.go_level_core.specs.mirrors.Ways.{At, IsNumbered, Noted}
-use Rattle.go_level_core.specs.mirrors.Levels.{left_below, left}
-use Rattle.go_level_core.proofs.Edges.{step_edge}
-use Rattle.go_level_core.proofs.Weights.{lookup_more, lookup_new, left_falls}
-use Rattle.go_level_core.proofs.Growing.{numbered_same}
+use Rattle.go_select_core.specs.levels.mirrors.Ways.{At, IsNumbered, Noted}
+use Rattle.go_select_core.specs.levels.mirrors.Levels.{left_below, left}
+use Rattle.go_select_core.proofs.LevelsEdges.{step_edge}
+use Rattle.go_select_core.proofs.LevelsWeights.{lookup_more, lookup_new, left_falls}
+use Rattle.go_select_core.proofs.LevelsGrowing.{numbered_same}
 
 -- whether a type is that defined type
 same_node : (w : Term) (j : DeclKey) → (w ≡ Defined j) ⊎ (w ≡ Defined j → ⊥)

@@ -1,23 +1,23 @@
 -- All names, level by level.
 use Rattle.std.proofs.Common.{◌≡◌, ℕ, zero, suc, ◌+◌, ◌<◌, ◌≤◌, List, [], ◌∷◌, length, Option, Some, None, sym, ap, ◌∙◌, subst, arith}
 use Rattle.go_term_core.specs.Terms.{Term}
-use Rattle.go_level_core.specs.table_core.Entries.{Entry, find_entry}
-use Rattle.go_level_core.specs.embed_core.declared.member.Member as declared_member
-use Rattle.go_level_core.specs.embed_core.Owners.{owner_in}
-use Rattle.go_level_core.specs.embed_core.OwnersShown.{IsNamedAt, found_shown, name_shown, member_package_shown}
-use Rattle.go_level_core.specs.declared.level.Reached.{Reached}
+use Rattle.go_embed_core.specs.table_core.Entries.{Entry, find_entry}
+use Rattle.go_embed_core.specs.declared.member.Member as declared_member
+use Rattle.go_embed_core.specs.Owners.{owner_in}
+use Rattle.go_embed_core.specs.OwnersShown.{IsNamedAt, found_shown, name_shown, member_package_shown}
+use Rattle.go_select_core.specs.declared.levels.level.Reached.{Reached}
 use Rattle.go_select_core.specs.declared.names.Known.{Known}
 use Rattle.go_select_core.specs.declared.names.Known.TheVariants.{One, More}
-use Rattle.go_level_core.specs.Paths.{IsSelected, IsAmbiguous}
-use Rattle.go_level_core.specs.mirrors.Ways.{At, Way, ways, root, IsRight, Begins}
-use Rattle.go_level_core.specs.mirrors.Levels.{IsLevel, IsAbove, HasOne, weight, bound, height, IsNext}
+use Rattle.go_select_core.specs.levels.Paths.{IsSelected, IsAmbiguous}
+use Rattle.go_select_core.specs.levels.mirrors.Ways.{At, Way, ways, root, IsRight, Begins}
+use Rattle.go_select_core.specs.levels.mirrors.Levels.{IsLevel, IsAbove, HasOne, weight, bound, height, IsNext}
 use Rattle.go_select_core.specs.mirrors.Names.{Identifier, identifier_of, identifier_in, known_of, IsSaid, IsSaidOrKnown, AreSaid, AreBefore, AreNamed, NothingSelected, IsKnown, AreKnown}
-use Rattle.go_level_core.proofs.ListLemmas.{at_within}
-use Rattle.go_level_core.proofs.Walks.{deeper_above, no_more}
-use Rattle.go_level_core.proofs.Weights.{height_falls}
-use Rattle.go_level_core.proofs.WayLemmas.{ways_length, ways_back}
-use Rattle.go_level_core.proofs.Growing.{level_next, bounded_next}
-use Rattle.go_level_core.proofs.Searching.{first_level, root_low, level_one, level_more}
+use Rattle.go_select_core.proofs.LevelsListLemmas.{at_within}
+use Rattle.go_select_core.proofs.LevelsWalks.{deeper_above, no_more}
+use Rattle.go_select_core.proofs.LevelsWeights.{height_falls}
+use Rattle.go_select_core.proofs.LevelsWayLemmas.{ways_length, ways_back}
+use Rattle.go_select_core.proofs.LevelsGrowing.{level_next, bounded_next}
+use Rattle.go_select_core.proofs.LevelsSearching.{first_level, root_low, level_one, level_more}
 
 -- what is known of a name once all paths of fewer than k fields are gone through; the types that they lead to stand before the place end
 abbrev pub KnownTo : List Entry → Term → List ℕ → List ℕ → ℕ → ℕ → List Way → Option Known → Type 0

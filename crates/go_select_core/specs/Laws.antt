@@ -1,16 +1,16 @@
 -- Laws of selectors.
 use Rattle.std.specs.Prelude.{◌≡◌, ◌↔◌, ◌≤◌, ℕ, suc, Bool, List, ◌∷◌, length, map, Contains, Result, Ok}
-use Rattle.go_level_core.specs.decl_core.declared.keys.DeclKey.{DeclKey}
-use Rattle.go_text_core.specs.declared.name.Name.{Name}
-use Rattle.go_text_core.specs.declared.rule.Rule.{Rule}
+use Rattle.go_term_core.specs.decl_core.declared.keys.DeclKey.{DeclKey}
+use Rattle.go_path_core.specs.text_core.declared.name.Name.{Name}
+use Rattle.go_path_core.specs.text_core.declared.rule.Rule.{Rule}
 use Rattle.go_term_core.specs.Terms.{Term, StructOf, Fields, term_keys, sign_keys}
-use Rattle.go_level_core.specs.table_core.Entries.{Entry, EntryLook, find_entry}
-use Rattle.go_level_core.specs.table_core.Laws.{AgreeFrom, IsReached}
-use Rattle.go_level_core.specs.embed_core.Owners.{Found, AFieldOf, AMethodOf, AnInterfaces, TheErrorMethod}
-use Rattle.go_level_core.specs.embed_core.OwnersShown.{found_shown}
-use Rattle.go_level_core.specs.declared.search.Selected.{Selected}
-use Rattle.go_level_core.specs.Paths.{FieldsLead, Hit, HasHit}
-use Rattle.go_level_core.specs.Selectors.{IsSelectorAnswer, IsRule}
+use Rattle.go_embed_core.specs.table_core.Entries.{Entry, EntryLook, find_entry}
+use Rattle.go_embed_core.specs.table_core.Laws.{AgreeFrom, IsReached}
+use Rattle.go_embed_core.specs.Owners.{Found, AFieldOf, AMethodOf, AnInterfaces, TheErrorMethod}
+use Rattle.go_embed_core.specs.OwnersShown.{found_shown}
+use Rattle.go_select_core.specs.declared.levels.search.Selected.{Selected}
+use Rattle.go_select_core.specs.levels.Paths.{FieldsLead, Hit, HasHit}
+use Rattle.go_select_core.specs.levels.Selectors.{IsSelectorAnswer, IsRule}
 use Rattle.go_select_core.specs.Selections.{IsListing}
 
 -- a selector has at most one answer

@@ -2,9 +2,8 @@ pub mod Selections
 pub mod PathNames
 pub mod Laws
 pub mod mirrors
-pub mod decl_core
+pub mod levels
+pub mod surveys
 pub mod embed_core
-pub mod level_core
-pub mod settle_core
 pub mod table_core
 pub mod type_core

@@ -1,8 +1,8 @@
 -- The names of the embedded fields along a path.
 use Rattle.std.specs.Prelude.{ℕ, zero, suc, List, [], ◌∷◌, ◌++◌, Option, Some, None, option_to_list}
 use Rattle.go_term_core.specs.Terms.{Term, NoType, Predeclared, ErrorType, Defined, PointerTo, StructOf, InterfaceOf, Fields, NoField, AField}
-use Rattle.go_level_core.specs.table_core.Entries.{EntryLook, underlying_in}
-use Rattle.go_level_core.specs.embed_core.Owners.{EmbeddedEdge, owner_in, embeds_at}
+use Rattle.go_embed_core.specs.table_core.Entries.{EntryLook, underlying_in}
+use Rattle.go_embed_core.specs.Owners.{EmbeddedEdge, owner_in, embeds_at}
 
 -- the name of the field at a place, and none where no field is there
 abbrev pub field_name_at : Fields → ℕ → Option (List ℕ)

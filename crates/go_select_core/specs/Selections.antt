@@ -4,14 +4,14 @@ use Rattle.std.proofs.Common.{Less}
 use Rattle.std.specs.Ordering.{nat_cmp}
 use Rattle.std.specs.Cmp.Lexicographic.{slice_cmp}
 use Rattle.std.specs.Str.{chars}
-use Rattle.go_text_core.specs.Text.{exported, SameId}
-use Rattle.go_text_core.specs.declared.name.Name.{Name}
-use Rattle.go_level_core.specs.table_core.Entries.{EntryLook}
+use Rattle.go_path_core.specs.text_core.Text.{exported, SameId}
+use Rattle.go_path_core.specs.text_core.declared.name.Name.{Name}
+use Rattle.go_embed_core.specs.table_core.Entries.{EntryLook}
 use Rattle.go_term_core.specs.Terms.{Term}
-use Rattle.go_level_core.specs.embed_core.Owners.{Found}
-use Rattle.go_level_core.specs.embed_core.OwnersShown.{name_shown, member_package_shown}
-use Rattle.go_level_core.specs.declared.search.Selected.{Selected}
-use Rattle.go_level_core.specs.Selectors.{IsSelectorAnswer, IsDenoted}
+use Rattle.go_embed_core.specs.Owners.{Found}
+use Rattle.go_embed_core.specs.OwnersShown.{name_shown, member_package_shown}
+use Rattle.go_select_core.specs.declared.levels.search.Selected.{Selected}
+use Rattle.go_select_core.specs.levels.Selectors.{IsSelectorAnswer, IsDenoted}
 
 -- the name a of the package p comes before the name b of the package q, as identifiers: by bytes, and by the packages where the names are
 -- equal and not exported

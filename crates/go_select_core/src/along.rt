@@ -1,15 +1,15 @@
 //! The names of the embedded fields along a path.
 ghost use Rattle.std.specs.Prelude.{◌≡◌, ◌++◌, IfOk, OnOk, map, option_map, option_to_list, slice_get};
-ghost use Rattle.go_level_core.specs.table_core.Entries.{find_entry, underlying_in};
+ghost use Rattle.go_embed_core.specs.table_core.Entries.{find_entry, underlying_in};
 ghost use Rattle.go_term_core.specs.Shapes.{shape, shape_found};
-ghost use Rattle.go_level_core.specs.embed_core.Owners.{owner_in, embeds_at};
+ghost use Rattle.go_embed_core.specs.Owners.{owner_in, embeds_at};
 ghost use Rattle.go_select_core.specs.PathNames.{embedded_target, names_along, term_field_name};
 
-use go_level_core::EmbedPath;
-use go_level_core::embed_core::Owner;
-use go_level_core::type_core::{TypeTable, TypeTerm};
+use crate::levels::EmbedPath;
+use go_embed_core::Owner;
+use go_embed_core::type_core::{TypeTable, TypeTerm};
+use go_path_core::text_core::add;
 use go_term_core::Field;
-use go_text_core::add;
 use std::alloc::{AllocError, Global};
 
 // The name of the field at a place.

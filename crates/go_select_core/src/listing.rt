@@ -1,17 +1,17 @@
 //! All that selectors may denote behind an operand.
 ghost use Rattle.std.specs.Prelude.{◌≡◌, ◌+◌, length, option_to_list, IfOk, OnOk};
-ghost use Rattle.go_level_core.specs.table_core.Entries.{find_entry};
+ghost use Rattle.go_embed_core.specs.table_core.Entries.{find_entry};
 ghost use Rattle.go_term_core.specs.Shapes.{shape};
 ghost use Rattle.go_select_core.specs.Selections.{AreSelections, IsListing};
 ghost use Rattle.go_select_core.specs.mirrors.Names.{names_of, AreBefore, AreNamed, AreSaid, AreKnown};
 ghost use Rattle.go_select_core.specs.mirrors.Listings.{IsWithin, AreWithin, AreListed, AreSelectionsIn, entry_listed, seen_of};
 
+use crate::levels::{Levels, Operand, Reached, Selected, behind, expand, is_field};
 use crate::names::{Known, Names};
-use go_level_core::embed_core::Owner;
-use go_level_core::path_core::ImportPath;
-use go_level_core::type_core::{TypeTable, TypeTerm};
-use go_level_core::{Levels, Operand, Reached, Selected, behind, expand, is_field};
-use go_text_core::{Name, add};
+use go_embed_core::Owner;
+use go_embed_core::type_core::{TypeTable, TypeTerm};
+use go_path_core::ImportPath;
+use go_path_core::text_core::{Name, add};
 use std::alloc::{AllocError, Global};
 
 // How many embedded fields the paths of one listing may have in all, which take eight bytes each: half a gigabyte. A chain of embedded types has some

@@ -2,8 +2,8 @@
 ghost use Rattle.std.specs.Prelude.{◌≡◌, [], if◌then◌else◌, OnOk};
 ghost use Rattle.go_select_core.specs.mirrors.Names.{Identifier, identifier_in, key_shown, same_identifier, names_of, known_of, IsNoted, AreNoted};
 
-use go_level_core::embed_core::Member;
-use go_text_core::is_exported;
+use go_embed_core::Member;
+use go_path_core::text_core::is_exported;
 use std::alloc::{AllocError, Global};
 use std::collections::BTreeMap;
 

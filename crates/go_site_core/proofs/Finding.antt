@@ -8,10 +8,10 @@ use Rattle.std.specs.declared.cmp.Ordering.TheVariants.{Less}
 use Rattle.std.proofs.lemmas.Map.Keys.{sorted_tail}
 use Rattle.std.proofs.lemmas.Option.{get_or_from_slice_get, same_Some, slice_get_within}
 use Rattle.std.specs.Map.{keys_of}
-use Rattle.go_answer_core.specs.graph_core.Places.{IsOrdered, none_there, path_below, place_of, same_text, turned}
-use Rattle.go_answer_core.specs.graph_core.Imports.{IsNumbered}
-use Rattle.go_answer_core.specs.graph_core.Sources.{SourceModel}
-use Rattle.go_answer_core.specs.graph_core.Workspaces.{PackageModel, by_bytes, files_at}
+use Rattle.go_graph_core.proofs.Places.{IsOrdered, none_there, path_below, place_of, same_text, turned}
+use Rattle.go_graph_core.specs.Imports.{IsNumbered}
+use Rattle.go_graph_core.specs.Sources.{SourceModel}
+use Rattle.go_graph_core.specs.Workspaces.{PackageModel, by_bytes, files_at}
 
 -- the package that stands at a number is the one of its path
 pub found_there : (ps : List PackageModel) (i : ℕ) (e : PackageModel) → IsOrdered ps → slice_get ps i ≡ Some e → files_at ps e.0 ≡ Some e.1

@@ -2,7 +2,7 @@
 use Rattle.std.proofs.Common.{◌≡◌, ℕ, List, map, Option, Some, None, option_map, slice_get, sym, ap, ◌∙◌}
 use Rattle.std.proofs.lemmas.Option.{same_Some, slice_get-map}
 use Rattle.go_term_core.specs.declared.term.MemberPlace.{MemberPlace}
-use Rattle.go_answer_core.specs.graph_core.Sources.{SourceModel}
+use Rattle.go_graph_core.specs.Sources.{SourceModel}
 use Rattle.go_site_core.specs.Sites.{file_in, file_number, located_at, located_in, offset_among, offsets_in, with_offset}
 
 -- where two lists show the same, so do the items of one number

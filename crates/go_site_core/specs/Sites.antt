@@ -8,9 +8,9 @@ use Rattle.go_tree_nodes.specs.Trees.{FileTree}
 use Rattle.go_term_core.specs.decl_core.Outer.{places_of}
 use Rattle.go_term_core.specs.declared.term.MemberPlace.{MemberPlace}
 use Rattle.go_term_core.specs.declared.term.MemberPlace.TheVariants as places
-use Rattle.go_answer_core.specs.graph_core.Sources.{SourceModel}
-use Rattle.go_answer_core.specs.graph_core.Workspaces.{PackageModel, files_at}
-use Rattle.go_answer_core.specs.handle_core.Declarations.{Declaration, Universe, OfError, Package, InFile}
+use Rattle.go_graph_core.specs.Sources.{SourceModel}
+use Rattle.go_graph_core.specs.Workspaces.{PackageModel, files_at}
+use Rattle.go_handle_core.specs.Declarations.{Declaration, Universe, OfError, Package, InFile}
 
 -- what a list in memory has
 abbrev pub held_items : {X S : Type 0} → Vec X S → List X

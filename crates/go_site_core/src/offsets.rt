@@ -2,7 +2,7 @@
 ghost use Rattle.std.specs.Prelude.{◌≡◌, map, IfOk};
 ghost use Rattle.go_site_core.specs.Sites.{held_items, offsets_in};
 
-use go_answer_core::graph_core::{PackageSource, SourceFile};
+use go_graph_core::{PackageSource, SourceFile};
 use go_term_core::decl_core::{Places, outline};
 use go_text_core::add;
 use std::alloc::{AllocError, Global};

@@ -2,11 +2,11 @@
 ghost use Rattle.std.specs.Prelude.{◌≡◌, MatchOption, List, None, Some};
 ghost use Rattle.std.specs.List.Sorted.{IsStrictlySortedBy};
 ghost use Rattle.std.specs.Map.{keys_of};
-ghost use Rattle.go_answer_core.specs.graph_core.Imports.{IsNumbered};
-ghost use Rattle.go_answer_core.specs.graph_core.Sources.{SourceModel};
-ghost use Rattle.go_answer_core.specs.graph_core.Workspaces.{by_bytes, files_at};
+ghost use Rattle.go_graph_core.specs.Imports.{IsNumbered};
+ghost use Rattle.go_graph_core.specs.Sources.{SourceModel};
+ghost use Rattle.go_graph_core.specs.Workspaces.{by_bytes, files_at};
 
-use go_answer_core::graph_core::PackageSource;
+use go_graph_core::PackageSource;
 
 /// The number of the package of a path among packages in byte order of path; `None` where there is none of that path. The time is logarithmic in
 /// the packages.

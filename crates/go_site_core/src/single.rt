@@ -1,14 +1,14 @@
 //! How one declaration is written: of the workspace no more is read than its file.
 ghost use Rattle.std.specs.Prelude.{◌≡◌, option_map, slice_get, string_bytes, IfOk};
-ghost use Rattle.go_answer_core.specs.graph_core.Workspaces.{files_at};
+ghost use Rattle.go_graph_core.specs.Workspaces.{files_at};
 ghost use Rattle.go_site_core.specs.Sites.{file_in, file_number, offset_among, offsets_in, place_of_site, site_place, site_text};
 
 use crate::offsets::file_offsets;
 use crate::search::number_of;
 use crate::spelling::{add_text, at_offset, file_number, offset_among};
-use go_answer_core::Site;
-use go_answer_core::graph_core::{SourceFile, Workspace};
-use go_answer_core::handle_core::DeclSite;
+use go_graph_core::{SourceFile, Workspace};
+use go_handle_core::DeclSite;
+use go_report_core::answer::Site;
 use go_term_core::MemberPlace;
 use std::alloc::{AllocError, Global};
 

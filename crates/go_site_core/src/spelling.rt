@@ -1,14 +1,14 @@
 //! How declarations of a workspace are written.
 ghost use Rattle.std.specs.Prelude.{◌≡◌, ◌++◌, Some, map, option_map, string_bytes, IfOk, OnOk};
 ghost use Rattle.go_site_core.specs.Sites.{file_number, held_items, place_of_site, located_in, offset_among, offsets_in, located_text, site_place, site_text, text_at, with_offset};
-ghost use Rattle.go_answer_core.specs.handle_core.Declarations.{site_shown};
+ghost use Rattle.go_handle_core.specs.Declarations.{site_shown};
 
 use crate::offsets::all_offsets;
 use crate::search::number_of;
-use go_answer_core::Site;
-use go_answer_core::graph_core::{SourceFile, Workspace};
-use go_answer_core::handle_core::DeclSite;
+use go_graph_core::{SourceFile, Workspace};
+use go_handle_core::DeclSite;
 use go_object_core::Spelling;
+use go_report_core::answer::Site;
 use go_term_core::MemberPlace;
 use std::alloc::{AllocError, Global};
 use std::marker::Model;
@@ -32,7 +32,7 @@ impl Drop for SiteSpelling<'_> {
 impl<'w> Model for SiteSpelling<'w> {
     ghost use Rattle.std.specs.Prelude.{◌≡◌, List, map};
     ghost use Rattle.std.specs.Coded.{coded_list};
-    ghost use Rattle.go_answer_core.specs.graph_core.Workspaces.{PackageModel, coded_package};
+    ghost use Rattle.go_graph_core.specs.Workspaces.{PackageModel, coded_package};
     ghost use Rattle.go_site_core.specs.Sites.{held_items, offsets_in};
 
     ghost Value = { List PackageModel };

@@ -1,8 +1,8 @@
 -- The faults of one file more.
 use Rattle.std.proofs.Common.{◌≡◌, ℕ, zero, suc, ◌+◌, ◌<◌, List, [], ◌∷◌, ◌++◌, length, map, take, get_or, refl, sym, ap, subst, ◌∙◌, arith, append_assoc, append-nil}
 use Rattle.std.proofs.lemmas.List.{take_more, length-take}
-use Rattle.go_make_core.specs.graph_core.Sources.{SourceModel}
-use Rattle.go_make_core.specs.part_core.Parts.{FileOf}
+use Rattle.go_graph_core.specs.Sources.{SourceModel}
+use Rattle.go_emit_core.specs.package_core.PackagePartParts.{FileOf}
 use Rattle.go_snap_core.specs.declared.fault.PlacedFault.{PlacedFault}
 use Rattle.go_snap_core.specs.mirrors.Reports.{part_faults, placed, text_fault, text_faults}
 

@@ -2,17 +2,17 @@
 use Rattle.std.proofs.Common.{◌≡◌, ℕ, zero, suc, ◌+◌, inl, inr, List, [], ◌∷◌, Option, Some, None, refl, sym, ap, subst, ◌∙◌, arith}
 use Rattle.std.specs.Prelude.{slice_get}
 use Rattle.std.proofs.lemmas.List.Kept.{AllPairs-cons}
-use Rattle.go_make_core.specs.entry_core.Among.{Among}
-use Rattle.go_make_core.specs.graph_core.Workspaces.{PackageModel, IsWorkspace}
-use Rattle.go_make_core.specs.summary_core.Summaries.{SummaryModel, path_of}
-use Rattle.go_make_core.specs.part_core.Parts.{PartModel}
-use Rattle.go_make_core.specs.whole_core.Inputs.{AreParts, Tells}
-use Rattle.go_make_core.specs.whole_core.mirrors.Steps.{AreRight}
-use Rattle.go_make_core.specs.whole_core.Lists.{all_from_among}
-use Rattle.go_make_core.specs.whole_core.Parts.{told_apart}
-use Rattle.go_make_core.specs.whole_core.PartsWhole.{all_right}
-use Rattle.go_make_core.specs.emit_core.Emitted.{AreOfDifferentPackages, told_by}
-use Rattle.go_make_core.specs.part_core.Slots.{somes}
+use Rattle.go_body_core.specs.typexpr_core.EntryAmong.{Among}
+use Rattle.go_graph_core.specs.Workspaces.{PackageModel, IsWorkspace}
+use Rattle.go_report_core.specs.summary_core.Summaries.{SummaryModel, path_of}
+use Rattle.go_emit_core.specs.package_core.PackagePartParts.{PartModel}
+use Rattle.go_snap_core.specs.whole_workspace.Inputs.{AreParts, Tells}
+use Rattle.go_snap_core.specs.whole_workspace.mirrors.Steps.{AreRight}
+use Rattle.go_snap_core.proofs.WholeWorkspaceLists.{all_from_among}
+use Rattle.go_snap_core.proofs.WholeWorkspaceParts.{told_apart}
+use Rattle.go_snap_core.proofs.WholeWorkspacePartsWhole.{all_right}
+use Rattle.go_emit_core.specs.Emitted.{AreOfDifferentPackages, told_by}
+use Rattle.go_emit_core.specs.package_core.PackagePartSlots.{somes}
 
 -- what is told is told by one of the parts
 record IsToldBy (xs : List (Option PartModel)) (s : SummaryModel) : Type 0 where

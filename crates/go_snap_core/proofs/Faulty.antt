@@ -4,20 +4,20 @@ use Rattle.std.specs.Prelude.{slice_get, AllPairs}
 use Rattle.std.specs.Option.{option_map}
 use Rattle.std.proofs.lemmas.List.{length-map}
 use Rattle.std.proofs.lemmas.Option.{slice_get-get_or, slice_get-map, slice_get_within, get_or_from_slice_get}
-use Rattle.go_make_core.specs.graph_core.Packages.{IsAssembled}
-use Rattle.go_make_core.specs.graph_core.Sources.{IsRead}
-use Rattle.go_make_core.specs.graph_core.Workspaces.{PackageModel, AreAllRead, IsWorkspace}
-use Rattle.go_make_core.specs.graph_core.Zips.{numbered_at, numbered_back, numbered_length}
-use Rattle.go_make_core.specs.ready_core.Packages.{trees_in}
-use Rattle.go_make_core.specs.report_core.Faults as report
-use Rattle.go_make_core.specs.part_core.Inputs.{InputModel}
-use Rattle.go_make_core.specs.part_core.Parts.{ContentOf, FileOf, IsFileMadeIn, IsPart, PartModel}
+use Rattle.go_graph_core.specs.Packages.{IsAssembled}
+use Rattle.go_graph_core.specs.Sources.{IsRead}
+use Rattle.go_graph_core.specs.Workspaces.{PackageModel, AreAllRead, IsWorkspace}
+use Rattle.go_graph_core.proofs.Zips.{numbered_at, numbered_back, numbered_length}
+use Rattle.go_emit_core.specs.package_core.PreparePackages.{trees_in}
+use Rattle.go_report_core.specs.Faults as report
+use Rattle.go_emit_core.specs.package_core.PackagePartInputs.{InputModel}
+use Rattle.go_emit_core.specs.package_core.PackagePartParts.{ContentOf, FileOf, IsFileMadeIn, IsPart, PartModel}
 use Rattle.go_snap_core.specs.declared.fault.PlacedFault.{PlacedFault}
 use Rattle.go_snap_core.specs.Faults.{AreFaults}
-use Rattle.go_make_core.specs.whole_core.Inputs.{AreParts, IsPartOf}
+use Rattle.go_snap_core.specs.whole_workspace.Inputs.{AreParts, IsPartOf}
 use Rattle.go_snap_core.specs.Snapshots.{contents_of}
 use Rattle.go_snap_core.specs.mirrors.Reports.{AddsUnassembled, AreFaultsTo, AreOfPackage, part_faults}
-use Rattle.go_make_core.specs.whole_core.Lists.{one_at}
+use Rattle.go_snap_core.proofs.WholeWorkspaceLists.{one_at}
 use Rattle.go_snap_core.proofs.Reporting.{all_faults, one_more, package_all}
 
 pub contents_at : (parts : List (Option PartModel)) (n : ℕ) (x : Option PartModel) → slice_get parts n ≡ Some x → slice_get (contents_of parts) n ≡ Some (option_map (λ (p : PartModel). p.content) x)

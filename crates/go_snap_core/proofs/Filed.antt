@@ -4,14 +4,14 @@ use Rattle.std.specs.Prelude.{MatchOption}
 use Rattle.std.specs.Option.{option_map}
 use Rattle.std.proofs.lemmas.Option.{slice_get-map, slice_get-get_or, slice_get_within}
 use Rattle.go_tree_nodes.specs.Trees.{FileTree}
-use Rattle.go_make_core.specs.graph_core.Packages.{IsTreeAt, tree_shown, trees_of}
-use Rattle.go_make_core.specs.graph_core.Sources.{SourceModel}
-use Rattle.go_make_core.specs.graph_core.Workspaces.{PackageModel, IsWorkspace}
-use Rattle.go_make_core.specs.graph_core.Zips.{numbered_length}
-use Rattle.go_make_core.specs.part_core.Parts.{FileOf, IsFileMadeIn, IsPart, PartModel}
-use Rattle.go_make_core.specs.whole_core.Lists.{one_at}
+use Rattle.go_graph_core.specs.Packages.{IsTreeAt, tree_shown, trees_of}
+use Rattle.go_graph_core.specs.Sources.{SourceModel}
+use Rattle.go_graph_core.specs.Workspaces.{PackageModel, IsWorkspace}
+use Rattle.go_graph_core.proofs.Zips.{numbered_length}
+use Rattle.go_emit_core.specs.package_core.PackagePartParts.{FileOf, IsFileMadeIn, IsPart, PartModel}
+use Rattle.go_snap_core.proofs.WholeWorkspaceLists.{one_at}
 use Rattle.go_snap_core.specs.declared.found.FileIn.{FileIn}
-use Rattle.go_make_core.specs.ready_core.Packages.{trees_in}
+use Rattle.go_emit_core.specs.package_core.PreparePackages.{trees_in}
 use Rattle.go_snap_core.specs.Snapshots.{FoundFile, HasNoFile, IsFileAt, IsPartAt, file_in_shown}
 use Rattle.go_snap_core.proofs.Finding.{one_part_at}
 

@@ -7,15 +7,15 @@ use Rattle.std.specs.List.Sorted.{IsStrictlySortedBy, IsBinarySearchResult, IsSe
 use Rattle.std.specs.Option.{option_map}
 use Rattle.std.specs.Result.{result_ok}
 use Rattle.std.proofs.lemmas.Option.{none-some, slice_get-map, slice_get_within, slice_get_past, slice_get_read, slice_get-get_or, get_or_from_slice_get}
-use Rattle.go_make_core.specs.graph_core.Sources.{SourceModel}
-use Rattle.go_make_core.specs.graph_core.Workspaces.{PackageModel, IsWorkspace, by_bytes, names_of_files}
-use Rattle.go_make_core.specs.used_core.Used.{FileUse}
-use Rattle.go_make_core.specs.part_core.Parts.{FileOf, PartModel}
-use Rattle.go_make_core.specs.whole_core.Lists.{one_at}
+use Rattle.go_graph_core.specs.Sources.{SourceModel}
+use Rattle.go_graph_core.specs.Workspaces.{PackageModel, IsWorkspace, by_bytes, names_of_files}
+use Rattle.go_report_core.specs.usage.Used.{FileUse}
+use Rattle.go_emit_core.specs.package_core.PackagePartParts.{FileOf, PartModel}
+use Rattle.go_snap_core.proofs.WholeWorkspaceLists.{one_at}
 use Rattle.go_snap_core.specs.Snapshots.{IsAnswerAt, IsPartAt}
-use Rattle.go_make_core.proofs.Searching.{found, not_found}
-pub use Rattle.go_make_core.proofs.Searching.{one_key}
-pub use Rattle.go_make_core.proofs.Finding.{one_part_at}
+use Rattle.go_snap_core.proofs.MakeSearching.{found, not_found}
+pub use Rattle.go_snap_core.proofs.MakeSearching.{one_key}
+pub use Rattle.go_snap_core.proofs.MakeFinding.{one_part_at}
 
 -- what a search for a file answers
 pub file_found : (fs : List SourceModel) (name : List ℕ) (r : Result ℕ ℕ) (o : Option ℕ) → o ≡ result_ok r → IsStrictlySortedBy by_bytes (names_of_files fs) → IsSearchInRange r (length fs) → IsBinarySearchResult (λ (f : SourceModel). by_bytes f.name name) fs r

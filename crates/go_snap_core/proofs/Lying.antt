@@ -5,21 +5,21 @@ use Rattle.std.specs.Option.{option_map}
 use Rattle.std.proofs.lemmas.List.{length-map}
 use Rattle.std.proofs.lemmas.Option.{slice_get-map, slice_get_within, get_or_from_slice_get}
 use Rattle.go_tree_nodes.specs.Trees.{FileTree}
-use Rattle.go_local_core.specs.declared.Fault.{Fault}
-use Rattle.go_make_core.specs.graph_core.declared.assembly.KFault.{KFault}
-use Rattle.go_make_core.specs.graph_core.Assemblies.{as_many}
-use Rattle.go_make_core.specs.graph_core.AssemblyLaws.{has_assembly}
-use Rattle.go_make_core.specs.graph_core.Packages.{IsAssembled, IsAssembly, Trees, tree_shown, trees_of}
-use Rattle.go_make_core.specs.graph_core.Sources.{SourceModel}
-use Rattle.go_make_core.specs.graph_core.Workspaces.{PackageModel, IsPackage, IsWorkspace}
-use Rattle.go_make_core.specs.graph_core.Zips.{numbered_at, numbered_back}
-use Rattle.go_make_core.specs.ready_core.Packages.{trees_in}
-use Rattle.go_make_core.specs.report_core.Faults.{IsSaid}
-use Rattle.go_make_core.specs.used_core.Used.{FileUse}
-use Rattle.go_make_core.specs.part_core.Parts.{ContentOf, FileOf, IsFileMadeIn, PartModel}
-use Rattle.go_make_core.specs.whole_core.Inputs.{AreParts, IsPartOf}
-use Rattle.go_make_core.specs.whole_core.Lists.{all_from_among, none_is_some}
-use Rattle.go_make_core.specs.entry_core.Among.{among_to}
+use Rattle.go_names_core.specs.local_core.declared.Fault.{Fault}
+use Rattle.go_graph_core.specs.declared.assembly.KFault.{KFault}
+use Rattle.go_graph_core.proofs.Assemblies.{as_many}
+use Rattle.go_graph_core.proofs.AssemblyLaws.{has_assembly}
+use Rattle.go_graph_core.specs.Packages.{IsAssembled, IsAssembly, Trees, tree_shown, trees_of}
+use Rattle.go_graph_core.specs.Sources.{SourceModel}
+use Rattle.go_graph_core.specs.Workspaces.{PackageModel, IsPackage, IsWorkspace}
+use Rattle.go_graph_core.proofs.Zips.{numbered_at, numbered_back}
+use Rattle.go_emit_core.specs.package_core.PreparePackages.{trees_in}
+use Rattle.go_report_core.specs.Faults.{IsSaid}
+use Rattle.go_report_core.specs.usage.Used.{FileUse}
+use Rattle.go_emit_core.specs.package_core.PackagePartParts.{ContentOf, FileOf, IsFileMadeIn, PartModel}
+use Rattle.go_snap_core.specs.whole_workspace.Inputs.{AreParts, IsPartOf}
+use Rattle.go_snap_core.proofs.WholeWorkspaceLists.{all_from_among, none_is_some}
+use Rattle.go_body_core.specs.typexpr_core.EntryAmong.{among_to}
 use Rattle.go_snap_core.specs.declared.fault.PlacedFault.{PlacedFault}
 use Rattle.go_snap_core.specs.Faults.{AreFaults, IsPlacedBefore, IsWorkspaceFault, IsOfAssembly, IsOfText, IsReportedOf, IsUnassembled, LiesIn, here}
 use Rattle.go_snap_core.specs.Laws.{FaultsDiffer, FaultsLieInFiles, IsFaultless, NoFaultNoRefusal, RefusalsAreFaults}
@@ -27,7 +27,7 @@ use Rattle.go_snap_core.specs.Snapshots.{IsAnswerAt, IsSnapshot, contents_of}
 use Rattle.go_snap_core.specs.mirrors.Reports.{assembly_fault, fault_with}
 use Rattle.go_snap_core.proofs.Faulty.{contents_at}
 use Rattle.go_snap_core.proofs.OneFaults.{never_both}
-use Rattle.go_make_core.specs.graph_core.Places.{some_item}
+use Rattle.go_graph_core.proofs.Places.{some_item}
 
 -- an occurrence of a list says what it says alone
 said_at : (uses : List FileUse) (n : ℕ) (u : FileUse) (f : Fault) → slice_get uses n ≡ Some u → IsSaid (u ∷ []) f → IsSaid uses f

@@ -1,13 +1,13 @@
 -- The faults of packages are one list.
 use Rattle.std.proofs.Common.{◌≡◌, List, Option, arith}
-use Rattle.go_text_core.specs.Rules.{rule_number}
-use Rattle.go_make_core.specs.entry_core.Among.{among_from, among_to}
-use Rattle.go_make_core.specs.graph_core.Workspaces.{PackageModel}
-use Rattle.go_make_core.specs.part_core.Parts.{ContentOf}
+use Rattle.go_path_core.specs.text_core.Rules.{rule_number}
+use Rattle.go_body_core.specs.typexpr_core.EntryAmong.{among_from, among_to}
+use Rattle.go_graph_core.specs.Workspaces.{PackageModel}
+use Rattle.go_emit_core.specs.package_core.PackagePartParts.{ContentOf}
 use Rattle.go_snap_core.specs.declared.fault.PlacedFault.{PlacedFault}
 use Rattle.go_snap_core.specs.Faults.{AreFaults, IsPlacedBefore, InPackage, InFile, ByOffset, ByRule}
 use Rattle.go_snap_core.proofs.Rising.{ordered_same}
-use Rattle.go_make_core.proofs.Searching.{never_less}
+use Rattle.go_snap_core.proofs.MakeSearching.{never_less}
 
 -- no two faults stand each before the other
 pub never_both : (f g : PlacedFault) → IsPlacedBefore f g → IsPlacedBefore g f → ⊥

@@ -2,29 +2,29 @@
 use Rattle.std.proofs.Common.{◌≡◌, ◌+◌, ℕ, List, Option, Some, None, refl, sym, ap, subst, ◌∙◌, arith}
 use Rattle.std.specs.Prelude.{slice_get}
 use Rattle.std.specs.List.{AllZip}
-use Rattle.go_make_core.specs.whole_core.LocalLaws.{CheckIsLocal, ImportsBindTheirs}
-use Rattle.go_make_core.specs.graph_core.PlanLaws.{has_plan}
-use Rattle.go_make_core.specs.block_core.Exports.{ExportsModel}
-use Rattle.go_make_core.specs.block_core.Growing.{given_weaker, package_weaker}
-use Rattle.go_make_core.specs.part_core.Laws.{OnePart}
-use Rattle.go_make_core.specs.summary_core.Summaries.{SummaryModel}
-use Rattle.go_make_core.specs.part_core.Inputs.{InputModel}
-use Rattle.go_make_core.specs.part_core.Parts.{IsPart, PartModel}
-use Rattle.go_make_core.specs.graph_core.declared.imports.ImportAt.{ImportAt}
-use Rattle.go_make_core.specs.graph_core.Packages.{trees_of}
-use Rattle.go_make_core.specs.graph_core.Workspaces.{PackageModel, IsWorkspace}
-use Rattle.go_make_core.specs.graph_core.Zips.{numbered_back, numbered_length, zip_at, zip_back}
-use Rattle.go_make_core.specs.block_core.declared.imports.Imported.{Imported}
-use Rattle.go_make_core.specs.whole_core.Inputs.{AreParts, ComesTo, IsInputOf, IsPartOf, Shown, Tells}
-use Rattle.go_make_core.specs.whole_core.Whole.{WholeOf}
-use Rattle.go_make_core.specs.whole_core.mirrors.Steps.{AreRight}
-use Rattle.go_make_core.specs.whole_core.Beside.{told_of}
-use Rattle.go_make_core.specs.whole_core.Checks.{trees_are_placed}
-use Rattle.go_make_core.specs.whole_core.Lists.{one_at, same_list, zip_weaker}
-use Rattle.go_make_core.specs.whole_core.OneWhole.{one_whole}
-use Rattle.go_make_core.specs.whole_core.Parts.{told_once}
-use Rattle.go_make_core.specs.whole_core.PartsWhole.{IsWholeOfPart, all_right, are_whole, whole_of_part, wholes}
-use Rattle.go_make_core.specs.whole_core.Theirs.{one_import, one_imported}
+use Rattle.go_snap_core.specs.whole_workspace.LocalLaws.{CheckIsLocal, ImportsBindTheirs}
+use Rattle.go_graph_core.proofs.PlanLaws.{has_plan}
+use Rattle.go_names_core.specs.block_core.Exports.{ExportsModel}
+use Rattle.go_names_core.specs.block_core.Growing.{given_weaker, package_weaker}
+use Rattle.go_emit_core.specs.package_core.PackagePartLaws.{OnePart}
+use Rattle.go_report_core.specs.summary_core.Summaries.{SummaryModel}
+use Rattle.go_emit_core.specs.package_core.PackagePartInputs.{InputModel}
+use Rattle.go_emit_core.specs.package_core.PackagePartParts.{IsPart, PartModel}
+use Rattle.go_graph_core.specs.declared.imports.ImportAt.{ImportAt}
+use Rattle.go_graph_core.specs.Packages.{trees_of}
+use Rattle.go_graph_core.specs.Workspaces.{PackageModel, IsWorkspace}
+use Rattle.go_graph_core.proofs.Zips.{numbered_back, numbered_length, zip_at, zip_back}
+use Rattle.go_names_core.specs.block_core.declared.imports.Imported.{Imported}
+use Rattle.go_snap_core.specs.whole_workspace.Inputs.{AreParts, ComesTo, IsInputOf, IsPartOf, Shown, Tells}
+use Rattle.go_snap_core.specs.whole_workspace.Whole.{WholeOf}
+use Rattle.go_snap_core.specs.whole_workspace.mirrors.Steps.{AreRight}
+use Rattle.go_snap_core.proofs.WholeWorkspaceBeside.{told_of}
+use Rattle.go_snap_core.proofs.WholeWorkspaceChecks.{trees_are_placed}
+use Rattle.go_snap_core.proofs.WholeWorkspaceLists.{one_at, same_list, zip_weaker}
+use Rattle.go_snap_core.proofs.WholeWorkspaceOneWhole.{one_whole}
+use Rattle.go_snap_core.proofs.WholeWorkspaceParts.{told_once}
+use Rattle.go_snap_core.proofs.WholeWorkspacePartsWhole.{IsWholeOfPart, all_right, are_whole, whole_of_part, wholes}
+use Rattle.go_snap_core.proofs.WholeWorkspaceTheirs.{one_import, one_imported}
 use Rattle.go_snap_core.specs.Laws.{OneSnapshot}
 use Rattle.go_snap_core.specs.Snapshots.{contents_of}
 use Rattle.go_snap_core.specs.Faults.{AreFaults}

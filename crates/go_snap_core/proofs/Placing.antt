@@ -4,11 +4,11 @@ use Rattle.std.specs.Prelude.{slice_get}
 use Rattle.std.specs.Char.{len_utf8}
 use Rattle.std.specs.Str.{chars, IsUtf8}
 use Rattle.std.proofs.lemmas.List.Sums.{sum_by-append}
-use Rattle.go_text_core.specs.declared.rule.Rule.{Rule}
-use Rattle.go_token_core.specs.declared.token.LexFault.{LexFault}
-use Rattle.go_token_core.specs.declared.kind.Operator.TheVariants as operator
-use Rattle.go_token_core.specs.Characters.{first_passes}
-use Rattle.go_token_core.proofs.CharacterLemmas.{width-chars}
+use Rattle.go_path_core.specs.text_core.declared.rule.Rule.{Rule}
+use Rattle.go_tree_nodes.specs.token_core.declared.token.LexFault.{LexFault}
+use Rattle.go_tree_nodes.specs.token_core.declared.kind.Operator.TheVariants as operator
+use Rattle.go_tree_nodes.specs.token_core.Characters.{first_passes}
+use Rattle.go_tree_nodes.specs.token_core.CharacterLemmas.{width-chars}
 use Rattle.go_scan_core.specs.declared.enclosed.Enclosure.{Enclosure}
 use Rattle.go_scan_core.specs.Enclosed.{opening}
 use Rattle.go_scan_core.specs.Parts.{TextPart, width}
@@ -19,14 +19,14 @@ use Rattle.go_tree_nodes.specs.declared.names.Ident.{Ident}
 use Rattle.go_tree_nodes.specs.Spelling.{mark, spell_imports, spell_tops}
 use Rattle.go_tree_nodes.specs.Trees.{FileTree}
 use Rattle.go_tree_nodes.proofs.InOrder.{in_order_ends}
-use Rattle.go_make_core.specs.parse_core.declared.error.SynFault.{SynFault}
-use Rattle.go_make_core.specs.parse_core.Correct.{IsSynFault}
-use Rattle.go_make_core.specs.graph_core.declared.assembly.KFault.{KFault}
-use Rattle.go_make_core.specs.graph_core.Packages.{IsAssembly}
-use Rattle.go_make_core.specs.graph_core.Sources.{SourceModel, IsContent, IsRead, clause_in}
-use Rattle.go_make_core.specs.graph_core.Workspaces.{PackageModel, IsWorkspace}
-use Rattle.go_make_core.specs.part_core.Parts.{PartModel}
-use Rattle.go_make_core.specs.whole_core.Lists.{none_is_some, one_at}
+use Rattle.go_graph_core.specs.parse_core.declared.error.SynFault.{SynFault}
+use Rattle.go_graph_core.specs.parse_core.Correct.{IsSynFault}
+use Rattle.go_graph_core.specs.declared.assembly.KFault.{KFault}
+use Rattle.go_graph_core.specs.Packages.{IsAssembly}
+use Rattle.go_graph_core.specs.Sources.{SourceModel, IsContent, IsRead, clause_in}
+use Rattle.go_graph_core.specs.Workspaces.{PackageModel, IsWorkspace}
+use Rattle.go_emit_core.specs.package_core.PackagePartParts.{PartModel}
+use Rattle.go_snap_core.proofs.WholeWorkspaceLists.{none_is_some, one_at}
 use Rattle.go_snap_core.specs.declared.fault.PlacedFault.{PlacedFault}
 use Rattle.go_snap_core.specs.Faults.{IsWorkspaceFault, IsOfAssembly, IsOfText, IsUnassembled, LiesIn}
 use Rattle.go_snap_core.specs.Laws.{UnassembledFaultsLieInTexts}

@@ -6,18 +6,18 @@ use Rattle.std.proofs.lemmas.Bool.{cases_eq}
 use Rattle.std.proofs.lemmas.List.{length-set, length-replicate}
 use Rattle.std.proofs.lemmas.List.Sorted.{Contains-permutation, IsPermutation-sym}
 use Rattle.std.proofs.lemmas.Option.{slice_get_within}
-use Rattle.go_make_core.specs.graph_core.Imports.{IsNumbered}
-use Rattle.go_make_core.specs.graph_core.Sources.{SourceModel}
-use Rattle.go_make_core.specs.graph_core.Workspaces.{PackageModel, IsWorkspace}
-use Rattle.go_make_core.specs.graph_core.Zips.{numbered_back, numbered_length}
-use Rattle.go_make_core.specs.entry_core.Among.{Among, among_cases, among_from, among_left, among_right, among_to}
-use Rattle.go_make_core.specs.part_core.Parts.{PartModel}
-use Rattle.go_make_core.specs.whole_core.Inputs.{AreParts, IsPartOf}
-use Rattle.go_make_core.specs.whole_core.Lists.{none_is_some, one_at, same_list}
-use Rattle.go_make_core.specs.whole_core.Beside.{one_place}
-use Rattle.go_make_core.specs.whole_core.Making.{set_back, set_here, set_there}
-use Rattle.go_make_core.proofs.Telling.{nothing_at}
-use Rattle.go_make_core.specs.part_core.Slots.{somes}
+use Rattle.go_graph_core.specs.Imports.{IsNumbered}
+use Rattle.go_graph_core.specs.Sources.{SourceModel}
+use Rattle.go_graph_core.specs.Workspaces.{PackageModel, IsWorkspace}
+use Rattle.go_graph_core.proofs.Zips.{numbered_back, numbered_length}
+use Rattle.go_body_core.specs.typexpr_core.EntryAmong.{Among, among_cases, among_from, among_left, among_right, among_to}
+use Rattle.go_emit_core.specs.package_core.PackagePartParts.{PartModel}
+use Rattle.go_snap_core.specs.whole_workspace.Inputs.{AreParts, IsPartOf}
+use Rattle.go_snap_core.proofs.WholeWorkspaceLists.{none_is_some, one_at, same_list}
+use Rattle.go_snap_core.proofs.WholeWorkspaceBeside.{one_place}
+use Rattle.go_snap_core.proofs.WholeWorkspaceMaking.{set_back, set_here, set_there}
+use Rattle.go_snap_core.proofs.MakeTelling.{nothing_at}
+use Rattle.go_emit_core.specs.package_core.PackagePartSlots.{somes}
 
 -- those that are there
 

@@ -7,30 +7,30 @@ use Rattle.std.proofs.lemmas.Bool.{cases_lt, cases_eq}
 use Rattle.std.proofs.lemmas.List.{length-map}
 use Rattle.std.proofs.lemmas.List.Kept.{AllPairs-cons}
 use Rattle.std.proofs.lemmas.Option.{slice_get_within, get_or_from_slice_get}
-use Rattle.go_text_core.specs.declared.rule.Rule.{Rule}
-use Rattle.go_text_core.specs.declared.rule.Rule.TheVariants.{L1, L2, L3, P1, P2, K4}
-use Rattle.go_token_core.specs.declared.token.LexFault.{LexFault}
-use Rattle.go_token_core.specs.Characters.{first_passes}
+use Rattle.go_path_core.specs.text_core.declared.rule.Rule.{Rule}
+use Rattle.go_path_core.specs.text_core.declared.rule.Rule.TheVariants.{L1, L2, L3, P1, P2, K4}
+use Rattle.go_tree_nodes.specs.token_core.declared.token.LexFault.{LexFault}
+use Rattle.go_tree_nodes.specs.token_core.Characters.{first_passes}
 use Rattle.go_scan_core.specs.Parts.{TextPart, width}
 use Rattle.go_scan_core.specs.Tokens.{AreTextParts, IsAnswer}
 use Rattle.go_scan_core.specs.Tokens as lexemes
 use Rattle.go_tree_nodes.specs.Trees.{FileTree}
-use Rattle.go_make_core.specs.parse_core.declared.error.SynFault.{SynFault}
-use Rattle.go_make_core.specs.parse_core.Correct.{IsSynFault}
-use Rattle.go_make_core.specs.graph_core.declared.assembly.KFault.{KFault}
-use Rattle.go_make_core.specs.graph_core.Packages.{AllHaveTrees, HasNoClause, IsAssembly, IsK4}
-use Rattle.go_make_core.specs.graph_core.Sources.{SourceModel, IsContent, IsRead, clause_in}
-use Rattle.go_make_core.specs.graph_core.Workspaces.{PackageModel}
-use Rattle.go_make_core.specs.graph_core.AssemblyLaws.{has_no_other_assembly}
-use Rattle.go_local_core.specs.declared.Fault.{Fault}
-use Rattle.go_make_core.specs.report_core.Faults.{number_order}
-use Rattle.go_make_core.specs.report_core.Faults as report
-use Rattle.go_make_core.specs.entry_core.Among.{Among, among_cases, among_from, among_left, among_map, among_right, among_to, map_among}
-use Rattle.go_make_core.specs.part_core.Parts.{ContentOf, FileOf}
+use Rattle.go_graph_core.specs.parse_core.declared.error.SynFault.{SynFault}
+use Rattle.go_graph_core.specs.parse_core.Correct.{IsSynFault}
+use Rattle.go_graph_core.specs.declared.assembly.KFault.{KFault}
+use Rattle.go_graph_core.specs.Packages.{AllHaveTrees, HasNoClause, IsAssembly, IsK4}
+use Rattle.go_graph_core.specs.Sources.{SourceModel, IsContent, IsRead, clause_in}
+use Rattle.go_graph_core.specs.Workspaces.{PackageModel}
+use Rattle.go_graph_core.proofs.AssemblyLaws.{has_no_other_assembly}
+use Rattle.go_names_core.specs.local_core.declared.Fault.{Fault}
+use Rattle.go_report_core.specs.Faults.{number_order}
+use Rattle.go_report_core.specs.Faults as report
+use Rattle.go_body_core.specs.typexpr_core.EntryAmong.{Among, among_cases, among_from, among_left, among_map, among_right, among_to, map_among}
+use Rattle.go_emit_core.specs.package_core.PackagePartParts.{ContentOf, FileOf}
 use Rattle.go_snap_core.specs.declared.fault.PlacedFault.{PlacedFault}
 use Rattle.go_snap_core.specs.Faults.{AreFaults, IsPlacedBefore, InPackage, InFile, ByOffset, ByRule, IsWorkspaceFault, IsOfAssembly, IsOfText, IsReportedOf, IsUnassembled, here}
 use Rattle.go_snap_core.specs.mirrors.Reports.{AreFaultsTo, AreOfPackage, AreUnassembled, assembly_fault, fault_with, part_faults, placed, text_fault, text_faults}
-use Rattle.go_make_core.specs.whole_core.Lists.{all_from_among, none_is_some, one_at, pairs_head, pairs_tail}
+use Rattle.go_snap_core.proofs.WholeWorkspaceLists.{all_from_among, none_is_some, one_at, pairs_head, pairs_tail}
 
 -- lists in order
 

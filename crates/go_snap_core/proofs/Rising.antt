@@ -4,8 +4,8 @@ use Rattle.std.specs.Prelude.{◌↔◌, AllPairs, Contains}
 use Rattle.std.specs.List.{AllZip}
 use Rattle.std.specs.List.Sorted.{IsStrictlyIncreasing}
 use Rattle.std.proofs.lemmas.List.Kept.{AllPairs-from_increasing}
-use Rattle.go_make_core.specs.entry_core.Among.{Among, among_from, among_to}
-use Rattle.go_make_core.specs.whole_core.Lists.{pairs_head, pairs_tail}
+use Rattle.go_body_core.specs.typexpr_core.EntryAmong.{Among, among_from, among_to}
+use Rattle.go_snap_core.proofs.WholeWorkspaceLists.{pairs_head, pairs_tail}
 
 module _ {A : Type 0} (R : A → A → Type 0) (never_both : (x y : A) → R x y → R y x → ⊥) where
   first_same : (x y : A) (xs ys : List A) → AllPairs R (x ∷ xs) → AllPairs R (y ∷ ys) → (y ≡ x) ⊎ Among ys x → (x ≡ y) ⊎ Among xs y → x ≡ y

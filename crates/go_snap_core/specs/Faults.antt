@@ -3,14 +3,14 @@
 -- docs/RULES.md, "Packages", "Reported faults", "Whole workspaces".
 use Rattle.std.specs.Prelude.{◌≡◌, ◌↔◌, ◌⊎◌, ◌<◌, List, Option, Some, None, Err, AllPairs, Contains, slice_get}
 use Rattle.std.specs.declared.cmp.Ordering.TheVariants.{Less}
-use Rattle.go_make_core.specs.graph_core.declared.assembly.KFault.{KFault}
-use Rattle.go_make_core.specs.graph_core.Packages.{IsAssembly}
-use Rattle.go_make_core.specs.graph_core.Sources.{SourceModel}
-use Rattle.go_make_core.specs.graph_core.Workspaces.{PackageModel}
-use Rattle.go_make_core.specs.parse_core.declared.error.SynFault.{SynFault}
-use Rattle.go_local_core.specs.declared.Fault.{Fault}
-use Rattle.go_make_core.specs.report_core.Faults.{number_order}
-use Rattle.go_make_core.specs.part_core.Parts.{ContentOf, FileOf}
+use Rattle.go_graph_core.specs.declared.assembly.KFault.{KFault}
+use Rattle.go_graph_core.specs.Packages.{IsAssembly}
+use Rattle.go_graph_core.specs.Sources.{SourceModel}
+use Rattle.go_graph_core.specs.Workspaces.{PackageModel}
+use Rattle.go_graph_core.specs.parse_core.declared.error.SynFault.{SynFault}
+use Rattle.go_names_core.specs.local_core.declared.Fault.{Fault}
+use Rattle.go_report_core.specs.Faults.{number_order}
+use Rattle.go_emit_core.specs.package_core.PackagePartParts.{ContentOf, FileOf}
 use Rattle.go_snap_core.specs.declared.fault.PlacedFault.{PlacedFault}
 
 -- the same place in a file

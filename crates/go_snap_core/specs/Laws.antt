@@ -1,11 +1,11 @@
 -- Laws of snapshots.
 use Rattle.std.specs.Prelude.{◌≡◌, ◌≢◌, ◌≤◌, ℕ, List, [], ◌∷◌, length, Option, Some, None, All, AllPairs, Contains, slice_get}
 use Rattle.std.specs.Str.{IsUtf8}
-use Rattle.go_local_core.specs.declared.Fault.{Fault}
-use Rattle.go_make_core.specs.graph_core.Workspaces.{PackageModel, IsWorkspace}
-use Rattle.go_make_core.specs.part_core.Parts.{PartModel}
-use Rattle.go_make_core.specs.report_core.Faults.{IsSaid}
-use Rattle.go_make_core.specs.used_core.Used.{FileUse}
+use Rattle.go_names_core.specs.local_core.declared.Fault.{Fault}
+use Rattle.go_graph_core.specs.Workspaces.{PackageModel, IsWorkspace}
+use Rattle.go_emit_core.specs.package_core.PackagePartParts.{PartModel}
+use Rattle.go_report_core.specs.Faults.{IsSaid}
+use Rattle.go_report_core.specs.usage.Used.{FileUse}
 use Rattle.go_snap_core.specs.declared.fault.PlacedFault.{PlacedFault}
 use Rattle.go_snap_core.specs.Faults.{LiesIn, here}
 use Rattle.go_snap_core.specs.Snapshots.{IsAnswerAt, IsSnapshot}

@@ -7,18 +7,18 @@ use Rattle.std.specs.List.Sorted.{IsPermutation}
 use Rattle.std.specs.Option.{option_map}
 use Rattle.go_tree_nodes.specs.Shapes.{file_of}
 use Rattle.go_tree_nodes.specs.Trees.{FileTree}
-use Rattle.go_make_core.specs.graph_core.Sources.{SourceModel}
-use Rattle.go_make_core.specs.graph_core.Workspaces.{PackageModel}
-use Rattle.go_make_core.specs.used_core.Used.{FileUse}
-use Rattle.go_make_core.specs.part_core.Parts.{ContentOf, FileOf, PartModel, file_shown}
+use Rattle.go_graph_core.specs.Sources.{SourceModel}
+use Rattle.go_graph_core.specs.Workspaces.{PackageModel}
+use Rattle.go_report_core.specs.usage.Used.{FileUse}
+use Rattle.go_emit_core.specs.package_core.PackagePartParts.{ContentOf, FileOf, PartModel, file_shown}
 use Rattle.go_snap_core.specs.declared.fault.PlacedFault.{PlacedFault}
 use Rattle.go_snap_core.specs.declared.found.FileIn.{FileIn}
 use Rattle.go_snap_core.specs.Faults.{AreFaults}
-use Rattle.go_make_core.specs.whole_core.Inputs.{AreParts}
-use Rattle.go_make_core.specs.whole_core.Entries.{IsPartEntry}
-use Rattle.go_make_core.specs.whole_core.Whole.{AreWhole, WholeOf}
-use Rattle.go_make_core.specs.part_core.Slots.{somes}
-pub use Rattle.go_make_core.specs.Finding.{IsPartAt}
+use Rattle.go_snap_core.specs.whole_workspace.Inputs.{AreParts}
+use Rattle.go_snap_core.specs.whole_workspace.Entries.{IsPartEntry}
+use Rattle.go_snap_core.specs.whole_workspace.Whole.{AreWhole, WholeOf}
+use Rattle.go_emit_core.specs.package_core.PackagePartSlots.{somes}
+pub use Rattle.go_snap_core.specs.make.Finding.{IsPartAt}
 
 abbrev pub contents_of : List (Option PartModel) → List (Option ContentOf)
 contents_of ps = map (option_map (λ (p : PartModel). p.content)) ps

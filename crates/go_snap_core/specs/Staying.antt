@@ -1,7 +1,7 @@
 -- What stays from one snapshot to another.
 use Rattle.std.specs.Prelude.{◌≡◌, ℕ, List, Bool, true, Option, Some, slice_get}
-use Rattle.go_make_core.specs.graph_core.Workspaces.{PackageModel}
-use Rattle.go_make_core.specs.part_core.Parts.{PartModel}
+use Rattle.go_graph_core.specs.Workspaces.{PackageModel}
+use Rattle.go_emit_core.specs.package_core.PackagePartParts.{PartModel}
 use Rattle.go_snap_core.specs.Snapshots.{SnapshotModel}
 
 -- where marked, the package of a number, and its part, are those of this number in the earlier snapshot

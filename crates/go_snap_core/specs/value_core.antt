@@ -1,7 +1,9 @@
 -- What the crates above name of go_value_core.
-pub use Rattle.go_make_core.specs.value_core.Initial as Initial
-pub use Rattle.go_make_core.specs.value_core.Laws as Laws
-pub use Rattle.go_make_core.specs.value_core.Owning as Owning
-pub use Rattle.go_make_core.specs.value_core.Package as Package
-pub use Rattle.go_make_core.specs.value_core.Seeing as Seeing
-pub use Rattle.go_make_core.specs.value_core.mirrors as mirrors
+pub use Rattle.go_value_core.specs.Around as Around
+pub use Rattle.go_value_core.proofs.Deciding as Deciding
+pub use Rattle.go_value_core.specs.Initial as Initial
+pub use Rattle.go_value_core.specs.Laws as Laws
+pub use Rattle.go_value_core.proofs.Owning as Owning
+pub use Rattle.go_value_core.specs.Package as Package
+pub use Rattle.go_value_core.proofs.Seeing as Seeing
+pub use Rattle.go_value_core.specs.mirrors as mirrors

@@ -1,15 +1,15 @@
 //! The faults of a workspace, in order.
 ghost use Rattle.std.specs.Prelude.{◌≡◌, ◌++◌, IfOk, OnOk, map};
-ghost use Rattle.go_make_core.specs.graph_core.Packages.{IsAssembled};
+ghost use Rattle.go_graph_core.specs.Packages.{IsAssembled};
 ghost use Rattle.go_snap_core.specs.Faults.{AreFaults};
-ghost use Rattle.go_make_core.specs.whole_core.Inputs.{AreParts};
+ghost use Rattle.go_snap_core.specs.whole_workspace.Inputs.{AreParts};
 ghost use Rattle.go_snap_core.specs.Snapshots.{contents_of};
 ghost use Rattle.go_snap_core.specs.mirrors.Reports.{AddsUnassembled, part_faults, placed, text_faults};
 
-use go_local_core::Fault;
-use go_make_core::graph_core::{PackageSource, SourceFile, Workspace, assemble};
-use go_make_core::part_core::Part;
-use go_text_core::Rule;
+use go_emit_core::package_core::Part;
+use go_graph_core::{PackageSource, SourceFile, Workspace, assemble};
+use go_names_core::local_core::Fault;
+use go_path_core::text_core::Rule;
 use std::alloc::{AllocError, Global};
 
 /// A rule that is broken at a place of a workspace. Faults are in order of package, file, offset, and of the bytes of the rule's number.

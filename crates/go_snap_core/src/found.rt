@@ -1,7 +1,7 @@
 //! Files of snapshots.
 
-use go_make_core::graph_core::SourceFile;
-use go_make_core::part_core::{Part, PartFile};
+use go_emit_core::package_core::{Part, PartFile};
+use go_graph_core::SourceFile;
 use go_tree_nodes::File;
 
 /// A file of an assembled package of a snapshot.

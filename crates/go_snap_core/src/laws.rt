@@ -1,8 +1,8 @@
 //! Laws of snapshots, with nothing to run.
 ghost use Rattle.go_snap_core.specs.Laws.{FaultsDiffer, FaultsLieInFiles, NoFaultNoRefusal, OneSnapshot, RefusalsAreFaults, UnassembledFaultsLieInTexts};
 
-use go_make_core::part_core::one_part;
-use go_make_core::whole_core::{check_is_local, imports_bind_theirs};
+use crate::whole_workspace::{check_is_local, imports_bind_theirs};
+use go_emit_core::package_core::one_part;
 
 /// There is at most one snapshot of a workspace: of each package what its part is made from and what it has, and all faults, follow from the trees
 /// of all files. So `join` gives what `compile` gives.

@@ -1,16 +1,16 @@
 //! The snapshot of a workspace.
 ghost use Rattle.std.specs.Prelude.{◌≡◌, IfOk};
-ghost use Rattle.go_make_core.specs.graph_core.Workspaces.{IsWorkspace};
-ghost use Rattle.go_make_core.specs.whole_core.Inputs.{AreParts};
-ghost use Rattle.go_make_core.specs.Keeping.{AreKept};
+ghost use Rattle.go_graph_core.specs.Workspaces.{IsWorkspace};
+ghost use Rattle.go_snap_core.specs.whole_workspace.Inputs.{AreParts};
+ghost use Rattle.go_snap_core.specs.make.Keeping.{AreKept};
 ghost use Rattle.go_snap_core.specs.Snapshots.{IsSnapshot};
 
 use crate::fault::{PlacedFault, faults_of};
+use crate::make::{parts_again, parts_of};
 use crate::snapshot::Snapshot;
-use go_make_core::graph_core::Workspace;
-use go_make_core::part_core::Parts;
-use go_make_core::whole_core::{check_is_local, imports_bind_theirs};
-use go_make_core::{parts_again, parts_of};
+use crate::whole_workspace::{check_is_local, imports_bind_theirs};
+use go_emit_core::package_core::Parts;
+use go_graph_core::Workspace;
 use std::alloc::{AllocError, Global};
 
 /// A snapshot that was made over an earlier one.

@@ -20,11 +20,11 @@ impl Drop for SharedSnapshot {
 impl Model for SharedSnapshot {
     ghost use Rattle.std.specs.Arc.{arc_value};
     ghost use Rattle.std.specs.Coded.{codes};
-    ghost use Rattle.go_make_core.specs.graph_core.Workspaces.{coded_package};
-    ghost use Rattle.go_make_core.specs.block_core.Blocks.{coded_blocks};
-    ghost use Rattle.go_make_core.specs.face_core.codes.FaceCodes.{coded_face, coded_operand};
-    ghost use Rattle.go_make_core.specs.summary_core.codes.SummaryCodes.{coded_summary};
-    ghost use Rattle.go_make_core.specs.part_core.Inputs.{coded_input};
+    ghost use Rattle.go_graph_core.specs.Workspaces.{coded_package};
+    ghost use Rattle.go_names_core.specs.block_core.Blocks.{coded_blocks};
+    ghost use Rattle.go_emit_core.specs.declared_core.codes.FaceCodes.{coded_face, coded_operand};
+    ghost use Rattle.go_report_core.specs.summary_core.codes.SummaryCodes.{coded_summary};
+    ghost use Rattle.go_emit_core.specs.package_core.PackagePartInputs.{coded_input};
     ghost use Rattle.go_snap_core.specs.Snapshots.{SnapshotModel};
 
     ghost Value = { SnapshotModel };

@@ -1,27 +1,27 @@
 //! Snapshots.
 ghost use Rattle.std.specs.Prelude.{◌≡◌, ◌≤◌, ℕ, List, [], All, IfErr, IfOk, MatchOption, None, Some, length, map, replicate, slice_get, slice_set, vec_capacity};
 ghost use Rattle.std.specs.List.Sorted.{IsPermutation, IsStrictlySortedBy};
-ghost use Rattle.go_make_core.specs.graph_core.Imports.{IsNumbered};
-ghost use Rattle.go_make_core.specs.graph_core.Sources.{SourceModel};
-ghost use Rattle.go_make_core.specs.graph_core.Workspaces.{IsWorkspace, by_bytes, names_of_files};
-ghost use Rattle.go_make_core.specs.used_core.Used.{FileUse};
-ghost use Rattle.go_make_core.specs.part_core.Parts.{PartModel};
-ghost use Rattle.go_make_core.specs.whole_core.Inputs.{AreParts};
+ghost use Rattle.go_graph_core.specs.Imports.{IsNumbered};
+ghost use Rattle.go_graph_core.specs.Sources.{SourceModel};
+ghost use Rattle.go_graph_core.specs.Workspaces.{IsWorkspace, by_bytes, names_of_files};
+ghost use Rattle.go_report_core.specs.usage.Used.{FileUse};
+ghost use Rattle.go_emit_core.specs.package_core.PackagePartParts.{PartModel};
+ghost use Rattle.go_snap_core.specs.whole_workspace.Inputs.{AreParts};
 ghost use Rattle.go_object_core.specs.Objects.{object_shown};
-ghost use Rattle.go_make_core.specs.emit_core.Emitted.{objects_of};
+ghost use Rattle.go_emit_core.specs.Emitted.{objects_of};
 ghost use Rattle.go_snap_core.specs.Snapshots.{ArePartsOf, HasNoFile, IsAnswerAt, IsFileAt, IsPartAt, IsSnapshot, file_in_shown, snapshot_with};
-ghost use Rattle.go_make_core.specs.part_core.Slots.{somes};
+ghost use Rattle.go_emit_core.specs.package_core.PackagePartSlots.{somes};
 
 use crate::fault::{PlacedFault, faults_of};
 use crate::found::FileIn;
-use go_make_core::answer_core::{Answer, Site};
-use go_make_core::emit_core::emit_all;
-use go_make_core::graph_core::{PackageSource, SourceFile, Workspace};
-use go_make_core::part_core::{Part, PartInput, Parts};
-use go_make_core::whole_core::parts_are_whole;
-use go_make_core::{package_of, part_of};
+use crate::make::{package_of, part_of};
+use crate::whole_workspace::parts_are_whole;
+use go_emit_core::emit_all;
+use go_emit_core::package_core::{Part, PartInput, Parts};
+use go_graph_core::{PackageSource, SourceFile, Workspace};
 use go_object_core::Object;
 use go_path_core::ImportPath;
+use go_report_core::answer::{Answer, Site};
 use go_tree_core::OccId;
 use std::alloc::{AllocError, Global};
 use std::marker::Model;
@@ -47,11 +47,11 @@ impl Drop for Snapshot {
 
 impl Model for Snapshot {
     ghost use Rattle.std.specs.Coded.{codes};
-    ghost use Rattle.go_make_core.specs.graph_core.Workspaces.{coded_package};
-    ghost use Rattle.go_make_core.specs.block_core.Blocks.{coded_blocks};
-    ghost use Rattle.go_make_core.specs.face_core.codes.FaceCodes.{coded_face, coded_operand};
-    ghost use Rattle.go_make_core.specs.summary_core.codes.SummaryCodes.{coded_summary};
-    ghost use Rattle.go_make_core.specs.part_core.Inputs.{coded_input};
+    ghost use Rattle.go_graph_core.specs.Workspaces.{coded_package};
+    ghost use Rattle.go_names_core.specs.block_core.Blocks.{coded_blocks};
+    ghost use Rattle.go_emit_core.specs.declared_core.codes.FaceCodes.{coded_face, coded_operand};
+    ghost use Rattle.go_report_core.specs.summary_core.codes.SummaryCodes.{coded_summary};
+    ghost use Rattle.go_emit_core.specs.package_core.PackagePartInputs.{coded_input};
     ghost use Rattle.go_snap_core.specs.Snapshots.{IsSnapshot, SnapshotModel, snapshot_with};
 
     ghost Value = { SnapshotModel };

@@ -4,3 +4,4 @@ pub mod Numbers
 mod Places
 pub mod Sounds
 pub mod Trees
+mod HistoryRules

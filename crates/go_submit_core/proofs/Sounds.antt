@@ -6,9 +6,9 @@ use Rattle.std.proofs.lemmas.List.{take-append-le, take_all, flat_map_more, leng
 use Rattle.std.proofs.lemmas.List.Elements.{All-append, All-nil}
 use Rattle.std.proofs.Math.Seq.{take-append-add}
 use Rattle.std.proofs.lemmas.Option.{slice_get_within, get_or_from_slice_get}
-use Rattle.go_snap_core.specs.graph_core.Workspaces.{PackageModel, AreAllRead, IsWorkspace, replaced}
-use Rattle.go_snap_core.specs.part_core.Parts.{PartModel}
-use Rattle.go_snap_core.specs.whole_core.Inputs.{IsPartOf}
+use Rattle.go_graph_core.specs.Workspaces.{PackageModel, AreAllRead, IsWorkspace, replaced}
+use Rattle.go_package_core.specs.package_part.Parts.{PartModel}
+use Rattle.go_snap_core.specs.whole_workspace.Inputs.{IsPartOf}
 use Rattle.go_snap_core.specs.Snapshots.{IsPartAt, IsSnapshot, SnapshotModel}
 use Rattle.go_submit_core.specs.declared.submission.Submission.{Submission}
 use Rattle.go_submit_core.specs.declared.published.PublishedBatch.{PublishedBatch}

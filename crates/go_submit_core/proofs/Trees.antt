@@ -4,11 +4,11 @@ use Rattle.std.specs.List.{fold}
 use Rattle.std.specs.Str.{bytes_eq}
 use Rattle.std.proofs.lemmas.List.Sums.{fold-append}
 use Rattle.std.proofs.lemmas.Slice.Eq.{bytes_eq-Decides}
-use Rattle.go_text_core.proofs.Each.{true_or_false}
+use Rattle.go_path_core.specs.text_core.Each.{true_or_false}
 use Rattle.go_path_core.specs.Path.{elements}
 use Rattle.go_path_core.proofs.Paths.{begins_is}
-use Rattle.go_snap_core.specs.graph_core.Workspaces.{PackageModel, IsWorkspace, Replaces, files_at, is_path_inside, replaced}
-use Rattle.go_snap_core.specs.graph_core.Keeping.{replaces}
+use Rattle.go_graph_core.specs.Workspaces.{PackageModel, IsWorkspace, Replaces, files_at, is_path_inside, replaced}
+use Rattle.go_graph_core.proofs.Keeping.{replaces}
 use Rattle.go_submit_core.specs.declared.submission.Submission.{Submission}
 use Rattle.go_submit_core.specs.declared.published.PublishedBatch.{PublishedBatch}
 use Rattle.go_submit_core.specs.Trees.{TreeModel}

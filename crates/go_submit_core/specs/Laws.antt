@@ -2,8 +2,8 @@
 use Rattle.std.specs.Prelude.{◌≡◌, ℕ, true, if◌then◌else◌, List, [], ◌∷◌, ◌++◌, Option, Some, None, All}
 use Rattle.std.specs.List.{flat_map, fold}
 use Rattle.std.specs.Str.{bytes_eq}
-use Rattle.go_snap_core.specs.graph_core.Sources.{SourceModel}
-use Rattle.go_snap_core.specs.graph_core.Workspaces.{PackageModel, IsWorkspace, files_at, is_path_inside, replaced}
+use Rattle.go_graph_core.specs.Sources.{SourceModel}
+use Rattle.go_graph_core.specs.Workspaces.{PackageModel, IsWorkspace, files_at, is_path_inside, replaced}
 use Rattle.go_snap_core.specs.Snapshots.{SnapshotModel}
 use Rattle.go_submit_core.specs.Published.{IsOneWorker, sources_of}
 pub use Rattle.go_submit_core.specs.Submitted.{AreWorkspaces}

@@ -5,5 +5,6 @@ pub mod Published
 pub mod Submitted
 pub mod Trees
 pub mod mirrors
-pub mod graph_core
-pub mod part_core
+pub mod history
+pub mod package_core
+pub mod snap_core

@@ -1,8 +1,8 @@
 -- What published batches come to.
 use Rattle.std.specs.Prelude.{◌≡◌, ℕ, ◌+◌, ◌-◌, Bool, if◌then◌else◌, List, [], ◌∷◌, ◌++◌, length, Option, Some, None, MatchOption, ⊤, slice_get, take}
 use Rattle.std.specs.List.{fold}
-use Rattle.go_snap_core.specs.graph_core.Workspaces.{PackageModel}
-use Rattle.go_snap_core.specs.part_core.Parts.{PartModel}
+use Rattle.go_graph_core.specs.Workspaces.{PackageModel}
+use Rattle.go_package_core.specs.package_part.Parts.{PartModel}
 use Rattle.go_snap_core.specs.Snapshots.{IsPartAt, IsSnapshot, SnapshotModel}
 use Rattle.go_snap_core.specs.Staying.{StaysWhere}
 use Rattle.go_submit_core.specs.Modules.{with_trees}

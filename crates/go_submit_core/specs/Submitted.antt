@@ -2,7 +2,7 @@
 use Rattle.std.specs.Prelude.{refl, ℕ, Bool, nat_eq, List, All}
 use Rattle.std.specs.List.{fold, list_any}
 use Rattle.std.specs.Coded.{Coded, code_by, coded×, coded_list, coded_ℕ}
-use Rattle.go_snap_core.specs.graph_core.Workspaces.{PackageModel, IsWorkspace, replaced}
+use Rattle.go_graph_core.specs.Workspaces.{PackageModel, IsWorkspace, replaced}
 use Rattle.go_submit_core.specs.Trees.{TreeModel, coded_tree}
 use Rattle.go_submit_core.specs.declared.submission.Submission.{Submission}
 

@@ -2,10 +2,10 @@
 use Rattle.std.specs.Prelude.{refl, ℕ, Bool, not, ◌&&◌, ◌||◌, nat_eq, nat_le, nat_lt, if◌then◌else◌, List, length, Option, Some, None, codes}
 use Rattle.std.specs.List.{list_any, list_all, starts_with, ends_with}
 use Rattle.std.specs.Coded.{Coded, code_by, coded×, coded_list, coded_ℕ}
-use Rattle.go_text_core.specs.declared.rule.Rule.{Rule}
-use Rattle.go_text_core.specs.declared.rule.Rule.TheVariants.{E1, E2, E3, E4, E5}
-use Rattle.go_snap_core.specs.graph_core.Sources.{SourceModel}
-use Rattle.go_snap_core.specs.graph_core.Workspaces.{PackageModel, coded_package, is_path_inside}
+use Rattle.go_path_core.specs.text_core.declared.rule.Rule.{Rule}
+use Rattle.go_path_core.specs.text_core.declared.rule.Rule.TheVariants.{E1, E2, E3, E4, E5}
+use Rattle.go_graph_core.specs.Sources.{SourceModel}
+use Rattle.go_graph_core.specs.Workspaces.{PackageModel, coded_package, is_path_inside}
 
 pub record TreeModel : Type 0 where
   pub own : List ℕ

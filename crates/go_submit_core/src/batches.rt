@@ -1,7 +1,7 @@
 //! The published batches, shared.
 ghost use Rattle.std.specs.Prelude.{◌≡◌, ◌++◌, ◌∷◌, [], IfOk, IfSome, MatchOption, length, slice_get};
 ghost use Rattle.std.specs.Option.{option_copied};
-ghost use Rattle.go_snap_core.specs.graph_core.Workspaces.{AreAllRead};
+ghost use Rattle.go_graph_core.specs.Workspaces.{AreAllRead};
 ghost use Rattle.go_submit_core.specs.Laws.{HaveLastTrees};
 ghost use Rattle.go_submit_core.specs.Published.{AreSound, IsEarlierPart, IsFoundIn, IsOneWorker, LeavesWhere, last_of, modules_of, number_of, sources_of};
 ghost use Rattle.go_submit_core.specs.Submitted.{submitted};
@@ -13,10 +13,10 @@ use crate::module_list::ModuleList;
 use crate::modules::shared_modules;
 use crate::published::PublishedBatch;
 use crate::submission::{Ticket, has_ticket};
+use go_graph_core::Workspace;
+use go_package_core::package_part::Part;
 use go_path_core::{ImportPath, Module};
 use go_snap_core::SharedSnapshot;
-use go_snap_core::graph_core::Workspace;
-use go_snap_core::part_core::Part;
 use std::alloc::{AllocError, Global};
 use std::marker::Model;
 use std::sync::Arc;

@@ -3,9 +3,9 @@ ghost use Rattle.std.specs.Prelude.{◌≡◌, IfOk};
 ghost use Rattle.std.specs.Option.{option_copied};
 ghost use Rattle.go_submit_core.specs.Published.{LeavesWhere};
 
+use crate::history::KeptSnapshot;
 use crate::published::PublishedBatch;
 use crate::submission::Submissions;
-use go_history_core::KeptSnapshot;
 use go_snap_core::Snapshot;
 use std::alloc::{AllocError, Global};
 use std::marker::Model;

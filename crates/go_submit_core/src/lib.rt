@@ -3,6 +3,7 @@
 #![tactic(auto)]
 
 mod batches;
+pub mod history;
 mod kept;
 mod laws;
 mod list;
@@ -23,12 +24,12 @@ pub use published::PublishedBatch;
 pub use submission::{Submission, Submissions, Ticket, has_ticket};
 pub use tree_rules::{MAX_FILES, MAX_PACKAGES, MAX_TEXT, is_source_name};
 
-/// What the crates above name of `go_graph_core`.
-pub mod graph_core {
-    pub use go_snap_core::graph_core::{PackageSource, SourceFile, Workspace};
+/// What the crates above name of `go_package_core`.
+pub mod package_core {
+    pub use go_package_core::package_part::{Part, PartInput, Parts};
 }
 
-/// What the crates above name of `go_part_core`.
-pub mod part_core {
-    pub use go_snap_core::part_core::Part;
+/// What the crates above name of `go_snap_core`.
+pub mod snap_core {
+    pub use go_snap_core::{SharedSnapshot, Snapshot};
 }

@@ -4,7 +4,7 @@ ghost use Rattle.std.specs.Option.{option_copied};
 
 use crate::kept::KeptBatch;
 use crate::piece::{PIECE, Piece, SharedBatch, batch_at, shared_batches, shared_pieces};
-use go_text_core::add;
+use go_path_core::text_core::add;
 use std::alloc::{AllocError, Global};
 use std::marker::Model;
 use std::sync::Arc;

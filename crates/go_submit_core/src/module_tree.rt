@@ -3,9 +3,9 @@ ghost use Rattle.std.specs.Prelude.{◌≡◌, ◌⊎◌, IfErr, IfOk, None, Som
 ghost use Rattle.go_submit_core.specs.Trees.{tree_rule, tree_with};
 
 use crate::tree_rules::tree_rule;
+use go_graph_core::Workspace;
 use go_path_core::Module;
-use go_snap_core::graph_core::Workspace;
-use go_text_core::Rule;
+use go_path_core::text_core::Rule;
 use std::alloc::{AllocError, Global};
 use std::marker::Model;
 use std::sync::Arc;

@@ -6,7 +6,7 @@ ghost use Rattle.go_submit_core.specs.Modules.{is_among, with_module, with_trees
 
 use crate::submission::Submission;
 use go_path_core::Module;
-use go_text_core::add;
+use go_path_core::text_core::add;
 use std::alloc::{AllocError, Global};
 
 /// Whether two modules are written alike.

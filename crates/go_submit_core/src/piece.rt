@@ -3,7 +3,7 @@ ghost use Rattle.std.specs.Prelude.{◌≡◌, IfOk, slice_get};
 ghost use Rattle.std.specs.Option.{option_copied};
 
 use crate::kept::KeptBatch;
-use go_text_core::add;
+use go_path_core::text_core::add;
 use std::alloc::{AllocError, Global};
 use std::marker::Model;
 use std::sync::Arc;

@@ -1,10 +1,10 @@
 //! Submissions.
 ghost use Rattle.std.specs.Prelude.{◌≡◌, IfOk, OnOk};
-ghost use Rattle.go_snap_core.specs.graph_core.Workspaces.{replaced};
+ghost use Rattle.go_graph_core.specs.Workspaces.{replaced};
 ghost use Rattle.go_submit_core.specs.Submitted.{AreWorkspaces, has_ticket, submitted};
 
 use crate::module_tree::ModuleTree;
-use go_snap_core::graph_core::Workspace;
+use go_graph_core::Workspace;
 use std::alloc::{AllocError, Global};
 use std::marker::Model;
 use std::sync::Arc;

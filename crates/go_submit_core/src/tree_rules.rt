@@ -1,12 +1,12 @@
 //! The limits of the packages of one module.
 ghost use Rattle.std.specs.Prelude.{◌≡◌, None, Some};
 ghost use Rattle.std.specs.List.{list_all, list_any};
-ghost use Rattle.go_snap_core.specs.graph_core.Workspaces.{is_path_inside};
+ghost use Rattle.go_graph_core.specs.Workspaces.{is_path_inside};
 ghost use Rattle.go_submit_core.specs.Trees.{files_rule, has_bad_name, has_go_end, has_hidden_start, has_long_text, has_name_bytes, is_file_name, is_large_package, is_long, is_name_byte, is_outside, names_rule, size_rule, texts_rule, tree_rule};
 
+use go_graph_core::{PackageSource, SourceFile};
 use go_path_core::Module;
-use go_snap_core::graph_core::{PackageSource, SourceFile};
-use go_text_core::Rule;
+use go_path_core::text_core::Rule;
 
 /// The most bytes of a text.
 pub const MAX_TEXT: usize = 1_048_576;

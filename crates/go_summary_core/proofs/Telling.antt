@@ -4,19 +4,19 @@ use Rattle.std.specs.Prelude.{slice_index_or, if◌then◌else◌}
 use Rattle.std.specs.Str.{chars}
 use Rattle.std.proofs.lemmas.Bool.{true≢false}
 use Rattle.std.proofs.lemmas.List.Elements.{All-head, All-tail}
-use Rattle.go_text_core.specs.Text.{exported}
-use Rattle.go_alike_core.specs.decl_core.declared.keys.DeclKey.{DeclKey}
-use Rattle.go_alike_core.specs.decl_core.declared.keys.DeclRef.{DeclRef}
-use Rattle.go_alike_core.specs.block_core.Tables.{in_block, has}
-use Rattle.go_alike_core.specs.block_core.Exports.{exports_model}
-use Rattle.go_alike_core.specs.entry_core.Showing.{names_shown}
-use Rattle.go_alike_core.specs.table_core.Entries.{Entry, find_entry, same_key, same_decl}
-use Rattle.go_alike_core.specs.table_core.Tables.{AreOf}
-use Rattle.go_alike_core.specs.table_core.Finding.{bytes_same, find-append, or_else, or_none}
-use Rattle.go_alike_core.specs.face_core.declared.shown.ShownFace.{ShownFace}
-use Rattle.go_alike_core.specs.face_core.declared.shown.ShownFace.TheVariants as shows
-use Rattle.go_alike_core.specs.face_core.Packages.{DeclaredOf, package_in, package_faces, names_seen, shown_by, shown_in_some, face_in_some}
-use Rattle.go_alike_core.specs.face_core.Displaying.{shows_its_block}
+use Rattle.go_term_core.specs.text_core.Text.{exported}
+use Rattle.go_term_core.specs.decl_core.declared.keys.DeclKey.{DeclKey}
+use Rattle.go_term_core.specs.decl_core.declared.keys.DeclRef.{DeclRef}
+use Rattle.go_declared_core.specs.block_core.Tables.{in_block, has}
+use Rattle.go_declared_core.specs.block_core.Exports.{exports_model}
+use Rattle.go_declared_core.specs.typexpr_core.EntryShowing.{names_shown}
+use Rattle.go_table_core.specs.Entries.{Entry, find_entry, same_key, same_decl}
+use Rattle.go_table_core.specs.Tables.{AreOf}
+use Rattle.go_table_core.proofs.Finding.{bytes_same, find-append, or_else, or_none}
+use Rattle.go_declared_core.specs.declared.shown.ShownFace.{ShownFace}
+use Rattle.go_declared_core.specs.declared.shown.ShownFace.TheVariants as shows
+use Rattle.go_declared_core.specs.Packages.{DeclaredOf, package_in, package_faces, names_seen, shown_by, shown_in_some, face_in_some}
+use Rattle.go_declared_core.proofs.Displaying.{shows_its_block}
 use Rattle.go_summary_core.specs.Summaries.{SummaryModel, IsOfOne, path_of, summary_with}
 use Rattle.go_summary_core.specs.Views.{PathsAreApart, exports_told, faces_told, types_told}
 use Rattle.go_summary_core.specs.Laws.{HiddenNamesAreKnown, HiddenNamesDoNotCount, ViewsTellNothingElse, ViewsTellSummaries}

@@ -5,11 +5,11 @@ use Rattle.std.specs.Str.{bytes_eq}
 use Rattle.std.proofs.lemmas.List.{map-append, take_more}
 use Rattle.std.proofs.lemmas.List.Elements.{All-append, All-cons}
 use Rattle.std.proofs.lemmas.Slice.Eq.{bytes_eq-Decides}
-use Rattle.go_alike_core.specs.block_core.Exports.{ExportsModel}
-use Rattle.go_alike_core.specs.entry_core.Showing.{with_shown}
-use Rattle.go_alike_core.specs.table_core.Entries.{Entry}
-use Rattle.go_alike_core.specs.table_core.Tables.{AreOf, AreOthers}
-use Rattle.go_alike_core.specs.face_core.Packages.{PackageFacesModel, with_faces}
+use Rattle.go_declared_core.specs.block_core.Exports.{ExportsModel}
+use Rattle.go_declared_core.specs.typexpr_core.EntryShowing.{with_shown}
+use Rattle.go_table_core.specs.Entries.{Entry}
+use Rattle.go_table_core.specs.Tables.{AreOf, AreOthers}
+use Rattle.go_declared_core.specs.Packages.{PackageFacesModel, with_faces}
 use Rattle.go_summary_core.specs.Summaries.{SummaryModel, IsOfOne, path_of}
 use Rattle.go_summary_core.specs.Views.{PathsAreApart, exports_told, faces_told, types_told}
 

@@ -1,19 +1,19 @@
 -- Laws of summaries and of what is seen by them.
 use Rattle.std.specs.Prelude.{◌≡◌, ◌↔◌, ℕ, true, false, List, [], ◌∷◌, None, All, Contains}
 use Rattle.std.specs.Str.{chars}
-use Rattle.go_text_core.specs.Text.{exported}
-use Rattle.go_alike_core.specs.graph_core.Packages.{trees_of}
-use Rattle.go_alike_core.specs.graph_core.Workspaces.{PackageModel, names_of_files}
-use Rattle.go_alike_core.specs.decl_core.declared.keys.DeclKey.{DeclKey}
-use Rattle.go_alike_core.specs.decl_core.declared.keys.DeclRef.{DeclRef}
-use Rattle.go_alike_core.specs.block_core.Blocks.{BlocksModel}
-use Rattle.go_alike_core.specs.block_core.Exports.{clause_name, exported_names}
-use Rattle.go_alike_core.specs.block_core.Tables.{has}
-use Rattle.go_alike_core.specs.entry_core.Showing.{shown_in}
-use Rattle.go_alike_core.specs.table_core.Entries.{find_entry}
-use Rattle.go_alike_core.specs.table_core.Tables.{PackageTypesModel}
-use Rattle.go_alike_core.specs.face_core.declared.shown.ShownFace.TheVariants as shows
-use Rattle.go_alike_core.specs.face_core.Packages.{DeclaredOf, exported_in, face_by, face_in, names_seen, package_faces, shown_by}
+use Rattle.go_term_core.specs.text_core.Text.{exported}
+use Rattle.go_declared_core.specs.graph_core.Packages.{trees_of}
+use Rattle.go_declared_core.specs.graph_core.Workspaces.{PackageModel, names_of_files}
+use Rattle.go_term_core.specs.decl_core.declared.keys.DeclKey.{DeclKey}
+use Rattle.go_term_core.specs.decl_core.declared.keys.DeclRef.{DeclRef}
+use Rattle.go_declared_core.specs.block_core.Blocks.{BlocksModel}
+use Rattle.go_declared_core.specs.block_core.Exports.{clause_name, exported_names}
+use Rattle.go_declared_core.specs.block_core.Tables.{has}
+use Rattle.go_declared_core.specs.typexpr_core.EntryShowing.{shown_in}
+use Rattle.go_table_core.specs.Entries.{find_entry}
+use Rattle.go_table_core.specs.Tables.{PackageTypesModel}
+use Rattle.go_declared_core.specs.declared.shown.ShownFace.TheVariants as shows
+use Rattle.go_declared_core.specs.Packages.{DeclaredOf, exported_in, face_by, face_in, names_seen, package_faces, shown_by}
 use Rattle.go_summary_core.specs.Summaries.{SummaryModel, IsOfOne, path_of, summary_of, summary_with}
 use Rattle.go_summary_core.specs.Views.{PathsAreApart, exports_told, faces_told, types_told}
 

@@ -2,11 +2,11 @@
 --
 -- docs/RULES.md, "Summaries". The Go specification, "Import declarations", "Exported identifiers".
 use Rattle.std.specs.Prelude.{◌≡◌, ℕ, List}
-use Rattle.go_alike_core.specs.graph_core.Workspaces.{PackageModel, names_of_files}
-use Rattle.go_alike_core.specs.block_core.Blocks.{BlocksModel, exports_of}
-use Rattle.go_alike_core.specs.block_core.Exports.{ExportsModel}
-use Rattle.go_alike_core.specs.table_core.Tables.{PackageTypesModel, AreOf}
-use Rattle.go_alike_core.specs.face_core.Packages.{PackageFacesModel}
+use Rattle.go_declared_core.specs.graph_core.Workspaces.{PackageModel, names_of_files}
+use Rattle.go_declared_core.specs.block_core.Blocks.{BlocksModel, exports_of}
+use Rattle.go_declared_core.specs.block_core.Exports.{ExportsModel}
+use Rattle.go_table_core.specs.Tables.{PackageTypesModel, AreOf}
+use Rattle.go_declared_core.specs.Packages.{PackageFacesModel}
 
 -- its path, the name in its clauses and its exported names with their declarations; all types that it declares, with their methods; its
 -- names as others see them and the faces of its declarations; and the names of its files

@@ -1,9 +1,9 @@
 -- What a package sees by the summaries of the packages that it reaches.
 use Rattle.std.specs.Prelude.{◌≡◌, List, map, AllPairs}
 use Rattle.std.specs.List.{flat_map}
-use Rattle.go_alike_core.specs.block_core.Exports.{ExportsModel}
-use Rattle.go_alike_core.specs.table_core.Entries.{Entry}
-use Rattle.go_alike_core.specs.face_core.Packages.{PackageFacesModel}
+use Rattle.go_declared_core.specs.block_core.Exports.{ExportsModel}
+use Rattle.go_table_core.specs.Entries.{Entry}
+use Rattle.go_declared_core.specs.Packages.{PackageFacesModel}
 use Rattle.go_summary_core.specs.Summaries.{SummaryModel, path_of}
 
 -- each path once

@@ -1,3 +1,4 @@
 -- What the crates above name of go_table_core.
-pub use Rattle.go_alike_core.specs.table_core.Entries as Entries
-pub use Rattle.go_alike_core.specs.table_core.Shown as Shown
+pub use Rattle.go_table_core.specs.Entries as Entries
+pub use Rattle.go_table_core.specs.Laws as Laws
+pub use Rattle.go_table_core.specs.Shown as Shown

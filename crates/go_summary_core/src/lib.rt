@@ -5,10 +5,12 @@
 //! names the places of those that it reaches. The Go specification, "Import declarations", "Exported identifiers".
 #![tactic(auto)]
 
+pub mod alike;
 mod laws;
 mod list;
 mod piece;
 mod reached;
+pub mod shown;
 mod summary;
 mod view;
 
@@ -21,83 +23,25 @@ pub use reached::ReachedSummaries;
 pub use summary::{Summary, import_view, summarize};
 pub use view::{View, view_of};
 
-/// What the crates above name of `go_alias_core`.
-pub mod alias_core {
-    pub use go_alike_core::alias_core::{Aliases, alias_loops, aliases_of, written_aliases};
-}
-
-/// What the crates above name of `go_alike_core`.
-pub mod alike_core {
-    pub use go_alike_core::same_exports;
-}
-
-/// What the crates above name of `go_block_core`.
-pub mod block_core {
-    pub use go_alike_core::block_core::{
-        Binding, BlockFault, Blocks, DeclKind, DeclRef, Imported, NamedDecl, Target, blocks,
-        import_names, import_specs, one_blocks_alone,
-    };
-}
-
-/// What the crates above name of `go_embed_core`.
-pub mod embed_core {
-    pub use go_alike_core::embed_core::{
-        Hits, MemberFault, check_base, check_hidden_fields, check_methods, check_struct,
-    };
-}
-
-/// What the crates above name of `go_entry_core`.
-pub mod entry_core {
-    pub use go_alike_core::entry_core::{DeclaredNames, FileNames, ImportedNames};
-}
-
-/// What the crates above name of `go_face_core`.
-pub mod face_core {
-    pub use go_alike_core::face_core::{
+/// What the crates above name of `go_declared_core`.
+pub mod declared_core {
+    pub use go_declared_core::{
         DeclaredFace, Face, FaceTable, PackageFaces, ShownFace, TypesHere, WrittenFaces, hold,
         lend, written_faces,
     };
 }
 
-/// What the crates above name of `go_graph_core`.
-pub mod graph_core {
-    pub use go_alike_core::graph_core::{
-        ImportAt, ImportOutcome, Package, PackageSource, Plan, SourceFile, Workspace, assemble,
-        one_outcome, plan_imports,
-    };
-}
-
 /// What the crates above name of `go_handle_core`.
 pub mod handle_core {
-    pub use go_alike_core::handle_core::{Decl, DeclSite, Home, SignatureRef, TypeRef};
-}
-
-/// What the crates above name of `go_mset_core`.
-pub mod mset_core {
-    pub use go_alike_core::mset_core::{implements, implements_by_pointer, method_set};
-}
-
-/// What the crates above name of `go_parse_core`.
-pub mod parse_core {
-    pub use go_alike_core::parse_core::{one_rule, one_tree};
-}
-
-/// What the crates above name of `go_select_core`.
-pub mod select_core {
-    pub use go_alike_core::select_core::{EmbedPath, Member, Owner, Selected, select, selectable};
+    pub use go_declared_core::handle_core::{Decl, DeclSite, Home, SignatureRef, TypeRef, typed};
 }
 
 /// What the crates above name of `go_table_core`.
 pub mod table_core {
-    pub use go_alike_core::table_core::{FieldTable, TypeEntry, TypeTable};
+    pub use go_table_core::{FieldTable, TypeEntry, TypeTable};
 }
 
-/// What the crates above name of `go_type_core`.
-pub mod type_core {
-    pub use go_alike_core::type_core::{PackageTypes, TypeFault, TypeTable, build_types};
-}
-
-/// What the crates above name of `go_written_core`.
-pub mod written_core {
-    pub use go_alike_core::written_core::TypeNames;
+/// What the crates above name of `go_typexpr_core`.
+pub mod typexpr_core {
+    pub use go_declared_core::typexpr_core::{DeclaredNames, FileNames, ImportedNames, TypeNames};
 }

@@ -3,7 +3,7 @@ ghost use Rattle.std.specs.Prelude.{◌≡◌, IfOk, slice_get};
 ghost use Rattle.std.specs.Option.{option_map};
 
 use crate::summary::Summary;
-use go_text_core::add;
+use go_term_core::text_core::add;
 use std::alloc::{AllocError, Global};
 use std::marker::Model;
 use std::sync::Arc;

@@ -7,8 +7,8 @@ ghost use Rattle.go_summary_core.specs.Views.{PathsAreApart, types_told};
 use crate::list::SummaryList;
 use crate::summary::Summary;
 use crate::view::add_types;
-use go_alike_core::table_core::TypeTable;
-use go_text_core::add;
+use go_table_core::TypeTable;
+use go_term_core::text_core::add;
 use std::alloc::{AllocError, Global};
 use std::marker::Model;
 

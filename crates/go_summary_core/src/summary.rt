@@ -1,16 +1,16 @@
 //! Summaries.
 ghost use Rattle.std.specs.Prelude.{◌≡◌, ◌↔◌, IfOk, IsTrue};
-ghost use Rattle.go_alike_core.specs.graph_core.Workspaces.{names_of_files};
-ghost use Rattle.go_alike_core.specs.block_core.declared.imports.Imported.TheVariants as imported;
+ghost use Rattle.go_declared_core.specs.graph_core.Workspaces.{names_of_files};
+ghost use Rattle.go_declared_core.specs.block_core.declared.imports.Imported.TheVariants as imported;
 ghost use Rattle.go_summary_core.specs.Summaries.{IsOfOne, path_of, summary_of};
 
-use go_alike_core::block_core::{Blocks, Exports, Imported};
-use go_alike_core::face_core::PackageFaces;
-use go_alike_core::graph_core::{Package, SourceFile};
-use go_alike_core::table_core::PackageTypes;
-use go_alike_core::{same_exports, same_faces, same_names, same_types};
-use go_path_core::ImportPath;
-use go_text_core::{Name, add};
+use crate::alike::{same_exports, same_faces, same_names, same_types};
+use go_declared_core::PackageFaces;
+use go_declared_core::block_core::{Blocks, Exports, Imported};
+use go_declared_core::graph_core::{Package, SourceFile};
+use go_table_core::PackageTypes;
+use go_table_core::path_core::ImportPath;
+use go_term_core::text_core::{Name, add};
 use std::alloc::{AllocError, Global};
 use std::marker::Model;
 use std::sync::Arc;

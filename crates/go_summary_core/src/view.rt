@@ -1,14 +1,14 @@
 //! What a package sees of those that it reaches.
 ghost use Rattle.std.specs.Prelude.{◌≡◌, ◌++◌, IfOk, OnOk};
-ghost use Rattle.go_alike_core.specs.table_core.Tables.{AreOthers};
-ghost use Rattle.go_alike_core.specs.face_core.Packages.{with_faces};
+ghost use Rattle.go_table_core.specs.Tables.{AreOthers};
+ghost use Rattle.go_declared_core.specs.Packages.{with_faces};
 ghost use Rattle.go_summary_core.specs.Summaries.{IsOfOne, path_of};
 ghost use Rattle.go_summary_core.specs.Views.{PathsAreApart, exports_told, faces_told, types_told};
 
 use crate::summary::Summary;
-use go_alike_core::entry_core::ShownPackages;
-use go_alike_core::face_core::FaceTable;
-use go_alike_core::table_core::TypeTable;
+use go_declared_core::FaceTable;
+use go_declared_core::typexpr_core::ShownPackages;
+use go_table_core::TypeTable;
 use std::alloc::{AllocError, Global};
 
 /// What a package sees of the packages that it reaches by imports: their types, what they show behind a dot, and what their declarations are.

@@ -7,9 +7,9 @@ use Rattle.std.proofs.lemmas.Bool.{true≢false}
 use Rattle.std.proofs.lemmas.Slice.Eq.{bytes_eq-Decides}
 use Rattle.std.proofs.lemmas.List.Elements.{All-nil, All-cons, All-head, All-tail, All-append}
 use Rattle.std.proofs.lemmas.Option.{slice_get_within}
-use Rattle.go_settle_core.specs.decl_core.declared.keys.DeclKey.{DeclKey}
+use Rattle.go_term_core.specs.decl_core.declared.keys.DeclKey.{DeclKey}
 use Rattle.go_term_core.specs.Terms.{Term}
-use Rattle.go_settle_core.proofs.Names.{bytes_same as same_bytes}
+use Rattle.go_term_core.proofs.SettlingNames.{bytes_same as same_bytes}
 use Rattle.go_table_core.specs.declared.table.Numbered.{Numbered}
 use Rattle.go_table_core.specs.Entries.{Entry, same_decl, same_key, find_entry, IsUnnamed}
 use Rattle.go_table_core.specs.Tables.{AreOf, AreOthers, IsPlaceOf}

@@ -7,8 +7,8 @@ use Rattle.std.specs.Str.{bytes_eq}
 use Rattle.std.proofs.lemmas.Bool.{true≢false, or_cases, and_parts}
 use Rattle.std.proofs.lemmas.List.{drop_more, drop_all}
 use Rattle.std.proofs.lemmas.Option.{slice_get_past, slice_get_read}
-use Rattle.go_index_core.specs.declared.spellings.Spelling.{Spelling}
-use Rattle.go_index_core.specs.Spelled.{joined, spelled_if, spelled_from, spelled_in}
+use Rattle.go_collections_core.specs.declared.spelling_index.spellings.Spelling.{Spelling}
+use Rattle.go_collections_core.specs.spelling_index.Spelled.{joined, spelled_if, spelled_from, spelled_in}
 use Rattle.go_term_core.specs.declared.term.Field.{Field}
 use Rattle.go_term_core.specs.declared.term.MemberPlace.{MemberPlace}
 use Rattle.go_term_core.specs.declared.term.MemberPlace.TheVariants as places

@@ -2,9 +2,9 @@
 use Rattle.std.proofs.Common.{◌≡◌, ◌↔◌, inl, inr, List, [], ◌∷◌, ◌++◌, Option, Some, None, refl, sym, ap, ◌∙◌, subst}
 use Rattle.std.specs.Prelude.{Contains}
 use Rattle.std.proofs.lemmas.List.Elements.{Contains-append_left, Contains-append_right, Contains-push_cases}
-use Rattle.go_settle_core.specs.decl_core.declared.keys.DeclKey.{DeclKey}
+use Rattle.go_term_core.specs.decl_core.declared.keys.DeclKey.{DeclKey}
 use Rattle.go_term_core.specs.Terms.{Term, NoType, Predeclared, ErrorType, Defined, PointerTo, StructOf, InterfaceOf, term_keys}
-use Rattle.go_settle_core.proofs.Mentions.{none_in}
+use Rattle.go_term_core.proofs.SettlingMentions.{none_in}
 use Rattle.go_table_core.specs.Entries.{Entry, EntryLook, term_in, underlying_in, methods_in, declared_methods, members_keys, entry_keys}
 use Rattle.go_table_core.specs.Laws.{LeadsTo, IsReached, AgreeFrom, ReachIsClosed}
 use Rattle.go_table_core.proofs.Meanings.{alone, reached_itself}

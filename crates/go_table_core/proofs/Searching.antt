@@ -13,13 +13,13 @@ use Rattle.std.proofs.lemmas.List.Sorted.{searchable_from_sorted}
 use Rattle.std.proofs.lemmas.Option.{slice_get_within, get_or_from_slice_get, slice_get_read}
 use borrow.Author.Tests.{eqb-true, eq-eqb}
 use denote.Enum.Bare.{sameb, same_true, true_same}
-use Rattle.go_settle_core.specs.decl_core.contracts.places.DeclKind as decl_kind
-use Rattle.go_settle_core.specs.decl_core.declared.keys.DeclKey.{DeclKey}
-use Rattle.go_settle_core.specs.decl_core.declared.keys.DeclRef.{DeclRef}
-use Rattle.go_settle_core.proofs.Names.{bytes_same as same_bytes}
+use Rattle.go_term_core.specs.decl_core.contracts.places.DeclKind as decl_kind
+use Rattle.go_term_core.specs.decl_core.declared.keys.DeclKey.{DeclKey}
+use Rattle.go_term_core.specs.decl_core.declared.keys.DeclRef.{DeclRef}
+use Rattle.go_term_core.proofs.SettlingNames.{bytes_same as same_bytes}
 use Rattle.go_table_core.specs.Entries.{Entry, same_decl, same_key, find_entry}
 use Rattle.go_table_core.specs.Tables.{AreOf, KeysRise, ArePackageTypes, IsPlaceOf}
-use Rattle.go_settle_core.specs.decl_core.Order.{place_cmp}
+use Rattle.go_term_core.specs.decl_core.Order.{place_cmp}
 use Rattle.go_table_core.proofs.Finding.{bytes_same}
 
 decl_total : IsTotalOrder place_cmp

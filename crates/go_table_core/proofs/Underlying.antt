@@ -7,8 +7,8 @@ use Rattle.std.proofs.lemmas.Slice.Eq.{bytes_eq-Decides}
 use Rattle.unicode.specs.GeneralCategory.{general_category}
 use Rattle.unicode.specs.Rows.{value_in}
 use Rattle.ucd_category.specs.GeneralCategoryRows.{general_category_rows}
-use Rattle.go_settle_core.specs.text_core.Text.{uppercase, exported, SameId}
-use Rattle.go_settle_core.specs.decl_core.declared.places.DeclKind.TheVariants as kinds
+use Rattle.go_collections_core.specs.text_core.Text.{uppercase, exported, SameId}
+use Rattle.go_term_core.specs.decl_core.declared.places.DeclKind.TheVariants as kinds
 use Rattle.go_term_core.specs.declared.term.Basic.TheVariants as basics
 use Rattle.go_term_core.specs.declared.term.Method.{Method}
 use Rattle.go_term_core.specs.declared.term.MemberPlace.{MemberPlace}

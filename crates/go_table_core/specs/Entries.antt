@@ -2,13 +2,13 @@
 use denote.Enum.Bare.{sameb}
 use Rattle.std.specs.Prelude.{ℕ, Bool, false, ◌&&◌, ◌||◌, List, [], ◌∷◌, ◌++◌, Option, Some, None, nat_eq, if◌then◌else◌}
 use Rattle.std.specs.Str.{bytes_eq, chars}
-use Rattle.go_settle_core.specs.text_core.Text.{exported}
-use Rattle.go_settle_core.specs.decl_core.contracts.places.DeclKind as decl_kind
-use Rattle.go_settle_core.specs.decl_core.declared.keys.DeclKey.{DeclKey}
-use Rattle.go_settle_core.specs.decl_core.declared.keys.DeclRef.{DeclRef}
+use Rattle.go_collections_core.specs.text_core.Text.{exported}
+use Rattle.go_term_core.specs.decl_core.contracts.places.DeclKind as decl_kind
+use Rattle.go_term_core.specs.decl_core.declared.keys.DeclKey.{DeclKey}
+use Rattle.go_term_core.specs.decl_core.declared.keys.DeclRef.{DeclRef}
 use Rattle.go_term_core.specs.declared.term.MemberPlace.{MemberPlace}
-use Rattle.go_settle_core.specs.declared.kind.Kind.{Kind}
-use Rattle.go_settle_core.specs.Settled.{kind_of_term}
+use Rattle.go_term_core.specs.declared.settling.kind.Kind.{Kind}
+use Rattle.go_term_core.specs.settling.Settled.{kind_of_term}
 use Rattle.go_term_core.specs.Terms.{Term, NoType, Predeclared, ErrorType, Defined, PointerTo, StructOf, InterfaceOf, Sign, term_keys, sign_keys}
 
 -- a method that is declared: its name, its place, whether its receiver is a pointer, its signature

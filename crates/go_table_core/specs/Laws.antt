@@ -1,6 +1,6 @@
 -- Laws of tables of types.
 use Rattle.std.specs.Prelude.{◌≡◌, ◌⊎◌, ◌↔◌, Bool, true, IsTrue, List, [], ◌∷◌, ◌++◌, Some, None, Contains}
-use Rattle.go_settle_core.specs.decl_core.declared.keys.DeclKey.{DeclKey}
+use Rattle.go_term_core.specs.decl_core.declared.keys.DeclKey.{DeclKey}
 use Rattle.go_term_core.specs.declared.term.Basic.TheVariants as basics
 use Rattle.go_term_core.specs.Terms.{Term, NoType, Predeclared, ErrorType, Defined, term_keys}
 use Rattle.go_term_core.specs.Identity.{Identical, IdenticalBy}

@@ -9,5 +9,4 @@ pub mod Underlying
 pub mod Assign
 pub mod Laws
 pub mod mirrors
-pub mod decl_core
-pub mod settle_core
+pub mod path_core

@@ -1,6 +1,6 @@
 -- Tables of defined types.
 use Rattle.std.specs.Prelude.{◌≡◌, ℕ, true, ◌&&◌, ◌||◌, List, [], ◌∷◌, Some, slice_get, nat_eq, nat_lt, ⊤, All}
-use Rattle.go_settle_core.specs.decl_core.declared.keys.DeclKey.{DeclKey}
+use Rattle.go_term_core.specs.decl_core.declared.keys.DeclKey.{DeclKey}
 use Rattle.go_table_core.specs.Entries.{Entry, find_entry, IsUnnamed}
 
 -- the types of a package: its path, and entries in order of their keys

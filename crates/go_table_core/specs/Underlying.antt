@@ -1,7 +1,7 @@
 -- Underlying types as they are compared: that of the predeclared type `error` is an interface type. The Go specification, "Underlying types",
 -- "Errors".
 use Rattle.std.specs.Prelude.{◌≡◌, ℕ, Bool, List, [], codes}
-use Rattle.go_settle_core.specs.decl_core.declared.places.DeclKind.TheVariants as kinds
+use Rattle.go_term_core.specs.decl_core.declared.places.DeclKind.TheVariants as kinds
 use Rattle.go_term_core.specs.declared.term.Basic.TheVariants as basics
 use Rattle.go_term_core.specs.declared.term.MemberPlace.{MemberPlace}
 use Rattle.go_term_core.specs.declared.term.MemberPlace.TheVariants as places

@@ -7,7 +7,7 @@ ghost use Rattle.go_term_core.specs.declared.term.Basic.TheVariants as basics;
 ghost use Rattle.go_table_core.specs.Underlying.{text_sign, IsErrorInterface, IdenticalUnder};
 ghost use Rattle.go_table_core.specs.mirrors.Meeting.{AreErrors, MeetsError};
 
-use go_settle_core::text_core::Name;
+use go_collections_core::text_core::Name;
 use go_term_core::{Basic, Method, Signature, TypeTerm, identical, identical_but_for_tags};
 
 /// Whether a type is `string`.

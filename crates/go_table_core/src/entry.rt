@@ -6,13 +6,13 @@ ghost use Rattle.go_table_core.specs.Shown.{member_shown, HidesRightly};
 ghost use Rattle.go_table_core.specs.mirrors.Spots.{spells_some};
 ghost use Rattle.go_table_core.specs.Methods.{term_fields};
 ghost use Rattle.go_table_core.specs.MemberNames.{term_names};
-ghost use Rattle.go_index_core.specs.Spelled.{AreSpelled, places_of};
+ghost use Rattle.go_collections_core.specs.spelling_index.Spelled.{AreSpelled, places_of};
 
 use crate::fields::FieldTable;
 use crate::indexed::{IndexedTerm, method_index};
-use go_index_core::Spellings;
-use go_settle_core::decl_core::DeclKey;
-use go_settle_core::text_core::Name;
+use go_collections_core::spelling_index::Spellings;
+use go_collections_core::text_core::Name;
+use go_term_core::decl_core::DeclKey;
 use go_term_core::{MemberPlace, Signature, TypeTerm};
 use std::alloc::{AllocError, Global};
 use std::marker::Model;

@@ -3,14 +3,14 @@ ghost use Rattle.std.specs.Prelude.{◌≡◌, ◌<◌, [], IfOk, List, None, On
 ghost use Rattle.go_term_core.specs.Shapes.{Line, shape, shape_found, fields_in, line_at, line_shapes};
 ghost use Rattle.go_table_core.specs.Shown.{line_shown, member_shown};
 ghost use Rattle.go_table_core.specs.Methods.{has_field_before, field_spelled, is_before, term_fields};
-ghost use Rattle.go_index_core.specs.Spelled.{places_of};
+ghost use Rattle.go_collections_core.specs.spelling_index.Spelled.{places_of};
 ghost use Rattle.go_table_core.specs.mirrors.Ordered.{has_order, is_after, spelled_before, IsFieldIndex};
 ghost use Rattle.go_table_core.specs.mirrors.Spots.{spot_before, earlier_of, earliest_with, earliest_before, found_before, found_places, named_before, named_places, struct_path, HasPlaces, AddsField};
 
 use crate::entry::DeclaredMethod;
-use go_index_core::{Spelling, Spellings};
-use go_settle_core::path_core::ImportPath;
-use go_settle_core::text_core::is_exported;
+use go_collections_core::spelling_index::{Spelling, Spellings};
+use go_collections_core::text_core::is_exported;
+use go_path_core::ImportPath;
 use go_term_core::{Field, FieldLine, MemberPlace, TypeTerm};
 use std::alloc::{AllocError, Global};
 use std::collections::BTreeMap;

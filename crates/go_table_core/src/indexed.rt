@@ -1,15 +1,15 @@
 //! Types with an index of their members by name.
 ghost use Rattle.std.specs.Prelude.{◌≡◌, IfOk, IfSome, map};
 ghost use Rattle.go_term_core.specs.Shapes.{shape};
-ghost use Rattle.go_index_core.specs.Spelled.{AreSpelled, places_of};
+ghost use Rattle.go_collections_core.specs.spelling_index.Spelled.{AreSpelled, places_of};
 ghost use Rattle.go_table_core.specs.MemberNames.{term_names};
 ghost use Rattle.go_table_core.specs.Methods.{term_fields};
 ghost use Rattle.go_table_core.specs.mirrors.Ordered.{IsFieldIndex};
 
 use crate::entry::DeclaredMethod;
 use crate::fields::{FieldTable, has_order};
-use go_index_core::Spellings;
-use go_settle_core::text_core::add;
+use go_collections_core::spelling_index::Spellings;
+use go_collections_core::text_core::add;
 use go_term_core::{Field, Method, TypeTerm};
 use std::alloc::{AllocError, Global};
 use std::marker::Model;

@@ -1,11 +1,11 @@
 //! The kinds of the types of a table.
 ghost use Rattle.std.specs.Prelude.{◌≡◌};
 ghost use Rattle.go_table_core.specs.Entries.{find_entry, term_in};
-ghost use Rattle.go_settle_core.specs.Settled.{kind_of_term};
+ghost use Rattle.go_term_core.specs.settling.Settled.{kind_of_term};
 
 use crate::table::TypeTable;
-use go_settle_core::decl_core::DeclKey;
-use go_settle_core::{Kind, Kinds, kind_of};
+use go_term_core::decl_core::DeclKey;
+use go_term_core::settling::{Kind, Kinds, kind_of};
 
 impl Kinds for TypeTable {
     ghost kinds = { λ table k. kind_of_term (term_in (find_entry table k)) };

@@ -24,19 +24,7 @@ pub use laws::{
 };
 pub use table::{Located, PackageTypes, TypeTable};
 
-/// What the crates above name of `go_decl_core`.
-pub mod decl_core {
-    pub use go_settle_core::decl_core::{DeclForm, DeclKey, DeclRef, Places, TopDecl};
-}
-
 /// What the crates above name of `go_path_core`.
 pub mod path_core {
-    pub use go_settle_core::path_core::ImportPath;
-}
-
-/// What the crates above name of `go_settle_core`.
-pub mod settle_core {
-    pub use go_settle_core::{
-        Kind, Kinds, SeenNames, can_embed, kind_of, settle, settle_signature,
-    };
+    pub use go_path_core::{ImportPath, may_import};
 }

@@ -5,10 +5,10 @@ ghost use Rattle.go_term_core.specs.Shapes.{shape};
 ghost use Rattle.go_table_core.specs.Tables.{package_types, AreOf, KeysRise, ArePackageTypes, IsPlaceOf, AreOthers};
 
 use crate::entry::DefinedType;
-use go_named_core::NameTable;
-use go_settle_core::decl_core::{DeclKey, place_order};
-use go_settle_core::path_core::ImportPath;
+use go_collections_core::name_table::NameTable;
+use go_path_core::ImportPath;
 use go_term_core::TypeTerm;
+use go_term_core::decl_core::{DeclKey, place_order};
 use std::alloc::{AllocError, Global};
 use std::marker::Model;
 use std::sync::Arc;

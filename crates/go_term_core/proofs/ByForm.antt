@@ -1,6 +1,6 @@
 -- Identity form by form.
 use Rattle.std.proofs.Common.{◌≡◌, ◌↔◌, ◌≤◌, ℕ, zero, suc, Bool, true, false, List, refl, ap, sym, ◌∙◌, subst, inl, inr, arith}
-use Rattle.go_decl_core.specs.text_core.Text.{SameId}
+use Rattle.go_tree_nodes.specs.text_core.Text.{SameId}
 use Rattle.go_term_core.specs.declared.term.Basic.{Basic}
 use Rattle.go_term_core.specs.declared.term.MemberPlace.{MemberPlace}
 use Rattle.go_term_core.specs.Terms.{Term, NoType, Predeclared, ErrorType, Defined, PointerTo, StructOf, InterfaceOf, Fields, NoField, AField, Methods, NoMethod, AMethod, Sign, SignOf, Terms, NoTerm, ATerm}

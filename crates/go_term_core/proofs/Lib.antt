@@ -4,3 +4,11 @@ pub mod Copied
 pub mod SameLists
 pub mod Meanings
 pub mod ByForm
+pub mod SettlingAgain
+pub mod SettlingApart
+pub mod SettlingLocal
+pub mod SettlingLoops
+pub mod SettlingMasks
+pub mod SettlingMentions
+pub mod SettlingNames
+pub mod SettlingCleaning

@@ -1,7 +1,7 @@
 -- Identity of types is an equivalence.
 use Rattle.std.proofs.Common.{◌≡◌, ◌⊎◌, inl, inr, ℕ, zero, suc, Bool, true, false, List, refl, ap, sym, ◌∙◌, subst, IsTrue, arith}
 use Rattle.std.specs.Str.{chars}
-use Rattle.go_decl_core.specs.text_core.Text.{SameId, exported}
+use Rattle.go_tree_nodes.specs.text_core.Text.{SameId, exported}
 use Rattle.go_term_core.specs.declared.term.MemberPlace.{MemberPlace}
 use Rattle.go_term_core.specs.Terms.{Term, NoType, Predeclared, ErrorType, Defined, PointerTo, StructOf, InterfaceOf, Fields, NoField, AField, Methods, NoMethod, AMethod, Sign, SignOf, Terms, NoTerm, ATerm}
 use Rattle.go_term_core.specs.Identity.{TagsAgree, Identical, IdenticalBy, SameFieldsBy, HasAllBy, SameSignBy, SameTermsBy, IsMethod, method_count}

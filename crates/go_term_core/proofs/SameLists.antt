@@ -4,7 +4,7 @@ use Rattle.std.proofs.lemmas.List.{drop_all, drop_more, take-append-drop}
 use Rattle.std.specs.Slice.{IsItemAt}
 use Rattle.std.specs.Prelude.{zero, map, slice_get, slice_index_or}
 use Rattle.std.specs.Borrow.{Bor}
-use Rattle.go_decl_core.specs.text_core.Text.{SameId}
+use Rattle.go_tree_nodes.specs.text_core.Text.{SameId}
 use Rattle.go_term_core.specs.declared.term.MemberPlace.{MemberPlace}
 use Rattle.go_term_core.specs.declared.term.Field.{Field}
 use Rattle.go_term_core.specs.declared.term.TypeTerm.{TypeTerm}

@@ -1,6 +1,6 @@
 -- Identity form by form, in the words of the Go specification, "Type identity", and what is left of a type where tags are ignored.
 use Rattle.std.specs.Prelude.{◌≡◌, ◌↔◌, ℕ, zero, suc, Bool, List, []}
-use Rattle.go_decl_core.specs.text_core.Text.{SameId}
+use Rattle.go_tree_nodes.specs.text_core.Text.{SameId}
 use Rattle.go_term_core.specs.declared.term.Basic.{Basic}
 use Rattle.go_term_core.specs.declared.term.MemberPlace.{MemberPlace}
 use Rattle.go_term_core.specs.Terms.{Term, NoType, Predeclared, ErrorType, Defined, PointerTo, StructOf, InterfaceOf, Fields, NoField, AField, Methods, NoMethod, AMethod, Sign, SignOf, Terms, NoTerm, ATerm}

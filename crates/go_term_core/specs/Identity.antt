@@ -1,6 +1,6 @@
 -- Which types are identical: the Go specification, "Type identity".
 use Rattle.std.specs.Prelude.{◌≡◌, ◌⊎◌, ℕ, suc, Bool, true, false, List, ⊤}
-use Rattle.go_decl_core.specs.text_core.Text.{SameId}
+use Rattle.go_tree_nodes.specs.text_core.Text.{SameId}
 use Rattle.go_term_core.specs.declared.term.MemberPlace.{MemberPlace}
 use Rattle.go_term_core.specs.Terms.{Term, NoType, Predeclared, ErrorType, Defined, PointerTo, StructOf, InterfaceOf, Fields, NoField, AField, Methods, NoMethod, AMethod, Sign, SignOf, Terms, NoTerm, ATerm}
 

@@ -7,6 +7,6 @@ pub mod Laws
 pub mod Forms
 pub mod mirrors
 pub mod codes
+pub mod settling
 pub mod decl_core
 pub mod text_core
-pub mod tree_core

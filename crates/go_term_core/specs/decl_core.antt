@@ -2,6 +2,7 @@
 pub use Rattle.go_decl_core.specs.Laws as Laws
 pub use Rattle.go_decl_core.proofs.Numbers as Numbers
 pub use Rattle.go_decl_core.specs.Order as Order
+pub use Rattle.go_decl_core.proofs.Order as OrderProofs
 pub use Rattle.go_decl_core.specs.Outer as Outer
 pub use Rattle.go_decl_core.specs.Sample as Sample
 pub use Rattle.go_decl_core.specs.Shown as Shown

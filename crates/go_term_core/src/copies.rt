@@ -3,7 +3,7 @@ ghost use Rattle.std.specs.Prelude.{◌≡◌, IfOk, map};
 ghost use Rattle.go_term_core.specs.Shapes.{shape, sign_of, line_shapes, method_shapes, param_shapes};
 
 use crate::term::{Field, FieldLine, Method, Params, Signature, TypeTerm};
-use go_decl_core::text_core::{add, boxed};
+use go_tree_nodes::text_core::{add, boxed};
 use std::alloc::{AllocError, Global};
 
 /// The copy that was made, or the end of the function where memory ran out. A `?` is two calls of generic functions, and a proof

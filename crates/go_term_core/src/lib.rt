@@ -9,6 +9,7 @@ mod copies;
 mod laws;
 mod params;
 mod same;
+pub mod settling;
 mod tag;
 mod term;
 
@@ -28,22 +29,12 @@ pub use term::{
 /// What the crates above name of `go_decl_core`.
 pub mod decl_core {
     pub use go_decl_core::{
-        DeclForm, DeclKey, DeclKind, DeclRef, Outline, Places, TopDecl, last_ident, outline,
-        place_order,
+        Anchor, DeclForm, DeclKey, DeclKind, DeclRef, Outline, Places, TopDecl, anchors,
+        last_ident, outline, place_order,
     };
-}
-
-/// What the crates above name of `go_path_core`.
-pub mod path_core {
-    pub use go_decl_core::path_core::ImportPath;
 }
 
 /// What the crates above name of `go_text_core`.
 pub mod text_core {
-    pub use go_decl_core::text_core::{Name, Rule, add, boxed, is_blank, is_exported, same_id};
-}
-
-/// What the crates above name of `go_tree_core`.
-pub mod tree_core {
-    pub use go_decl_core::tree_core::{Occ, Role, occurrences};
+    pub use go_tree_nodes::text_core::{Name, Rule, add, is_blank};
 }

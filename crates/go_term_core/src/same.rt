@@ -1,6 +1,6 @@
 //! Identity of types.
 ghost use Rattle.std.specs.Prelude.{◌≡◌, ◌↔◌, ◌⊎◌, IsTrue, map};
-ghost use Rattle.go_decl_core.specs.text_core.Text.{SameId};
+ghost use Rattle.go_tree_nodes.specs.text_core.Text.{SameId};
 ghost use Rattle.go_term_core.specs.Shapes.{shape, sign_of, fields_in, line_at, line_shape, line_shapes, method_shapes, param_shapes, term_at, terms_in};
 ghost use Rattle.go_term_core.specs.Terms.{NoType, is_no_type};
 ghost use Rattle.go_term_core.specs.Identity.{Identical, IdenticalButForTags, SameSign, TagsAgree, IdenticalBy, SameFieldsBy, HasAllBy, SameSignBy, SameTermsBy, method_count};
@@ -10,7 +10,7 @@ ghost use Rattle.go_term_core.specs.mirrors.Alike.{HasAlike, IsNoLine, SameLine}
 use crate::tag::Tag;
 use crate::term::{Field, FieldLine, Method, Params, Signature, TypeTerm};
 use go_decl_core::path_core::ImportPath;
-use go_decl_core::text_core::{Name, same_id};
+use go_tree_nodes::text_core::{Name, same_id};
 
 /// Whether two types are identical. It takes no memory.
 ///

@@ -1,8 +1,8 @@
 //! The terms of types.
 use crate::tag::Tag;
 use go_decl_core::path_core::ImportPath;
-use go_decl_core::text_core::Name;
 use go_decl_core::{DeclKey, DeclRef};
+use go_tree_nodes::text_core::Name;
 
 /// The predeclared types that values of the profile may have, but for `error` and `any`: `any` is an interface type without
 /// methods.

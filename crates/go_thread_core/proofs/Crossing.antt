@@ -10,8 +10,8 @@ use Rattle.go_tree_nodes.proofs.types.Fields.TheLaws.TheKnot as types
 use Rattle.go_tree_nodes.proofs.exprs.Expr.TheLaws.TheKnot as exprs
 use Rattle.go_tree_nodes.proofs.stmts.Otherwise.TheLaws.TheKnot as stmts
 use Rattle.go_term_core.proofs.term.TypeTerm.TheLaws.TheKnot as terms
-pub use Rattle.go_answer_core.proofs.site.Held.TheSendSync as answer_Held
-pub use Rattle.go_answer_core.proofs.site.Site.TheSendSync as answer_Site
+pub use Rattle.go_report_core.proofs.answer.site.Held.TheSendSync as answer_Held
+pub use Rattle.go_report_core.proofs.answer.site.Site.TheSendSync as answer_Site
 pub use Rattle.go_block_core.proofs.binding.Binding.TheSendSync as block_Binding
 pub use Rattle.go_block_core.proofs.binding.Target.TheSendSync as block_Target
 pub use Rattle.go_block_core.proofs.block.Blocks.TheSendSync as block_Blocks
@@ -32,14 +32,14 @@ pub use Rattle.go_decl_core.proofs.keys.DeclRef.TheSendSync as decl_DeclRef
 pub use Rattle.go_decl_core.proofs.places.DeclKind.TheSendSync as decl_DeclKind
 pub use Rattle.go_denote_core.proofs.things.Outcome.TheSendSync as denote_Outcome
 pub use Rattle.go_expr_core.proofs.things.Use.TheSendSync as expr_Use
-pub use Rattle.go_face_core.proofs.face.Face.TheSendSync as face_Face
-pub use Rattle.go_face_core.proofs.seen.SeenNames.TheSendSync as face_SeenNames
-pub use Rattle.go_index_core.proofs.spellings.Spelling.TheSendSync as index_Spelling
-pub use Rattle.go_index_core.proofs.spellings.Spellings.TheSendSync as index_Spellings
-pub use Rattle.go_instruction_core.proofs.instruction.Instruction.TheSendSync as instruction_Instruction
-pub use Rattle.go_level_core.proofs.path.EmbedPath.TheSendSync as level_EmbedPath
-pub use Rattle.go_named_core.proofs.named.NameTable.TheSendSync as named_NameTable
-pub use Rattle.go_named_core.proofs.places.Places.TheSendSync as named_Places
+pub use Rattle.go_declared_core.proofs.face.Face.TheSendSync as face_Face
+pub use Rattle.go_declared_core.proofs.seen.SeenNames.TheSendSync as face_SeenNames
+pub use Rattle.go_collections_core.proofs.spelling_index.spellings.Spelling.TheSendSync as index_Spelling
+pub use Rattle.go_collections_core.proofs.spelling_index.spellings.Spellings.TheSendSync as index_Spellings
+pub use Rattle.go_object_core.proofs.instructions.instruction.Instruction.TheSendSync as instruction_Instruction
+pub use Rattle.go_select_core.proofs.levels.path.EmbedPath.TheSendSync as level_EmbedPath
+pub use Rattle.go_collections_core.proofs.name_table.named.NameTable.TheSendSync as named_NameTable
+pub use Rattle.go_collections_core.proofs.name_table.places.Places.TheSendSync as named_Places
 pub use Rattle.go_local_core.proofs.Fault.TheSendSync as local_Fault
 pub use Rattle.go_operand_core.proofs.types.Operand.TheSendSync as operand_Operand
 pub use Rattle.go_operand_core.proofs.types.ValueType.TheSendSync as operand_ValueType
@@ -119,34 +119,34 @@ use Rattle.go_block_core.specs.graph_core.contracts.assembly.Package as assemble
 use Rattle.go_block_core.specs.graph_core.contracts.workspace.Workspace as workspace
 use Rattle.go_term_core.specs.contracts.term.TypeTerm as term
 use Rattle.go_term_core.specs.contracts.term.Signature as term_signature
-use Rattle.go_level_core.specs.table_core.contracts.entry.DeclaredMethod as declared_method
-use Rattle.go_level_core.specs.table_core.contracts.entry.TypeEntry as type_entry
-use Rattle.go_level_core.specs.table_core.contracts.indexed.IndexedTerm as indexed_term
-use Rattle.go_level_core.specs.table_core.contracts.entry.DefinedType as defined
-use Rattle.go_level_core.specs.table_core.contracts.table.PackageTypes as package_types
-use Rattle.go_face_core.specs.contracts.shown.DeclaredFace as declared_face
-use Rattle.go_face_core.specs.contracts.shown.PackageFaces as package_faces
-use Rattle.go_face_core.specs.contracts.seen.SeenNames as seen_names
-use Rattle.go_named_core.specs.contracts.places.Places as name_places
-use Rattle.go_snap_core.specs.summary_core.contracts.summary.Summary as summary
-use Rattle.go_snap_core.specs.summary_core.contracts.list.SummaryList as summary_list
-use Rattle.go_snap_core.specs.summary_core.contracts.reached.ReachedSummaries as reached
-use Rattle.go_snap_core.specs.part_core.contracts.input.PartInput as input
-use Rattle.go_answer_core.specs.contracts.locals.HeldLocal as held_local
-use Rattle.go_answer_core.specs.contracts.site.Site as site
+use Rattle.go_table_core.specs.contracts.entry.DeclaredMethod as declared_method
+use Rattle.go_table_core.specs.contracts.entry.TypeEntry as type_entry
+use Rattle.go_table_core.specs.contracts.indexed.IndexedTerm as indexed_term
+use Rattle.go_table_core.specs.contracts.entry.DefinedType as defined
+use Rattle.go_table_core.specs.contracts.table.PackageTypes as package_types
+use Rattle.go_declared_core.specs.contracts.shown.DeclaredFace as declared_face
+use Rattle.go_declared_core.specs.contracts.shown.PackageFaces as package_faces
+use Rattle.go_declared_core.specs.contracts.seen.SeenNames as seen_names
+use Rattle.go_collections_core.specs.contracts.name_table.places.Places as name_places
+use Rattle.go_report_core.specs.summary_core.contracts.summary.Summary as summary
+use Rattle.go_report_core.specs.summary_core.contracts.list.SummaryList as summary_list
+use Rattle.go_report_core.specs.summary_core.contracts.reached.ReachedSummaries as reached
+use Rattle.go_submit_core.specs.package_core.contracts.package_part.input.PartInput as input
+use Rattle.go_report_core.specs.contracts.answer.locals.HeldLocal as held_local
+use Rattle.go_report_core.specs.contracts.answer.site.Site as site
 use Rattle.go_object_core.specs.contracts.object.FunctionCode as function_code
 use Rattle.go_object_core.specs.contracts.object.Object as object
-use Rattle.go_snap_core.specs.package_core.contracts.checked.FileAnswers as answers
-use Rattle.go_snap_core.specs.part_core.contracts.files.PartFile as part_file
-use Rattle.go_snap_core.specs.part_core.contracts.content.PackageContent as content
-use Rattle.go_snap_core.specs.part_core.contracts.part.Part as part
-use Rattle.go_snap_core.specs.part_core.contracts.parts.Parts as parts
+use Rattle.go_submit_core.specs.package_core.contracts.checked.FileAnswers as answers
+use Rattle.go_submit_core.specs.package_core.contracts.package_part.files.PartFile as part_file
+use Rattle.go_submit_core.specs.package_core.contracts.package_part.content.PackageContent as content
+use Rattle.go_submit_core.specs.package_core.contracts.package_part.part.Part as part
+use Rattle.go_submit_core.specs.package_core.contracts.package_part.parts.Parts as parts
 use Rattle.go_snap_core.specs.contracts.fault.PlacedFault as placed_fault
 use Rattle.go_snap_core.specs.contracts.snapshot.Snapshot as snapshot
 use Rattle.go_snap_core.specs.contracts.shared.SharedSnapshot as shared_snapshot
-use Rattle.go_pieces_core.specs.contracts.list.Pieces as pieces
-use Rattle.go_pieces_core.specs.contracts.piece.Piece as piece
-use Rattle.go_history_core.specs.contracts.kept.KeptSnapshot as kept_snapshot
+use Rattle.go_collections_core.specs.contracts.persistent_list.list.Pieces as pieces
+use Rattle.go_collections_core.specs.contracts.persistent_list.piece.Piece as piece
+use Rattle.go_submit_core.specs.contracts.history.kept.KeptSnapshot as kept_snapshot
 
 pub ruleset leaves = (index_Spelling.the_send, index_Spelling.the_sync, index_Spellings.the_send, index_Spellings.the_sync, std_BuildHasherDefault.the_field_send, std_BuildHasherDefault.the_send, std_BuildHasherDefault.the_field_sync, std_BuildHasherDefault.the_sync, std_FoldHasher.the_field_send, std_FoldHasher.the_send, std_FoldHasher.the_field_sync, std_FoldHasher.the_sync, std_Option.the_field_send, std_Option.the_send, std_Option.the_field_sync, std_Option.the_sync, std_Result.the_field_send, std_Result.the_send, std_Result.the_field_sync, std_Result.the_sync, std_Memory.the_field_send, std_Memory.the_send, std_Memory.the_field_sync, std_Memory.the_sync, answer_Held.the_field_send, answer_Held.the_send, answer_Held.the_field_sync, answer_Held.the_sync, answer_Site.the_send, answer_Site.the_sync, block_Binding.the_field_send, block_Binding.the_send, block_Binding.the_field_sync, block_Binding.the_sync, block_Target.the_field_send, block_Target.the_send, block_Target.the_field_sync, block_Target.the_sync, block_Blocks.the_send, block_Blocks.the_sync, block_Exports.the_send, block_Exports.the_sync, block_ExportsContent.the_field_send, block_ExportsContent.the_send, block_ExportsContent.the_field_sync, block_ExportsContent.the_sync, block_NamedDecl.the_field_send, block_NamedDecl.the_send, block_NamedDecl.the_field_sync, block_NamedDecl.the_sync, block_BlockFault.the_field_send, block_BlockFault.the_send, block_BlockFault.the_field_sync, block_BlockFault.the_sync, block_BlockRule.the_field_send, block_BlockRule.the_send, block_BlockRule.the_field_sync, block_BlockRule.the_sync, block_Imported.the_field_send, block_Imported.the_send, block_Imported.the_field_sync, block_Imported.the_sync, constant_Parts.the_send, constant_Parts.the_sync, constant_Block.the_send, constant_Block.the_sync, constant_Piece.the_send, constant_Piece.the_sync, constant_ConstantText.the_send, constant_ConstantText.the_sync, constant_Form.the_field_send, constant_Form.the_send, constant_Form.the_field_sync, constant_Form.the_sync, constant_Constant.the_field_send, constant_Constant.the_send, constant_Constant.the_field_sync, constant_Constant.the_sync, decl_DeclKey.the_field_send, decl_DeclKey.the_send, decl_DeclKey.the_field_sync, decl_DeclKey.the_sync, decl_DeclRef.the_field_send, decl_DeclRef.the_send, decl_DeclRef.the_field_sync, decl_DeclRef.the_sync, decl_DeclKind.the_field_send, decl_DeclKind.the_send, decl_DeclKind.the_field_sync, decl_DeclKind.the_sync, denote_Outcome.the_field_send, denote_Outcome.the_send, denote_Outcome.the_field_sync, denote_Outcome.the_sync, expr_Use.the_field_send, expr_Use.the_send, expr_Use.the_field_sync, expr_Use.the_sync, face_Face.the_field_send, face_Face.the_send, face_Face.the_field_sync, face_Face.the_sync, level_EmbedPath.the_send, level_EmbedPath.the_sync, local_Fault.the_field_send, local_Fault.the_send, local_Fault.the_field_sync, local_Fault.the_sync, operand_Operand.the_field_send, operand_Operand.the_send, operand_Operand.the_field_sync, operand_Operand.the_sync, operand_ValueType.the_field_send, operand_ValueType.the_send, operand_ValueType.the_field_sync, operand_ValueType.the_sync, parse_SynFault.the_field_send, parse_SynFault.the_send, parse_SynFault.the_field_sync, parse_SynFault.the_sync, path_ImportPath.the_send, path_ImportPath.the_sync, snap_PlacedFault.the_field_send, snap_PlacedFault.the_send, snap_PlacedFault.the_field_sync, snap_PlacedFault.the_sync, term_Tag.the_send, term_Tag.the_sync, term_Basic.the_field_send, term_Basic.the_send, term_Basic.the_field_sync, term_Basic.the_sync, term_Field.the_field_send, term_Field.the_send, term_Field.the_field_sync, term_Field.the_sync, term_LocalPlace.the_field_send, term_LocalPlace.the_send, term_LocalPlace.the_field_sync, term_LocalPlace.the_sync, term_MemberPlace.the_field_send, term_MemberPlace.the_send, term_MemberPlace.the_field_sync, term_MemberPlace.the_sync, text_Form.the_field_send, text_Form.the_send, text_Form.the_field_sync, text_Form.the_sync, text_Name.the_send, text_Name.the_sync, text_Rule.the_field_send, text_Rule.the_send, text_Rule.the_field_sync, text_Rule.the_sync, text_Span.the_field_send, text_Span.the_send, text_Span.the_field_sync, text_Span.the_sync, token_Operator.the_field_send, token_Operator.the_send, token_Operator.the_field_sync, token_Operator.the_sync, tree_Role.the_field_send, tree_Role.the_send, tree_Role.the_field_sync, tree_Role.the_sync, tree_nodes_ValueKind.the_field_send, tree_nodes_ValueKind.the_send, tree_nodes_ValueKind.the_field_sync, tree_nodes_ValueKind.the_sync, tree_nodes_Key.the_field_send, tree_nodes_Key.the_send, tree_nodes_Key.the_field_sync, tree_nodes_Key.the_sync, tree_nodes_ImportDecl.the_field_send, tree_nodes_ImportDecl.the_send, tree_nodes_ImportDecl.the_field_sync, tree_nodes_ImportDecl.the_sync, tree_nodes_ImportLine.the_field_send, tree_nodes_ImportLine.the_send, tree_nodes_ImportLine.the_field_sync, tree_nodes_ImportLine.the_sync, tree_nodes_ImportName.the_field_send, tree_nodes_ImportName.the_send, tree_nodes_ImportName.the_field_sync, tree_nodes_ImportName.the_sync, tree_nodes_ImportSpec.the_field_send, tree_nodes_ImportSpec.the_send, tree_nodes_ImportSpec.the_field_sync, tree_nodes_ImportSpec.the_sync, tree_nodes_ImportSpecs.the_field_send, tree_nodes_ImportSpecs.the_send, tree_nodes_ImportSpecs.the_field_sync, tree_nodes_ImportSpecs.the_sync, tree_nodes_Receiver.the_field_send, tree_nodes_Receiver.the_send, tree_nodes_Receiver.the_field_sync, tree_nodes_Receiver.the_sync, tree_nodes_Ident.the_field_send, tree_nodes_Ident.the_send, tree_nodes_Ident.the_field_sync, tree_nodes_Ident.the_sync, tree_nodes_Idents.the_field_send, tree_nodes_Idents.the_send, tree_nodes_Idents.the_field_sync, tree_nodes_Idents.the_sync, tree_nodes_NextIdent.the_field_send, tree_nodes_NextIdent.the_send, tree_nodes_NextIdent.the_field_sync, tree_nodes_NextIdent.the_sync, tree_nodes_TextLiteral.the_field_send, tree_nodes_TextLiteral.the_send, tree_nodes_TextLiteral.the_field_sync, tree_nodes_TextLiteral.the_sync, tree_nodes_TypeName.the_field_send, tree_nodes_TypeName.the_send, tree_nodes_TypeName.the_field_sync, tree_nodes_TypeName.the_sync, tree_nodes_Usage.the_field_send, tree_nodes_Usage.the_send, tree_nodes_Usage.the_field_sync, tree_nodes_Usage.the_sync, universe_Predeclared.the_field_send, universe_Predeclared.the_send, universe_Predeclared.the_field_sync, universe_Predeclared.the_sync, HashMap-send, HashMap-sync, std_Arc.the_send, std_Arc.the_sync, std_Box.the_send, std_Box.the_sync, std_String.the_field_send, std_String.the_send, std_String.the_field_sync, std_String.the_sync, std_Vec.the_send, std_Vec.the_sync, std_Global.the_field_send, std_Global.the_send, std_Global.the_field_sync, std_Global.the_sync)
 

@@ -1,12 +1,12 @@
 -- What may go to a thread (`IsSend`), and be seen by several at one time (`IsSync`), as the logic has the two.
 use denote.Param.Send.{IsSend, IsSync}
-use Rattle.go_answer_core.specs.contracts.site.Site as site
+use Rattle.go_report_core.specs.contracts.answer.site.Site as site
 use Rattle.go_block_core.specs.graph_core.contracts.workspace.Workspace as workspace
-use Rattle.go_history_core.specs.contracts.kept.KeptSnapshot as kept_snapshot
+use Rattle.go_submit_core.specs.contracts.history.kept.KeptSnapshot as kept_snapshot
 use Rattle.go_object_core.specs.contracts.object.Object as object
-use Rattle.go_snap_core.specs.part_core.contracts.input.PartInput as input
-use Rattle.go_snap_core.specs.part_core.contracts.part.Part as part
-use Rattle.go_snap_core.specs.part_core.contracts.parts.Parts as parts
+use Rattle.go_submit_core.specs.package_core.contracts.package_part.input.PartInput as input
+use Rattle.go_submit_core.specs.package_core.contracts.package_part.part.Part as part
+use Rattle.go_submit_core.specs.package_core.contracts.package_part.parts.Parts as parts
 use Rattle.go_snap_core.specs.contracts.snapshot.Snapshot as snapshot
 use Rattle.go_snap_core.specs.contracts.shared.SharedSnapshot as shared_snapshot
 

@@ -4,12 +4,12 @@
 
 ghost use Rattle.go_thread_core.specs.Threads.{InputsCross, KeptSnapshotsCross, ObjectsCross, PartsCross, SharedSnapshotsCross, SinglePartsCross, SnapshotsCross, WorkspacesCross};
 
-use go_answer_core::Site;
 use go_block_core::graph_core::Workspace;
-use go_history_core::KeptSnapshot;
 use go_object_core::Object;
-use go_snap_core::part_core::{Part, PartInput, Parts};
+use go_report_core::answer::Site;
 use go_snap_core::{SharedSnapshot, Snapshot};
+use go_submit_core::history::KeptSnapshot;
+use go_submit_core::package_core::{Part, PartInput, Parts};
 
 // Asks that values of a type may go to a thread, and be seen by several.
 fn is_shared_by_threads<T: Send + Sync>() {}

@@ -21,5 +21,7 @@ pub use value::{plain_value, string_value};
 
 /// What the crates above name of `go_text_core`.
 pub mod text_core {
-    pub use go_text_core::{Name, Rule, Span, add, boxed, fitted, is_blank, is_digit, is_letter};
+    pub use go_text_core::{
+        Name, Rule, Span, add, boxed, fitted, is_blank, is_digit, is_exported, is_letter, same_id,
+    };
 }

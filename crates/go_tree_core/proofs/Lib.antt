@@ -6,3 +6,5 @@ pub mod Pieces
 pub mod Respelling
 pub mod Telling
 pub mod Visits
+pub mod CopiesSameTrees
+mod CopiesUnchanged

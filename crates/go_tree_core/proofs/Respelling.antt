@@ -15,7 +15,7 @@ use Rattle.go_tree_nodes.specs.declared.files.Receiver.{Receiver}
 use Rattle.go_tree_nodes.specs.Terminals.{Terminal, TerminalKind, Spelled, Number, Quoted, Word, Mark, Stray, least_width, InOrder}
 use Rattle.go_tree_nodes.specs.Trees.{Separated, One, Then, TypeTree, FieldTrees, MethodTrees, SignatureTree, ResultTree, ParamTrees, NamedType, Pointer, ParenType, Struct, Interface, NoFields, NamedFields, EmbeddedField, NoMethods, Method, Signed, NoResult, OneResult, Results, NoParams, Param, ExprTree, ItemTrees, Integer, Text, Named, Paren, Unary, Binary, Select, Call, Literal, StructLiteral, NoItems, Item, ValueSpecTree, Specs, Single, Group, ValueTree, TypeSpecTree, TypeDeclTree, SimpleTree, Alone, Step, Assign, Update, Define, IfTree, ForTree, Forever, While, Clauses, StmtTree, BranchTree, ElseTree, Lines, Empty, Declare, Simple, Return, Break, Continue, Block, If, For, Branch, NoElse, ElseBlock, ElseIf, NoLines, Line, FuncTree, DeclTree, Value, Types, Func, TopTree, ImportSpecTree, ImportTree, FileTree}
 use Rattle.go_tree_nodes.specs.Spelling.{spell_some, spell_tag, spell_names, spell_import_name, spell_receiver_name, spell_idents, spell_type_name, spell_type, spell_fields, spell_methods, spell_signature, spell_result, spell_params, spell_key, spell, spell_items, spell_exprs, spell_some_type, spell_values, spell_value_spec, spell_specs_of, spell_specs, spell_value, spell_type_spec, spell_types, spell_simple, spell_some_simple, spell_some_expr, spell_init, spell_if, spell_for, spell_some_exprs, spell_stmt, spell_branch, spell_else, spell_lines, spell_receiver, spell_func, spell_decl, spell_tops, spell_import, spell_imports, spell_file, IsPlaced}
-use Rattle.go_tree_copies.specs.Respelled.{respelled_ident, separated_with, some_with, names_with, type_name_with, type_with, fields_with, methods_with, signature_with, result_with, params_with, key_with, expr_with, items_with, exprs_with, values_with, value_spec_with, line_with, specs_with, value_with, type_spec_with, type_decl_with, simple_with, init_with, if_with, for_with, stmt_with, branch_with, else_with, lines_with, receiver_with, func_with, decl_with, top_with, import_name_with, import_spec_with, import_with, respelled_file}
+use Rattle.go_tree_core.specs.copies.Respelled.{respelled_ident, separated_with, some_with, names_with, type_name_with, type_with, fields_with, methods_with, signature_with, result_with, params_with, key_with, expr_with, items_with, exprs_with, values_with, value_spec_with, line_with, specs_with, value_with, type_spec_with, type_decl_with, simple_with, init_with, if_with, for_with, stmt_with, branch_with, else_with, lines_with, receiver_with, func_with, decl_with, top_with, import_name_with, import_spec_with, import_with, respelled_file}
 use Rattle.go_tree_core.specs.Renaming.{respelled_kind, respelled_terminal, RespelledFilesWriteTheSame}
 
 -- one terminal, and then others

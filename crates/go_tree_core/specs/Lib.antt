@@ -3,3 +3,4 @@ pub mod Names
 pub mod Occurrences
 pub mod Renaming
 pub mod mirrors
+pub mod copies

@@ -4,7 +4,7 @@ use Rattle.go_tree_nodes.specs.text_core.declared.span.Span.{Span}
 use Rattle.go_tree_nodes.specs.Terminals.{Terminal, TerminalKind, Spelled, terminal}
 use Rattle.go_tree_nodes.specs.Trees.{FileTree}
 use Rattle.go_tree_nodes.specs.Spelling.{spell_file}
-use Rattle.go_tree_copies.specs.Respelled.{respelled_file}
+use Rattle.go_tree_core.specs.copies.Respelled.{respelled_file}
 use Rattle.go_tree_core.specs.declared.occurrence.Occ.{Occ}
 use Rattle.go_tree_core.specs.Occurrences.{is_identifier}
 

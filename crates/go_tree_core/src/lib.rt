@@ -1,7 +1,8 @@
 //! The tree of a Go file, and its occurrences: the identifiers that are used, the imports and the calls.
-//! [`occurrences`] lists them all, [`at`] answers which one stands at a place, [`renamed`] gives one another spelling.
+//! [`occurrences`] lists them all, [`at`] answers which one stands at a place, [`renamed`] gives one another spelling, [`copies`] copies trees.
 #![tactic(auto)]
 
+pub mod copies;
 mod expr_occurrences;
 mod file_occurrences;
 mod laws;
@@ -12,8 +13,8 @@ mod stmt_occurrences;
 mod type_occurrences;
 mod visitor;
 
+pub use crate::copies::copy;
 pub use file_occurrences::occurrences;
-pub use go_tree_copies::copy;
 pub use go_tree_nodes::{
     Assignment, BinaryExpr, Branch, CallExpr, Decl, Definition, Expr, Exprs, FieldLine, Fields,
     File, ForHead, FuncDecl, Ident, Idents, IfHead, ImportDecl, ImportLine, ImportName, ImportSpec,

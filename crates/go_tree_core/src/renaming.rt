@@ -4,15 +4,15 @@ ghost use Rattle.std.specs.Prelude.{◌≡◌, ◌<◌, length, IfOk};
 ghost use Rattle.std.specs.List.{fold};
 ghost use Rattle.go_tree_nodes.specs.Shapes.{file_of};
 ghost use Rattle.go_tree_nodes.specs.Spelling.{IsPlaced};
-ghost use Rattle.go_tree_copies.specs.Respelled.{respelled_file};
+ghost use Rattle.go_tree_core.specs.copies.Respelled.{respelled_file};
 ghost use Rattle.go_tree_core.specs.Occurrences.{file_occs};
 ghost use Rattle.go_tree_core.specs.Renaming.{IsNameAt, occ_start};
 ghost use Rattle.go_tree_core.specs.mirrors.Counting.{counted_next};
 
+use crate::copies::respelled;
 use crate::file_occurrences::visit_file;
 use crate::occurrence::{OccId, Role};
 use crate::visitor::Visitor;
-use go_tree_copies::respelled;
 use go_tree_nodes::File;
 use go_tree_nodes::text_core::Span;
 use std::alloc::{AllocError, Global};

@@ -1,4 +1,5 @@
 -- What the crates above name of go_token_core.
+pub use Rattle.go_token_core.proofs.CharacterLemmas as CharacterLemmas
 pub use Rattle.go_token_core.specs.Characters as Characters
 pub use Rattle.go_token_core.proofs.Choices as Choices
 pub use Rattle.go_token_core.proofs.EscapeLemmas as EscapeLemmas

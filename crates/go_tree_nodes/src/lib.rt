@@ -37,12 +37,15 @@ pub use usage::Usage;
 
 /// What the crates above name of `go_text_core`.
 pub mod text_core {
-    pub use go_token_core::text_core::{Name, Rule, Span, add, boxed, fitted, is_blank};
+    pub use go_token_core::text_core::{
+        Name, Rule, Span, add, boxed, fitted, is_blank, is_digit, is_exported, is_letter, same_id,
+    };
 }
 
 /// What the crates above name of `go_token_core`.
 pub mod token_core {
     pub use go_token_core::{
-        Comment, Keyword, Operator, ScanError, Token, TokenKind, integer_value,
+        Comment, CommentKind, KEYWORDS, Keyword, Operator, ScanError, Token, TokenKind,
+        characters_of, integer_value, plain_value, string_value,
     };
 }

@@ -4,9 +4,9 @@ use Rattle.std.specs.Prelude.{slice_get, if◌then◌else◌, IsTrue}
 use Rattle.std.proofs.lemmas.Option.{slice_get_within, get_or_from_slice_get}
 use Rattle.std.proofs.lemmas.List.{append-nil, length-take-le, take_all, take_more}
 use Rattle.go_term_core.specs.text_core.declared.rule.Rule.TheVariants as rules
-use Rattle.go_table_core.specs.decl_core.declared.keys.DeclKey.{DeclKey}
-use Rattle.go_table_core.specs.settle_core.declared.kind.Kind.{Kind}
-use Rattle.go_table_core.specs.settle_core.Settled.{kind_of_term}
+use Rattle.go_term_core.specs.decl_core.declared.keys.DeclKey.{DeclKey}
+use Rattle.go_term_core.specs.declared.settling.kind.Kind.{Kind}
+use Rattle.go_term_core.specs.settling.Settled.{kind_of_term}
 use Rattle.go_table_core.specs.Entries.{Entry, EntryLook}
 use Rattle.go_table_core.specs.Tables.{AreOf, KeysRise, IsKeyBefore}
 use Rattle.go_type_core.specs.declared.build.TypeFault.{TypeFault}

@@ -1,11 +1,11 @@
 -- What the parts of the code give one another, over what is written.
 use Rattle.std.proofs.Common.{◌≡◌, ℕ, Bool, List, Option, All, map, length, sym, ◌∙◌, subst}
 use Rattle.std.proofs.lemmas.List.{length-map}
-use Rattle.go_table_core.specs.decl_core.declared.keys.DeclKey.{DeclKey}
-use Rattle.go_cycle_core.specs.declared.edge.Edge.{Edge}
-use Rattle.go_cycle_core.specs.Cycle.{InRange, IsRanking}
-use Rattle.go_chain_core.specs.Chains.{AllInside, AreEnds}
-use Rattle.go_table_core.specs.settle_core.declared.kind.Kind.{Kind}
+use Rattle.go_term_core.specs.decl_core.declared.keys.DeclKey.{DeclKey}
+use Rattle.go_digraph_core.specs.declared.cycle.edge.Edge.{Edge}
+use Rattle.go_digraph_core.specs.cycle.Cycle.{InRange, IsRanking}
+use Rattle.go_digraph_core.specs.chain.Chains.{AllInside, AreEnds}
+use Rattle.go_term_core.specs.declared.settling.kind.Kind.{Kind}
 use Rattle.go_table_core.specs.declared.entry.TypeEntry.{TypeEntry}
 use Rattle.go_table_core.specs.Entries.{Entry, EntryLook, find_entry, IsUnnamed}
 use Rattle.go_table_core.specs.Shown.{entry_shown}

@@ -5,15 +5,15 @@ use Rattle.std.specs.List.Sorted.{IsPartitionPoint, IsPartitionedBy}
 use Rattle.std.proofs.lemmas.List.{length_push, map_more, take_all}
 use Rattle.std.proofs.lemmas.Bool.{cases_eq, cases_order, false_from_ne_true}
 use Rattle.std.proofs.lemmas.Option.{slice_get_within, slice_get-map, slice_get-get_or, get_or_from_slice_get}
-use Rattle.go_table_core.specs.decl_core.declared.keys.DeclKey.{DeclKey}
-use Rattle.go_table_core.specs.decl_core.declared.keys.DeclRef.{DeclRef}
+use Rattle.go_term_core.specs.decl_core.declared.keys.DeclKey.{DeclKey}
+use Rattle.go_term_core.specs.decl_core.declared.keys.DeclRef.{DeclRef}
 use Rattle.go_table_core.specs.Entries.{Entry, same_key, find_entry}
 use Rattle.go_table_core.specs.declared.entry.TypeEntry.{TypeEntry}
 use Rattle.go_table_core.specs.Shown.{entry_shown}
 use Rattle.go_table_core.specs.Tables.{AreOf, KeysRise}
 use Rattle.go_table_core.proofs.Keys.{not_before_itself, ref_before_on, rise_first, rise_rest, same_key_from, same_key_itself, same_key_true}
 use Rattle.go_type_core.specs.mirrors.Numbers.{keys_of, keys_in, number_of, RefsRise, IsTable}
-use Rattle.go_table_core.specs.decl_core.Order.{is_ref_before}
+use Rattle.go_term_core.specs.decl_core.Order.{is_ref_before}
 
 -- an entry that stands at a number, which is its key's
 pub record At (es : List Entry) (k : DeclKey) (i : ℕ) (e : Entry) : Type 0 where

@@ -6,9 +6,9 @@ use Rattle.std.proofs.lemmas.Option.{slice_get_within}
 use Rattle.std.proofs.lemmas.List.{take_all, take_more, length-set, length-replicate, get_or-set_same, get_or-set_other}
 use Rattle.std.proofs.lemmas.Bool.{cases_eq}
 use Rattle.std.proofs.lemmas.List.Elements.{Contains-append_left, Contains-append_right, Contains-append_cases, Contains-get_or, Contains-push, Contains-push_cases, All-contains}
-use Rattle.go_table_core.specs.decl_core.declared.keys.DeclKey.{DeclKey}
-use Rattle.go_cycle_core.specs.declared.edge.Edge.{Edge}
-use Rattle.go_cycle_core.specs.Cycle.{InRange, Leads, Reaches, IsOnCycle, IsRanked, IsRanking}
+use Rattle.go_term_core.specs.decl_core.declared.keys.DeclKey.{DeclKey}
+use Rattle.go_digraph_core.specs.declared.cycle.edge.Edge.{Edge}
+use Rattle.go_digraph_core.specs.cycle.Cycle.{InRange, Leads, Reaches, IsOnCycle, IsRanked, IsRanking}
 use Rattle.go_table_core.specs.Entries.{Entry}
 use Rattle.go_type_core.specs.Built.{AreLoopedEntries, direct_keys, Uses, UsesAlong, IsLooped}
 use Rattle.go_type_core.specs.mirrors.Numbers.{keys_of, number_of}

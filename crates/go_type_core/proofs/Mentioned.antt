@@ -3,11 +3,11 @@ use Rattle.std.proofs.Common.{◌≡◌, ◌⊎◌, ℕ, inl, inr, Bool, true, f
 use Rattle.std.specs.List.{Contains}
 use Rattle.std.proofs.lemmas.List.Elements.{Contains-append_left, Contains-append_right, Contains-append_cases, Contains-push}
 use Rattle.go_term_core.specs.text_core.Text.{is_blank}
-use Rattle.go_table_core.specs.decl_core.declared.keys.DeclKey.{DeclKey}
-use Rattle.go_table_core.specs.settle_core.declared.kind.Kind.{Kind}
-use Rattle.go_table_core.specs.settle_core.declared.kind.Kind.TheVariants as kinds
-use Rattle.go_table_core.specs.settle_core.Settled.{kind_of_term, is_among_names, settled_sign}
-use Rattle.go_table_core.specs.settle_core.Mentions.{settled_mentions_written, sign_mentions}
+use Rattle.go_term_core.specs.decl_core.declared.keys.DeclKey.{DeclKey}
+use Rattle.go_term_core.specs.declared.settling.kind.Kind.{Kind}
+use Rattle.go_term_core.specs.declared.settling.kind.Kind.TheVariants as kinds
+use Rattle.go_term_core.specs.settling.Settled.{kind_of_term, is_among_names, settled_sign}
+use Rattle.go_term_core.proofs.SettlingMentions.{settled_mentions_written, sign_mentions}
 use Rattle.go_term_core.specs.Terms.{Term, Defined, term_keys, sign_keys}
 use Rattle.go_table_core.specs.Entries.{Entry, Member, EntryLook, find_entry, members_keys, entry_keys}
 use Rattle.go_table_core.specs.Methods.{has_field_before}

@@ -1,9 +1,9 @@
 -- The types of a package and those of others as one look-up.
 use Rattle.std.proofs.Common.{◌≡◌, inl, inr, Bool, true, false, List, [], ◌∷◌, Option, Some, None, if◌then◌else◌, refl, sym, ap, ◌∙◌, subst}
-use Rattle.go_table_core.specs.decl_core.declared.keys.DeclKey.{DeclKey}
-use Rattle.go_table_core.specs.settle_core.declared.kind.Kind.{Kind}
-use Rattle.go_table_core.specs.settle_core.declared.kind.Kind.TheVariants as kinds
-use Rattle.go_table_core.specs.settle_core.Settled.{kind_of_term, settled, pointer_to, defined_unless}
+use Rattle.go_term_core.specs.decl_core.declared.keys.DeclKey.{DeclKey}
+use Rattle.go_term_core.specs.declared.settling.kind.Kind.{Kind}
+use Rattle.go_term_core.specs.declared.settling.kind.Kind.TheVariants as kinds
+use Rattle.go_term_core.specs.settling.Settled.{kind_of_term, settled, pointer_to, defined_unless}
 use Rattle.go_term_core.specs.Terms.{Term, NoType, Predeclared, ErrorType, Defined, PointerTo, StructOf, InterfaceOf}
 use Rattle.go_table_core.specs.Entries.{Entry, EntryLook, same_key, find_entry, term_in, underlying_in, IsUnnamed}
 use Rattle.go_type_core.specs.declared.build.TypeFault.{TypeFault}

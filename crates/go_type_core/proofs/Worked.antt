@@ -1,7 +1,7 @@
 -- Samples of declarations.
 use Rattle.std.proofs.Common.{◌≡◌, inl, inr, List, [], ◌∷◌, Some, None, refl, sym, ap, ◌∙◌, subst}
 use Rattle.std.specs.List.{Contains}
-use Rattle.go_table_core.specs.decl_core.declared.keys.DeclKey.{DeclKey}
+use Rattle.go_term_core.specs.decl_core.declared.keys.DeclKey.{DeclKey}
 use Rattle.go_term_core.specs.Terms.{Term, NoType, Defined, PointerTo}
 use Rattle.go_table_core.specs.Entries.{Entry, EntryLook, find_entry}
 use Rattle.go_type_core.specs.Built.{base, direct_keys, NamesNothing, IsNothingBy, Uses, UsesAlong, IsLooped}

@@ -2,11 +2,11 @@
 use Rattle.std.specs.Prelude.{◌≡◌, ◌⊎◌, ◌↔◌, ℕ, suc, Bool, true, false, ◌||◌, IsTrue, List, [], ◌∷◌, ◌++◌, Some, None, slice_get, slice_index_or, Contains, if◌then◌else◌, ⊤}
 use Rattle.go_term_core.specs.text_core.Text.{is_blank}
 use Rattle.go_term_core.specs.text_core.declared.rule.Rule.TheVariants as rules
-use Rattle.go_table_core.specs.decl_core.declared.keys.DeclKey.{DeclKey}
+use Rattle.go_term_core.specs.decl_core.declared.keys.DeclKey.{DeclKey}
 use Rattle.go_term_core.specs.Terms.{Term, NoType, Predeclared, ErrorType, Defined, PointerTo, StructOf, InterfaceOf, Fields, NoField, AField}
-use Rattle.go_table_core.specs.settle_core.declared.kind.Kind.{Kind}
-use Rattle.go_table_core.specs.settle_core.declared.kind.Kind.TheVariants as kinds
-use Rattle.go_table_core.specs.settle_core.Settled.{kind_of_term, is_among_names, settled, settled_sign}
+use Rattle.go_term_core.specs.declared.settling.kind.Kind.{Kind}
+use Rattle.go_term_core.specs.declared.settling.kind.Kind.TheVariants as kinds
+use Rattle.go_term_core.specs.settling.Settled.{kind_of_term, is_among_names, settled, settled_sign}
 use Rattle.go_type_core.specs.declared.build.TypeFault.{TypeFault}
 use Rattle.go_table_core.specs.Entries.{Member, Entry, EntryLook, find_entry, IsUnnamed}
 use Rattle.go_table_core.specs.Methods.{has_field_before}

@@ -1,8 +1,8 @@
 -- Samples of declarations, worked by hand.
 use Rattle.std.specs.Prelude.{false, [], ◌∷◌}
-use Rattle.go_table_core.specs.decl_core.declared.keys.DeclKey.{DeclKey}
-use Rattle.go_table_core.specs.decl_core.declared.keys.DeclRef.{DeclRef}
-use Rattle.go_table_core.specs.decl_core.declared.places.DeclKind.TheVariants as decl_kinds
+use Rattle.go_term_core.specs.decl_core.declared.keys.DeclKey.{DeclKey}
+use Rattle.go_term_core.specs.decl_core.declared.keys.DeclRef.{DeclRef}
+use Rattle.go_term_core.specs.decl_core.declared.places.DeclKind.TheVariants as decl_kinds
 use Rattle.go_term_core.specs.declared.term.MemberPlace.TheVariants as places
 use Rattle.go_term_core.specs.Terms.{Term, Defined, PointerTo, StructOf, NoField, AField}
 use Rattle.go_table_core.specs.Entries.{Entry, EntryLook}

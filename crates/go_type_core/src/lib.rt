@@ -15,8 +15,8 @@ mod roots;
 mod settled;
 
 pub use build::{TypeFault, build_types};
-pub use go_table_core::settle_core::{Kind, Kinds, can_embed, kind_of, settle, settle_signature};
 pub use go_table_core::{DeclaredMethod, DefinedType, Located, PackageTypes, TypeEntry, TypeTable};
+pub use go_term_core::settling::{Kind, Kinds, can_embed, kind_of, settle, settle_signature};
 pub use go_term_core::{
     Basic, Field, LocalPlace, MemberPlace, Method, Signature, Tag, TypeTerm, has_same_signature,
     identical, identical_but_for_tags,
@@ -26,27 +26,9 @@ pub use laws::{
 };
 pub use looped::type_loops;
 
-/// What the crates above name of `go_decl_core`.
-pub mod decl_core {
-    pub use go_table_core::decl_core::{DeclForm, DeclKey, Places, TopDecl};
-}
-
-/// What the crates above name of `go_path_core`.
-pub mod path_core {
-    pub use go_table_core::path_core::ImportPath;
-}
-
-/// What the crates above name of `go_settle_core`.
-pub mod settle_core {
-    pub use go_table_core::settle_core::{
-        Kind, Kinds, SeenNames, kind_of, settle, settle_signature,
-    };
-}
-
 /// What the crates above name of `go_table_core`.
 pub mod table_core {
     pub use go_table_core::{
-        DeclaredMethod, DefinedType, FieldTable, PackageTypes, StructField, StructFields,
-        TypeEntry, TypeTable, identical_under, identical_under_but_for_tags, is_named_type,
+        DeclaredMethod, FieldTable, StructField, StructFields, TypeEntry, TypeTable,
     };
 }

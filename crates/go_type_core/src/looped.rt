@@ -1,6 +1,6 @@
 //! Which types reach themselves.
 ghost use Rattle.std.specs.Prelude.{◌≡◌, ◌↔◌, ◌<◌, ◌++◌, ◌∷◌, [], IfOk, IsTrue, length, map, OnOk, Some};
-ghost use Rattle.go_cycle_core.specs.Cycle.{InRange, IsRanking};
+ghost use Rattle.go_digraph_core.specs.cycle.Cycle.{InRange, IsRanking};
 ghost use Rattle.go_table_core.specs.Shown.{entry_shown};
 ghost use Rattle.go_table_core.specs.Tables.{AreOf, KeysRise};
 ghost use Rattle.go_term_core.specs.Shapes.{fields_in, line_at, line_shapes, shape};
@@ -9,10 +9,10 @@ ghost use Rattle.go_type_core.specs.mirrors.Edges.{all_uses, Falls, HasAlso, Lin
 ghost use Rattle.go_type_core.specs.mirrors.Numbers.{keys_of};
 
 use crate::own_keys::OwnKeys;
-use go_cycle_core::{Edge, Ranked, rank_and_order};
+use go_digraph_core::cycle::{Edge, Ranked, rank_and_order};
 use go_table_core::TypeEntry;
-use go_table_core::decl_core::DeclKey;
 use go_table_core::path_core::ImportPath;
+use go_term_core::decl_core::DeclKey;
 use go_term_core::{Field, FieldLine, TypeTerm};
 use std::alloc::{AllocError, Global};
 

@@ -1,14 +1,14 @@
 //! The methods of a type that are its own.
 ghost use Rattle.std.specs.Prelude.{◌≡◌, [], ℕ, List, IfOk, map, not};
-ghost use Rattle.go_table_core.specs.settle_core.Settled.{is_among_names, kind_of_term};
+ghost use Rattle.go_term_core.specs.settling.Settled.{is_among_names, kind_of_term};
 ghost use Rattle.go_table_core.specs.Methods.{has_field_before};
 ghost use Rattle.go_table_core.specs.Shown.{member_shown};
 ghost use Rattle.go_type_core.specs.Built.{unrepeated_methods, kept_over, settled_member};
 ghost use Rattle.go_type_core.specs.mirrors.Making.{is_left_out, seen_after};
 
 use go_table_core::path_core::ImportPath;
-use go_table_core::settle_core::{Kind, Kinds, SeenNames, kind_of, settle_signature};
 use go_table_core::{DeclaredMethod, FieldTable, IndexedTerm};
+use go_term_core::settling::{Kind, Kinds, SeenNames, kind_of, settle_signature};
 use go_term_core::text_core::is_blank;
 use std::alloc::{AllocError, Global};
 

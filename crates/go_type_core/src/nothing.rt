@@ -10,7 +10,7 @@ ghost use Rattle.go_type_core.specs.mirrors.Numbers.{IsTable, keys_of, term_at};
 
 use crate::marks::{end_at, is_marked, next_unless};
 use crate::own_keys::OwnKeys;
-use go_chain_core::chain_ends;
+use go_digraph_core::chain::chain_ends;
 use go_table_core::{TypeEntry, TypeTable};
 use go_term_core::{TypeTerm, is_no_type};
 use std::alloc::{AllocError, Global};

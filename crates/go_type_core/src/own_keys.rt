@@ -4,11 +4,11 @@ ghost use Rattle.std.specs.List.Sorted.{IsPartitionPoint};
 ghost use Rattle.go_table_core.specs.Shown.{entry_shown};
 ghost use Rattle.go_table_core.specs.Tables.{AreOf, KeysRise};
 ghost use Rattle.go_type_core.specs.mirrors.Numbers.{keys_in, keys_of, number_of, RefsRise};
-ghost use Rattle.go_table_core.specs.decl_core.Order.{is_ref_before};
+ghost use Rattle.go_term_core.specs.decl_core.Order.{is_ref_before};
 
 use go_table_core::TypeEntry;
-use go_table_core::decl_core::{DeclKey, DeclRef};
 use go_table_core::path_core::ImportPath;
+use go_term_core::decl_core::{DeclKey, DeclRef};
 use std::alloc::{AllocError, Global};
 use std::marker::Model;
 
@@ -21,7 +21,7 @@ pub(crate) struct OwnKeys {
 
 impl Model for OwnKeys {
     ghost use Rattle.std.specs.Prelude.{List};
-    ghost use Rattle.go_table_core.specs.decl_core.declared.keys.DeclKey.{DeclKey as TheKey};
+    ghost use Rattle.go_term_core.specs.decl_core.declared.keys.DeclKey.{DeclKey as TheKey};
     ghost use Rattle.go_type_core.specs.mirrors.Numbers.{keys_in, RefsRise};
 
     ghost Value = { List TheKey };

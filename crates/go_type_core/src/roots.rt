@@ -10,11 +10,11 @@ ghost use Rattle.go_type_core.specs.mirrors.Numbers.{IsTable, keys_of};
 use crate::marks::{is_marked, next_unless, root_at};
 use crate::nothing::named_number;
 use crate::own_keys::OwnKeys;
-use go_chain_core::chain_ends;
-use go_table_core::decl_core::DeclKey;
-use go_table_core::settle_core::{Kind, Kinds};
+use go_digraph_core::chain::chain_ends;
 use go_table_core::{TypeEntry, TypeTable};
 use go_term_core::TypeTerm;
+use go_term_core::decl_core::DeclKey;
+use go_term_core::settling::{Kind, Kinds};
 use std::alloc::{AllocError, Global};
 
 /// The kinds of all defined types: those of a package by their numbers, and those of other packages.

@@ -1,7 +1,7 @@
 //! The settled types of a package.
 ghost use Rattle.std.specs.Prelude.{◌≡◌, IfOk, length, map, not};
 ghost use Rattle.std.specs.Arc.{arc_value};
-ghost use Rattle.go_table_core.specs.settle_core.Settled.{settled};
+ghost use Rattle.go_term_core.specs.settling.Settled.{settled};
 ghost use Rattle.go_table_core.specs.Entries.{find_entry, term_in};
 ghost use Rattle.go_table_core.specs.Shown.{entry_shown};
 ghost use Rattle.go_term_core.specs.Shapes.{shape};
@@ -14,10 +14,10 @@ use crate::marks::{is_marked, root_at};
 use crate::methods::kept_methods;
 use crate::own_keys::OwnKeys;
 use crate::roots::KnownKinds;
-use go_table_core::decl_core::DeclKey;
-use go_table_core::settle_core::{Kind, settle};
 use go_table_core::{DefinedType, IndexedTerm, TypeEntry, TypeTable};
 use go_term_core::TypeTerm;
+use go_term_core::decl_core::DeclKey;
+use go_term_core::settling::{Kind, settle};
 use go_term_core::text_core::add;
 use std::alloc::{AllocError, Global};
 use std::sync::Arc;

@@ -1,29 +1,29 @@
 -- What a text names where a type is written at the top of a file that imports nothing.
 use Rattle.std.proofs.Common.{◌≡◌, ◌⊎◌, inl, inr, ℕ, ◌≤◌, true, false, List, [], ◌∷◌, length, Option, Some, None, sym, ap, ◌∙◌, subst, arith, if◌then◌else◌}
 use Rattle.std.proofs.lemmas.List.{length-map}
-use Rattle.go_text_core.specs.Text.{is_blank}
-use Rattle.go_text_core.specs.declared.rule.Rule.{Rule}
-use Rattle.go_text_core.specs.declared.rule.Rule.TheVariants.{M0, N1, N8}
-use Rattle.go_query_core.specs.graph_core.Packages.{AllHaveTrees, Trees, trees_of}
-use Rattle.go_query_core.specs.graph_core.Assemblies.{as_many}
-use Rattle.go_query_core.specs.block_core.declared.imports.Imported.{Imported}
-use Rattle.go_query_core.specs.block_core.Blocks.{BlocksModel}
-use Rattle.go_query_core.specs.block_core.Holding.{file_block}
-use Rattle.go_query_core.specs.block_core.Naming.{package_named}
-use Rattle.go_open_core.specs.Blocks.{found_in}
-use Rattle.go_query_core.specs.scope_core.Laws.{denotes}
-use Rattle.go_query_core.specs.scope_core.Models.{ScopesModel, scopes_model}
-use Rattle.go_query_core.specs.scope_core.Scopes.{Denoted, scope_blocks}
+use Rattle.go_path_core.specs.text_core.Text.{is_blank}
+use Rattle.go_path_core.specs.text_core.declared.rule.Rule.{Rule}
+use Rattle.go_path_core.specs.text_core.declared.rule.Rule.TheVariants.{M0, N1, N8}
+use Rattle.go_graph_core.specs.Packages.{AllHaveTrees, Trees, trees_of}
+use Rattle.go_graph_core.proofs.Assemblies.{as_many}
+use Rattle.go_names_core.specs.block_core.declared.imports.Imported.{Imported}
+use Rattle.go_names_core.specs.block_core.Blocks.{BlocksModel}
+use Rattle.go_names_core.specs.block_core.Holding.{file_block}
+use Rattle.go_names_core.specs.block_core.Naming.{package_named}
+use Rattle.go_scope_stack.specs.Blocks.{found_in}
+use Rattle.go_names_core.specs.scope_core.Laws.{denotes}
+use Rattle.go_names_core.specs.scope_core.Models.{ScopesModel, scopes_model}
+use Rattle.go_names_core.specs.scope_core.Scopes.{Denoted, scope_blocks}
 use Rattle.go_term_core.specs.Terms.{Term}
-use Rattle.go_member_core.specs.denote_core.declared.things.Stand.TheVariants as stands
-use Rattle.go_member_core.specs.denote_core.Answers.{found_answer, refused}
-use Rattle.go_decl_core.specs.declared.keys.DeclRef.{DeclRef}
-use Rattle.go_query_core.specs.env_core.Found.{face_at}
-use Rattle.go_query_core.specs.face_core.Faces.{TheFace}
-use Rattle.go_query_core.specs.face_core.Written.{WrittenOf}
-use Rattle.go_query_core.specs.ready_core.Packages.{PackageIn}
-use Rattle.go_query_core.specs.part_core.Inputs.{path_in}
-use Rattle.go_query_core.specs.part_core.Parts.{IsPart, PartModel, package_seen, seen_by}
+use Rattle.go_expr_core.specs.denote_core.declared.things.Stand.TheVariants as stands
+use Rattle.go_expr_core.specs.denote_core.Answers.{found_answer, refused}
+use Rattle.go_term_core.specs.decl_core.declared.keys.DeclRef.{DeclRef}
+use Rattle.go_package_core.specs.env_core.Found.{face_at}
+use Rattle.go_summary_core.specs.declared_core.Faces.{TheFace}
+use Rattle.go_summary_core.specs.declared_core.Written.{WrittenOf}
+use Rattle.go_package_core.specs.prepare.Packages.{PackageIn}
+use Rattle.go_package_core.specs.package_part.Inputs.{path_in}
+use Rattle.go_package_core.specs.package_part.Parts.{IsPart, PartModel, package_seen, seen_by}
 use Rattle.go_type_doc_core.specs.Naming.{IsOwnRefusal, IsOwnType, fresh_look, own_answer, types_seen}
 use Rattle.go_type_doc_core.specs.Names.{BreaksRule, NamesType, TheAnswer}
 use Rattle.go_type_doc_core.specs.mirrors.Named.{HasOwnPlaces, IsRuleIn, IsRuleOf, IsTypeIn, IsTypeOf, known_of, own_known}

@@ -1,19 +1,19 @@
 -- What a text names behind the name of another package and a dot.
 use Rattle.std.proofs.Common.{◌≡◌, ◌⊎◌, inl, inr, ℕ, true, false, List, [], ◌∷◌, Option, Some, None, sym, ap, ◌∙◌, subst, if◌then◌else◌}
 use Rattle.std.proofs.lemmas.Slice.Eq.{bytes_eq-Decides}
-use Rattle.go_text_core.specs.Text.{is_blank}
-use Rattle.go_text_core.specs.declared.rule.Rule.{Rule}
-use Rattle.go_text_core.specs.declared.rule.Rule.TheVariants.{M0, S8}
+use Rattle.go_path_core.specs.text_core.Text.{is_blank}
+use Rattle.go_path_core.specs.text_core.declared.rule.Rule.{Rule}
+use Rattle.go_path_core.specs.text_core.declared.rule.Rule.TheVariants.{M0, S8}
 use Rattle.go_tree_nodes.specs.declared.usage.Usage.TheVariants as usages
 use Rattle.go_term_core.specs.Terms.{Term}
-use Rattle.go_member_core.specs.denote_core.Answers.{refused}
-use Rattle.go_member_core.specs.denote_core.Selectors.{exported_answer}
-use Rattle.go_query_core.specs.face_core.declared.shown.ShownFace.{ShownFace}
-use Rattle.go_query_core.specs.face_core.Packages.{PackageFacesModel, package_in, shown_by, shown_in_some}
-use Rattle.go_query_core.specs.env_core.Found.{exported_shown}
-use Rattle.go_query_core.specs.summary_core.Summaries.{SummaryModel}
-use Rattle.go_query_core.specs.part_core.Inputs.{path_in}
-use Rattle.go_query_core.specs.part_core.Parts.{IsPart, PartModel}
+use Rattle.go_expr_core.specs.denote_core.Answers.{refused}
+use Rattle.go_expr_core.specs.denote_core.Selectors.{exported_answer}
+use Rattle.go_summary_core.specs.declared_core.declared.shown.ShownFace.{ShownFace}
+use Rattle.go_summary_core.specs.declared_core.Packages.{PackageFacesModel, package_in, shown_by, shown_in_some}
+use Rattle.go_package_core.specs.env_core.Found.{exported_shown}
+use Rattle.go_summary_core.specs.Summaries.{SummaryModel}
+use Rattle.go_package_core.specs.package_part.Inputs.{path_in}
+use Rattle.go_package_core.specs.package_part.Parts.{IsPart, PartModel}
 use Rattle.go_type_doc_core.specs.Names.{BreaksRule, NamesType, TheAnswer}
 use Rattle.go_type_doc_core.specs.Naming.{IsOtherRefusal, IsOtherType, other_answer}
 use Rattle.go_type_doc_core.specs.mirrors.Named.{IsNoneShown, IsTypeShown}

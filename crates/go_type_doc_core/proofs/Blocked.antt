@@ -2,13 +2,13 @@
 use Rattle.std.proofs.Common.{◌≡◌, ◌⊎◌, inl, inr, ℕ, suc, ◌+◌, Bool, true, false, List, [], ◌∷◌, ◌++◌, Some, None, slice_get, cond, refl, sym, ap, ◌∙◌, arith, if◌then◌else◌}
 use Rattle.std.specs.Str.{bytes_eq}
 use Rattle.go_tree_nodes.specs.Trees.{FileTree}
-use Rattle.go_decl_core.specs.declared.keys.DeclRef.{DeclRef}
-use Rattle.go_decl_core.specs.TopDecls.{TopDeclTree, kind_of_form, top_decls}
-use Rattle.go_query_core.specs.graph_core.Packages.{Trees}
-use Rattle.go_query_core.specs.block_core.Declarations.{PackageDeclaration, decl_ref, declaration, file_declared, files_declared, is_bindable, is_method_form, package_declared, top_declared, unless_method}
-use Rattle.go_query_core.specs.block_core.Holding.{declared_block, package_block, with_declared}
-use Rattle.go_query_core.specs.block_core.Tables.{has, in_block, with_first}
-use Rattle.go_query_core.specs.entry_core.Among.{Among, among_cases, among_flat}
+use Rattle.go_term_core.specs.decl_core.declared.keys.DeclRef.{DeclRef}
+use Rattle.go_term_core.specs.decl_core.TopDecls.{TopDeclTree, kind_of_form, top_decls}
+use Rattle.go_graph_core.specs.Packages.{Trees}
+use Rattle.go_names_core.specs.block_core.Declarations.{PackageDeclaration, decl_ref, declaration, file_declared, files_declared, is_bindable, is_method_form, package_declared, top_declared, unless_method}
+use Rattle.go_names_core.specs.block_core.Holding.{declared_block, package_block, with_declared}
+use Rattle.go_names_core.specs.block_core.Tables.{has, in_block, with_first}
+use Rattle.go_typexpr_core.proofs.EntryAmong.{Among, among_cases, among_flat}
 
 abbrev Named : Type 0
 Named = List ℕ × DeclRef

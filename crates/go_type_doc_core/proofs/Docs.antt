@@ -1,13 +1,13 @@
 -- What parts of the answer say together.
 use Rattle.std.proofs.Common.{◌≡◌, ◌≢◌, ◌⊎◌, inl, inr, ℕ, List, Option, subst}
-use Rattle.go_text_core.specs.declared.rule.Rule.{Rule}
-use Rattle.go_text_core.specs.declared.rule.Rule.TheVariants.{M0}
-use Rattle.go_query_core.specs.graph_core.declared.imports.ImportOutcome.TheVariants.{Refused}
-use Rattle.go_query_core.specs.list_core.Importing.{IsJudgedAt}
+use Rattle.go_path_core.specs.text_core.declared.rule.Rule.{Rule}
+use Rattle.go_path_core.specs.text_core.declared.rule.Rule.TheVariants.{M0}
+use Rattle.go_graph_core.specs.declared.imports.ImportOutcome.TheVariants.{Refused}
+use Rattle.go_import_core.specs.list.Importing.{IsJudgedAt}
 use Rattle.go_term_core.specs.Terms.{Term}
-use Rattle.go_query_core.specs.part_core.Inputs.{path_in}
-use Rattle.go_query_core.specs.part_core.Parts.{IsPart, PartModel}
-use Rattle.go_query_core.specs.snap_core.Snapshots.{SnapshotModel}
+use Rattle.go_package_core.specs.package_part.Inputs.{path_in}
+use Rattle.go_package_core.specs.package_part.Parts.{IsPart, PartModel}
+use Rattle.go_snap_core.specs.Snapshots.{SnapshotModel}
 use Rattle.go_query_core.specs.Documenting.{IsImportedPart}
 use Rattle.go_query_core.specs.Parts.{IsPartOf}
 use Rattle.go_type_doc_core.specs.Naming.{IsOwnRefusal, IsOwnType}

@@ -1,24 +1,24 @@
 -- What selectors behind a variable have depends on what its type reaches alone.
 use Rattle.std.proofs.Common.{◌≡◌, ℕ, Bool, true, false, List, Result, Ok, Err, refl, sym, ap, ◌∙◌, if◌then◌else◌}
-use Rattle.go_text_core.specs.Text.{is_blank}
-use Rattle.go_text_core.specs.declared.rule.Rule.{Rule}
-use Rattle.go_text_core.specs.declared.rule.Rule.TheVariants.{S8}
+use Rattle.go_path_core.specs.text_core.Text.{is_blank}
+use Rattle.go_path_core.specs.text_core.declared.rule.Rule.{Rule}
+use Rattle.go_path_core.specs.text_core.declared.rule.Rule.TheVariants.{S8}
 use Rattle.go_term_core.specs.Terms.{Term, Sign}
-use Rattle.go_member_core.specs.table_core.Entries.{Entry, EntryLook, find_entry}
-use Rattle.go_member_core.specs.table_core.Laws.{AgreeFrom}
-use Rattle.go_member_core.specs.embed_core.Owners.{Found, AFieldOf, AMethodOf, AnInterfaces, TheErrorMethod}
-use Rattle.go_member_core.specs.denote_core.declared.things.Outcome.{Outcome}
-use Rattle.go_member_core.specs.denote_core.declared.things.Selection.{Selection}
-use Rattle.go_member_core.specs.denote_core.Answers.{refused}
-use Rattle.go_member_core.specs.denote_core.Selectors.{member_answer}
-use Rattle.go_member_core.specs.decide_core.Rules.{term_rules}
-use Rattle.go_member_core.specs.decide_core.Selecting.{Choice, choice, selected_of}
-use Rattle.go_member_core.specs.decide_core.Localities.{decisions_local}
-use Rattle.go_member_core.specs.handle_core.Declarations.{Declaration, declaration_found}
-use Rattle.go_member_core.specs.handle_core.Names.{selection_in, shown_choice}
-use Rattle.go_member_core.specs.declared.listing.MemberKind.{MemberKind}
-use Rattle.go_member_core.specs.declared.listing.MemberKind.TheVariants as kinds
-use Rattle.go_member_core.specs.Members.{AreLooks, AreMembers, MemberOf, TheLook, behind_variable, usage_of}
+use Rattle.go_summary_core.specs.table_core.Entries.{Entry, EntryLook, find_entry}
+use Rattle.go_summary_core.specs.table_core.Laws.{AgreeFrom}
+use Rattle.go_select_core.specs.embed_core.Owners.{Found, AFieldOf, AMethodOf, AnInterfaces, TheErrorMethod}
+use Rattle.go_expr_core.specs.denote_core.declared.things.Outcome.{Outcome}
+use Rattle.go_expr_core.specs.denote_core.declared.things.Selection.{Selection}
+use Rattle.go_expr_core.specs.denote_core.Answers.{refused}
+use Rattle.go_expr_core.specs.denote_core.Selectors.{member_answer}
+use Rattle.go_summary_core.specs.handle_core.DecidingRules.{term_rules}
+use Rattle.go_summary_core.specs.handle_core.DecidingSelecting.{Choice, choice, selected_of}
+use Rattle.go_summary_core.specs.handle_core.DecidingLocalities.{decisions_local}
+use Rattle.go_summary_core.specs.handle_core.Declarations.{Declaration, declaration_found}
+use Rattle.go_summary_core.specs.handle_core.Names.{selection_in, shown_choice}
+use Rattle.go_type_doc_core.specs.declared.members.listing.MemberKind.{MemberKind}
+use Rattle.go_type_doc_core.specs.declared.members.listing.MemberKind.TheVariants as kinds
+use Rattle.go_type_doc_core.specs.members.Members.{AreLooks, AreMembers, MemberOf, TheLook, behind_variable, usage_of}
 use Rattle.go_type_doc_core.specs.Names.{TheAnswer}
 use Rattle.go_type_doc_core.specs.Laws.{AreMembersOver, MembersAreLocal}
 

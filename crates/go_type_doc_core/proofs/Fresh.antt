@@ -1,32 +1,32 @@
 -- What a text stands for where a type is written at the top of a file that imports nothing.
 use Rattle.std.proofs.Common.{◌≡◌, ℕ, ◌≤◌, Bool, true, false, List, [], length, Option, Some, None, slice_get, refl, sym, ap, ◌∙◌, subst, if◌then◌else◌}
 use Rattle.std.proofs.lemmas.Option.{same_Some, slice_get_past}
-use Rattle.go_text_core.specs.declared.rule.Rule.{Rule}
-use Rattle.go_text_core.specs.declared.rule.Rule.TheVariants.{N6}
+use Rattle.go_path_core.specs.text_core.declared.rule.Rule.{Rule}
+use Rattle.go_path_core.specs.text_core.declared.rule.Rule.TheVariants.{N6}
 use Rattle.go_universe_core.specs.declared.Predeclared.{Predeclared}
 use Rattle.go_universe_core.specs.Universe.{found}
-use Rattle.go_decl_core.specs.declared.keys.DeclRef.{DeclRef}
-use Rattle.go_query_core.specs.block_core.Blocks.{file_binding, in_some}
-use Rattle.go_query_core.specs.block_core.Tables.{has, in_block}
-use Rattle.go_query_core.specs.scope_core.Laws.{denotes}
-use Rattle.go_query_core.specs.scope_core.Models.{scopes_model}
-use Rattle.go_query_core.specs.scope_core.Scopes.{Denoted, Universe, Package}
-use Rattle.go_query_core.specs.scope_core_lemmas.Lookups.{by_parts, in_scope}
+use Rattle.go_term_core.specs.decl_core.declared.keys.DeclRef.{DeclRef}
+use Rattle.go_names_core.specs.block_core.Blocks.{file_binding, in_some}
+use Rattle.go_names_core.specs.block_core.Tables.{has, in_block}
+use Rattle.go_names_core.specs.scope_core.Laws.{denotes}
+use Rattle.go_names_core.specs.scope_core.Models.{scopes_model}
+use Rattle.go_names_core.specs.scope_core.Scopes.{Denoted, Universe, Package}
+use Rattle.go_names_core.specs.scope_core.Lookups.{by_parts, in_scope}
 use Rattle.go_term_core.specs.Terms.{Term}
 use Rattle.go_term_core.specs.declared.term.MemberPlace.TheVariants as places
-use Rattle.go_member_core.specs.table_core.Entries.{Entry}
-use Rattle.go_member_core.specs.denote_core.declared.things.Denoted.TheVariants as denotes_as
-use Rattle.go_member_core.specs.denote_core.declared.things.Outcome.TheVariants as outcomes
-use Rattle.go_member_core.specs.denote_core.declared.things.Stand.TheVariants as stands
-use Rattle.go_member_core.specs.denote_core.Answers.{found_answer}
-use Rattle.go_member_core.specs.handle_core.Declarations as declarations
-use Rattle.go_member_core.specs.handle_core.Declarations.{Declaration, InFile}
-use Rattle.go_query_core.specs.names_core.Scope.{some_meaning}
-use Rattle.go_query_core.specs.face_core.declared.face.Face.TheVariants as faces
-use Rattle.go_query_core.specs.face_core.Faces.{TheFace}
-use Rattle.go_query_core.specs.env_core.declared.meaning.Meaning.TheVariants as meanings
-use Rattle.go_query_core.specs.env_core.Found.{TheFound, found_face, found_of, own_face}
-use Rattle.go_query_core.specs.ready_core.Packages.{PackageIn, scene_in}
+use Rattle.go_summary_core.specs.table_core.Entries.{Entry}
+use Rattle.go_expr_core.specs.denote_core.declared.things.Denoted.TheVariants as denotes_as
+use Rattle.go_expr_core.specs.denote_core.declared.things.Outcome.TheVariants as outcomes
+use Rattle.go_expr_core.specs.denote_core.declared.things.Stand.TheVariants as stands
+use Rattle.go_expr_core.specs.denote_core.Answers.{found_answer}
+use Rattle.go_summary_core.specs.handle_core.Declarations as declarations
+use Rattle.go_summary_core.specs.handle_core.Declarations.{Declaration, InFile}
+use Rattle.go_names_core.specs.Scope.{some_meaning}
+use Rattle.go_summary_core.specs.declared_core.declared.face.Face.TheVariants as faces
+use Rattle.go_summary_core.specs.declared_core.Faces.{TheFace}
+use Rattle.go_package_core.specs.env_core.declared.meaning.Meaning.TheVariants as meanings
+use Rattle.go_package_core.specs.env_core.Found.{TheFound, found_face, found_of, own_face}
+use Rattle.go_package_core.specs.prepare.Packages.{PackageIn, scene_in}
 use Rattle.go_type_doc_core.specs.Names.{BreaksRule, NamesType, TheAnswer}
 use Rattle.go_type_doc_core.specs.mirrors.Named.{IsNoType, IsRuleOf, IsTypeOf}
 

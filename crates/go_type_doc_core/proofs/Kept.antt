@@ -9,13 +9,13 @@ use Rattle.std.specs.declared.cmp.Ordering.TheVariants.{Less, Equal, Greater}
 use Rattle.std.proofs.lemmas.Bool.{true≢false}
 use Rattle.std.proofs.lemmas.Map.Lookups.{exact_unsigned}
 use Rattle.std.proofs.lemmas.Option.{same_Some, slice_get_past}
-use Rattle.go_decl_core.specs.declared.keys.DeclRef.{DeclRef}
-use Rattle.go_query_core.specs.graph_core.Sources.{SourceModel}
-use Rattle.go_query_core.specs.graph_core.Places.{equal_texts}
-use Rattle.go_query_core.specs.symbol_core.mirrors.Docs.{AreDocsOf, DocsOf}
-use Rattle.go_query_core.specs.part_core.Parts.{PartModel}
-use Rattle.go_query_core.specs.part_core.Inputs.{path_in}
-use Rattle.go_query_core.specs.snap_core.Snapshots.{IsPartAt, IsSnapshot, SnapshotModel}
+use Rattle.go_term_core.specs.decl_core.declared.keys.DeclRef.{DeclRef}
+use Rattle.go_graph_core.specs.Sources.{SourceModel}
+use Rattle.go_graph_core.proofs.Places.{equal_texts}
+use Rattle.go_doc_core.specs.symbol.mirrors.Docs.{AreDocsOf, DocsOf}
+use Rattle.go_package_core.specs.package_part.Parts.{PartModel}
+use Rattle.go_package_core.specs.package_part.Inputs.{path_in}
+use Rattle.go_snap_core.specs.Snapshots.{IsPartAt, IsSnapshot, SnapshotModel}
 use Rattle.go_query_core.proofs.Listed.{path_is}
 use Rattle.go_type_doc_core.specs.declared.reading.FileDocs.{FileDocs}
 use Rattle.go_type_doc_core.specs.Comments.{IsMethodDoc, IsPartDoc}

@@ -7,31 +7,31 @@ use Rattle.std.proofs.lemmas.Option.{slice_get-map}
 use Rattle.go_tree_nodes.specs.declared.decls.ValueKind.{ValueKind}
 use Rattle.go_tree_nodes.specs.declared.decls.ValueKind.TheVariants as value_kinds
 use Rattle.go_tree_nodes.specs.Trees.{FileTree, TypeTree, ValueSpecTree}
-use Rattle.go_decl_core.specs.declared.keys.DeclRef.{DeclRef}
-use Rattle.go_decl_core.specs.TopDecls.{FormTree, FuncForm, TypeForm, ValueForm, kind_of_form, top_decls}
-use Rattle.go_query_core.specs.graph_core.Packages.{Trees, tree_shown}
-use Rattle.go_query_core.specs.block_core.Declarations.{decl_ref}
-use Rattle.go_query_core.specs.block_core.Holding.{package_block}
-use Rattle.go_query_core.specs.block_core.Tables.{in_block}
-use Rattle.go_member_core.specs.table_core.Entries.{Entry}
-use Rattle.go_written_core.specs.Written.{InFile, Meaning}
-use Rattle.go_query_core.specs.entry_core.Entries.{file_at}
-use Rattle.go_query_core.specs.entry_core.Laws.{IsDeclaredInFile}
-use Rattle.go_query_core.specs.entry_core.Meanings.{file_meaning}
-use Rattle.go_query_core.specs.entry_core.Outlines.{FileOutline, IsOutline, outline_of}
-use Rattle.go_query_core.specs.entry_core.Among.{among_to}
-use Rattle.go_needs_core.specs.Needs.{known_in}
-use Rattle.go_query_core.specs.face_core.Faces.{TheFace}
-use Rattle.go_query_core.specs.face_core.Laws.{FileDecl, Stands, package_decls, written_there}
-use Rattle.go_query_core.specs.face_core.Written.{WrittenOf, face_found, form_as_written, package_written, value_as_written, written_at, written_of}
-use Rattle.go_query_core.specs.face_core.Places.{positions_are_exact}
-use Rattle.go_query_core.specs.env_core.Found.{face_at, own_face}
-use Rattle.go_query_core.specs.env_core.Looks.{TheLooks}
-use Rattle.go_query_core.specs.env_core.Scenes.{SceneModel}
-use Rattle.go_query_core.specs.value_core.Package.{first_values, form_face, value_face}
-use Rattle.go_query_core.specs.func_core.Stands.{outer_looks}
-use Rattle.go_query_core.specs.ready_core.Packages.{PackageIn, outlines_in, scene_in, shows_in, stand_in}
-use Rattle.go_query_core.specs.ready_core.Values.{AreDeclared, some_decl_face}
+use Rattle.go_term_core.specs.decl_core.declared.keys.DeclRef.{DeclRef}
+use Rattle.go_term_core.specs.decl_core.TopDecls.{FormTree, FuncForm, TypeForm, ValueForm, kind_of_form, top_decls}
+use Rattle.go_graph_core.specs.Packages.{Trees, tree_shown}
+use Rattle.go_names_core.specs.block_core.Declarations.{decl_ref}
+use Rattle.go_names_core.specs.block_core.Holding.{package_block}
+use Rattle.go_names_core.specs.block_core.Tables.{in_block}
+use Rattle.go_summary_core.specs.table_core.Entries.{Entry}
+use Rattle.go_typexpr_core.specs.written.Written.{InFile, Meaning}
+use Rattle.go_typexpr_core.specs.entry.Entries.{file_at}
+use Rattle.go_typexpr_core.specs.entry.Laws.{IsDeclaredInFile}
+use Rattle.go_typexpr_core.specs.entry.Meanings.{file_meaning}
+use Rattle.go_typexpr_core.specs.entry.Outlines.{FileOutline, IsOutline, outline_of}
+use Rattle.go_typexpr_core.proofs.EntryAmong.{among_to}
+use Rattle.go_digraph_core.specs.needs.Needs.{known_in}
+use Rattle.go_summary_core.specs.declared_core.Faces.{TheFace}
+use Rattle.go_summary_core.specs.declared_core.Laws.{FileDecl, Stands, package_decls, written_there}
+use Rattle.go_summary_core.specs.declared_core.Written.{WrittenOf, face_found, form_as_written, package_written, value_as_written, written_at, written_of}
+use Rattle.go_summary_core.specs.declared_core.Places.{positions_are_exact}
+use Rattle.go_package_core.specs.env_core.Found.{face_at, own_face}
+use Rattle.go_package_core.specs.env_core.Looks.{TheLooks}
+use Rattle.go_package_core.specs.env_core.Scenes.{SceneModel}
+use Rattle.go_snap_core.specs.value_core.Package.{first_values, form_face, value_face}
+use Rattle.go_package_core.specs.body_core.FunctionStands.{outer_looks}
+use Rattle.go_package_core.specs.prepare.Packages.{PackageIn, outlines_in, scene_in, shows_in, stand_in}
+use Rattle.go_package_core.specs.prepare.Values.{AreDeclared, some_decl_face}
 use Rattle.go_type_doc_core.specs.mirrors.Named.{IsNoType, IsNoTypeFace, is_type}
 use Rattle.go_type_doc_core.proofs.Blocked.{IsDeclOf, block_declares}
 

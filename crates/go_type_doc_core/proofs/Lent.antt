@@ -1,19 +1,19 @@
 -- What a name shows behind the name of a package and a dot.
 use Rattle.std.proofs.Common.{◌≡◌, ◌⊎◌, ℕ, List, inl, inr, Option, Some, None, sym, ap, subst}
-use Rattle.go_text_core.specs.declared.rule.Rule.{Rule}
-use Rattle.go_text_core.specs.declared.rule.Rule.TheVariants.{M0, N2, N3, N6}
+use Rattle.go_path_core.specs.text_core.declared.rule.Rule.{Rule}
+use Rattle.go_path_core.specs.text_core.declared.rule.Rule.TheVariants.{M0, N2, N3, N6}
 use Rattle.go_tree_nodes.specs.declared.usage.Usage.TheVariants as usages
-use Rattle.go_decl_core.specs.declared.keys.DeclRef.{DeclRef}
+use Rattle.go_term_core.specs.decl_core.declared.keys.DeclRef.{DeclRef}
 use Rattle.go_term_core.specs.Terms.{Term}
 use Rattle.go_term_core.specs.declared.term.MemberPlace.TheVariants as places
-use Rattle.go_member_core.specs.denote_core.declared.things.Outcome.TheVariants as outcomes
-use Rattle.go_member_core.specs.denote_core.Selectors.{exported_answer}
-use Rattle.go_member_core.specs.handle_core.Declarations.{InFile}
-use Rattle.go_query_core.specs.face_core.declared.face.Face.TheVariants as faces
-use Rattle.go_query_core.specs.face_core.declared.shown.ShownFace.{ShownFace}
-use Rattle.go_query_core.specs.face_core.declared.shown.ShownFace.TheVariants as shows
-use Rattle.go_query_core.specs.face_core.Faces.{TheFace}
-use Rattle.go_query_core.specs.env_core.Found.{exported_shown}
+use Rattle.go_expr_core.specs.denote_core.declared.things.Outcome.TheVariants as outcomes
+use Rattle.go_expr_core.specs.denote_core.Selectors.{exported_answer}
+use Rattle.go_summary_core.specs.handle_core.Declarations.{InFile}
+use Rattle.go_summary_core.specs.declared_core.declared.face.Face.TheVariants as faces
+use Rattle.go_summary_core.specs.declared_core.declared.shown.ShownFace.{ShownFace}
+use Rattle.go_summary_core.specs.declared_core.declared.shown.ShownFace.TheVariants as shows
+use Rattle.go_summary_core.specs.declared_core.Faces.{TheFace}
+use Rattle.go_package_core.specs.env_core.Found.{exported_shown}
 use Rattle.go_type_doc_core.specs.Names.{TheAnswer}
 use Rattle.go_type_doc_core.specs.mirrors.Named.{IsNoTypeFace, IsNoneShown, IsTypeShown, ShowsNone, ShowsType, face_answer}
 

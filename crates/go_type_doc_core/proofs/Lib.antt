@@ -11,3 +11,4 @@ pub mod Behind
 pub mod Zipped
 pub mod Docs
 pub mod Elsewhere
+pub mod MembersDenoting

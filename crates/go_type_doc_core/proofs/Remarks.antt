@@ -1,15 +1,15 @@
 -- What is read of a file gives its doc comments.
 use Rattle.std.proofs.Common.{◌≡◌, ℕ, ◌<◌, List, length, get_or, Some, Result, Ok, slice_get, sym, ap, ◌∙◌, subst, inl, inr}
 use Rattle.std.proofs.lemmas.Option.{slice_get-get_or}
-use Rattle.go_token_core.specs.declared.token.Comment.{Comment}
+use Rattle.go_tree_nodes.specs.token_core.declared.token.Comment.{Comment}
 use Rattle.go_doc_core.specs.DocComments.{IsDocComment}
 use Rattle.go_tree_nodes.specs.Trees.{FileTree}
-use Rattle.go_decl_core.specs.TopDecls.{TopDeclTree, top_decls}
-use Rattle.go_decl_core.specs.declared.anchoring.Anchor.{Anchor}
-use Rattle.go_query_core.specs.parse_core.declared.error.SynFault.{SynFault}
-use Rattle.go_query_core.specs.graph_core.Sources.{SourceModel}
-use Rattle.go_query_core.specs.symbol_core.Symbols.{IsDocOf, comments_found}
-use Rattle.go_query_core.specs.symbol_core.mirrors.Docs.{AreDocsOf, DocsOf, HasNumber, HasNumberAt}
+use Rattle.go_term_core.specs.decl_core.TopDecls.{TopDeclTree, top_decls}
+use Rattle.go_term_core.specs.decl_core.declared.anchoring.Anchor.{Anchor}
+use Rattle.go_graph_core.specs.parse_core.declared.error.SynFault.{SynFault}
+use Rattle.go_graph_core.specs.Sources.{SourceModel}
+use Rattle.go_doc_core.specs.symbol.Symbols.{IsDocOf, comments_found}
+use Rattle.go_doc_core.specs.symbol.mirrors.Docs.{AreDocsOf, DocsOf, HasNumber, HasNumberAt}
 use Rattle.go_type_doc_core.specs.Comments.{HasNoDecl, IsSourceDoc}
 use Rattle.go_type_doc_core.specs.mirrors.Read.{IsDocIn, IsDocThere}
 

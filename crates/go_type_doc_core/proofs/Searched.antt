@@ -9,10 +9,10 @@ use Rattle.std.proofs.lemmas.List.{length-map}
 use Rattle.std.proofs.lemmas.Option.{same_Some, slice_get-map, slice_get_cases}
 use Rattle.std.proofs.lemmas.Bool.{cases_lt}
 use Rattle.std.proofs.lemmas.Bool.Decides.{nat_tests}
-use Rattle.go_decl_core.specs.Shown.{decl_shown}
-use Rattle.go_decl_core.specs.TopDecls.{TopDeclTree}
-use Rattle.go_decl_core.specs.declared.tops.TopDecl.{TopDecl}
-use Rattle.go_query_core.specs.symbol_core.mirrors.Docs.{AreRising, HasNumber, HasNumberAt}
+use Rattle.go_term_core.specs.decl_core.Shown.{decl_shown}
+use Rattle.go_term_core.specs.decl_core.TopDecls.{TopDeclTree}
+use Rattle.go_term_core.specs.decl_core.declared.tops.TopDecl.{TopDecl}
+use Rattle.go_doc_core.specs.symbol.mirrors.Docs.{AreRising, HasNumber, HasNumberAt}
 
 mapped_at : {A B : Type 0} (f : A → B) (xs : List A) (i : ℕ) (d : A) → get_or (map f xs) i (f d) ≡ f (get_or xs i d)
 mapped_at f [] i d = refl

@@ -1,13 +1,13 @@
 -- Members are told one after another.
 use Rattle.std.proofs.Common.{◌≡◌, ℕ, Option, Some, None, length, arith, List, [], ◌∷◌, ◌++◌, map, refl, sym, ap, ◌∙◌, subst, append_assoc, append-nil}
 use Rattle.std.specs.List.{AllZip}
-use Rattle.go_query_core.specs.graph_core.Zips.{zip_append}
+use Rattle.go_graph_core.proofs.Zips.{zip_append}
 use Rattle.go_term_core.specs.Terms.{Term}
-use Rattle.go_member_core.specs.table_core.Entries.{Entry}
-use Rattle.go_query_core.specs.snap_core.Snapshots.{SnapshotModel}
-use Rattle.go_member_core.specs.declared.listing.MethodPlace.{MethodPlace}
-use Rattle.go_member_core.specs.declared.listing.TypeMember.{TypeMember}
-use Rattle.go_member_core.specs.Members.{MemberOf, type_member_shown}
+use Rattle.go_summary_core.specs.table_core.Entries.{Entry}
+use Rattle.go_snap_core.specs.Snapshots.{SnapshotModel}
+use Rattle.go_type_doc_core.specs.declared.members.listing.MethodPlace.{MethodPlace}
+use Rattle.go_type_doc_core.specs.declared.members.listing.TypeMember.{TypeMember}
+use Rattle.go_type_doc_core.specs.members.Members.{MemberOf, type_member_shown}
 use Rattle.go_type_doc_core.specs.declared.telling.Member.{Member}
 use Rattle.go_type_doc_core.specs.Comments.{IsMemberDoc, IsMethodDoc}
 use Rattle.go_type_doc_core.specs.TypeDocs.{AreTold, IsTold, MemberShown, member_shown}

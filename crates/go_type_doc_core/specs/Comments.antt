@@ -3,12 +3,12 @@
 -- "Go Doc Comments".
 use Rattle.std.specs.Prelude.{◌≡◌, ◌⊎◌, ℕ, List, [], Option, Some, None, Ok, slice_get}
 use Rattle.go_tree_nodes.specs.Trees.{FileTree}
-use Rattle.go_decl_core.specs.TopDecls.{TopDeclTree, top_decls}
-use Rattle.go_decl_core.specs.declared.keys.DeclRef.{DeclRef}
-use Rattle.go_query_core.specs.graph_core.Sources.{SourceModel}
-use Rattle.go_query_core.specs.symbol_core.Symbols.{IsDocOf}
-use Rattle.go_query_core.specs.part_core.Parts.{PartModel}
-use Rattle.go_query_core.specs.snap_core.Snapshots.{IsPartAt, SnapshotModel}
+use Rattle.go_term_core.specs.decl_core.TopDecls.{TopDeclTree, top_decls}
+use Rattle.go_term_core.specs.decl_core.declared.keys.DeclRef.{DeclRef}
+use Rattle.go_graph_core.specs.Sources.{SourceModel}
+use Rattle.go_doc_core.specs.symbol.Symbols.{IsDocOf}
+use Rattle.go_package_core.specs.package_part.Parts.{PartModel}
+use Rattle.go_snap_core.specs.Snapshots.{IsPartAt, SnapshotModel}
 use Rattle.go_query_core.specs.Defining.{HasNoPart}
 
 -- none of the declarations of a file outside functions has a number

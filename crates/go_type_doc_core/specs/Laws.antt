@@ -1,14 +1,14 @@
 -- Laws of what is asked of a type.
 use Rattle.std.specs.Prelude.{◌≡◌, ℕ, List, Contains}
 use Rattle.go_term_core.specs.Terms.{Term}
-use Rattle.go_member_core.specs.table_core.Entries.{Entry, find_entry}
-use Rattle.go_member_core.specs.table_core.Laws.{AgreeFrom}
-use Rattle.go_member_core.specs.denote_core.declared.things.Outcome.TheVariants as outcomes
-use Rattle.go_member_core.specs.handle_core.Declarations.{Declaration}
-use Rattle.go_query_core.specs.part_core.Inputs.{path_in}
-use Rattle.go_query_core.specs.part_core.Parts.{PartModel, seen_by}
-use Rattle.go_member_core.specs.declared.listing.MemberKind.{MemberKind}
-use Rattle.go_member_core.specs.Members.{AreLooks, AreMembers, MemberOf, TheLook, behind_variable}
+use Rattle.go_summary_core.specs.table_core.Entries.{Entry, find_entry}
+use Rattle.go_summary_core.specs.table_core.Laws.{AgreeFrom}
+use Rattle.go_expr_core.specs.denote_core.declared.things.Outcome.TheVariants as outcomes
+use Rattle.go_summary_core.specs.handle_core.Declarations.{Declaration}
+use Rattle.go_package_core.specs.package_part.Inputs.{path_in}
+use Rattle.go_package_core.specs.package_part.Parts.{PartModel, seen_by}
+use Rattle.go_type_doc_core.specs.declared.members.listing.MemberKind.{MemberKind}
+use Rattle.go_type_doc_core.specs.members.Members.{AreLooks, AreMembers, MemberOf, TheLook, behind_variable}
 use Rattle.go_type_doc_core.specs.Naming.{fresh_look, seen_of, types_seen}
 
 -- the look-ups of a file that a package could have beside its own are those of the package, over the types that it sees, and over those that another

@@ -4,9 +4,5 @@ pub mod Names
 pub mod Naming
 pub mod TypeDocs
 pub mod mirrors
-pub mod member_core
-pub mod place_core
+pub mod members
 pub mod query_core
-pub mod shown_core
-pub mod snap_core
-pub mod symbol_core

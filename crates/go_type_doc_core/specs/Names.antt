@@ -2,12 +2,12 @@
 --
 -- docs/RULES.md, "Names, selectors and calls in expressions".
 use Rattle.std.specs.Prelude.{◌≡◌, ℕ, List, Option}
-use Rattle.go_text_core.specs.declared.rule.Rule.{Rule}
+use Rattle.go_path_core.specs.text_core.declared.rule.Rule.{Rule}
 use Rattle.go_term_core.specs.Terms.{Term, Sign}
-use Rattle.go_member_core.specs.denote_core.declared.things.Answer.{Answer}
-use Rattle.go_member_core.specs.denote_core.declared.things.Denoted.TheVariants as denotes
-use Rattle.go_member_core.specs.denote_core.declared.things.Outcome.TheVariants as outcomes
-use Rattle.go_member_core.specs.handle_core.Declarations.{Declaration}
+use Rattle.go_expr_core.specs.denote_core.declared.things.Answer.{Answer}
+use Rattle.go_expr_core.specs.denote_core.declared.things.Denoted.TheVariants as denotes
+use Rattle.go_expr_core.specs.denote_core.declared.things.Outcome.TheVariants as outcomes
+use Rattle.go_summary_core.specs.handle_core.Declarations.{Declaration}
 
 abbrev pub TheAnswer : Type 0
 TheAnswer = Answer Term Sign Declaration (List ℕ)

@@ -2,24 +2,24 @@
 --
 -- docs/RULES.md, "Names, selectors and calls in expressions". The Go specification, "Types", "Declarations and scope", "Qualified identifiers".
 use Rattle.std.specs.Prelude.{◌++◌, ℕ, List, [], ◌∷◌, length, Option}
-use Rattle.go_text_core.specs.declared.rule.Rule.{Rule}
+use Rattle.go_path_core.specs.text_core.declared.rule.Rule.{Rule}
 use Rattle.go_tree_nodes.specs.declared.usage.Usage.TheVariants as usages
 use Rattle.go_term_core.specs.Terms.{Term}
-use Rattle.go_member_core.specs.table_core.Entries.{Entry}
-use Rattle.go_query_core.specs.entry_core.Outlines.{FileOutline}
-use Rattle.go_query_core.specs.entry_core.Showing.{shown_in}
-use Rattle.go_member_core.specs.denote_core.declared.things.Dot.TheVariants as dots
-use Rattle.go_member_core.specs.denote_core.declared.things.Stand.TheVariants as stands
-use Rattle.go_member_core.specs.denote_core.Answers.{name_answer}
-use Rattle.go_member_core.specs.denote_core.Selectors.{selector_answer}
-use Rattle.go_query_core.specs.expr_core.Looks.{look_of_place}
-use Rattle.go_member_core.specs.handle_core.Declarations.{Package}
-use Rattle.go_query_core.specs.func_core.Stands.{FileStand, outer_looks}
-use Rattle.go_query_core.specs.ready_core.Packages.{stand_in}
-use Rattle.go_query_core.specs.summary_core.Views.{exports_told, types_told}
-use Rattle.go_query_core.specs.part_core.Inputs.{path_in}
-use Rattle.go_query_core.specs.part_core.Parts.{PartModel, SeenOf, package_seen, seen_by, seen_with}
-use Rattle.go_member_core.specs.Members.{TheLook}
+use Rattle.go_summary_core.specs.table_core.Entries.{Entry}
+use Rattle.go_typexpr_core.specs.entry.Outlines.{FileOutline}
+use Rattle.go_typexpr_core.specs.entry.Showing.{shown_in}
+use Rattle.go_expr_core.specs.denote_core.declared.things.Dot.TheVariants as dots
+use Rattle.go_expr_core.specs.denote_core.declared.things.Stand.TheVariants as stands
+use Rattle.go_expr_core.specs.denote_core.Answers.{name_answer}
+use Rattle.go_expr_core.specs.denote_core.Selectors.{selector_answer}
+use Rattle.go_expr_core.specs.Looks.{look_of_place}
+use Rattle.go_summary_core.specs.handle_core.Declarations.{Package}
+use Rattle.go_package_core.specs.body_core.FunctionStands.{FileStand, outer_looks}
+use Rattle.go_package_core.specs.prepare.Packages.{stand_in}
+use Rattle.go_summary_core.specs.Views.{exports_told, types_told}
+use Rattle.go_package_core.specs.package_part.Inputs.{path_in}
+use Rattle.go_package_core.specs.package_part.Parts.{PartModel, SeenOf, package_seen, seen_by, seen_with}
+use Rattle.go_type_doc_core.specs.members.Members.{TheLook}
 use Rattle.go_type_doc_core.specs.Names.{BreaksRule, NamesType, TheAnswer}
 
 -- the types that the package of a part sees: those of the packages that it reaches, and its own

@@ -3,16 +3,16 @@
 -- The Go specification, "Selectors", "Exported identifiers", "Import declarations".
 use Rattle.std.specs.Prelude.{◌≡◌, ◌≢◌, ◌⊎◌, ℕ, List, [], Option, Some, None, map}
 use Rattle.std.specs.List.{AllZip}
-use Rattle.go_text_core.specs.declared.rule.Rule.{Rule}
-use Rattle.go_text_core.specs.declared.rule.Rule.TheVariants.{Q1}
-use Rattle.go_query_core.specs.graph_core.Packages.{IsPackageName, trees_of}
+use Rattle.go_path_core.specs.text_core.declared.rule.Rule.{Rule}
+use Rattle.go_path_core.specs.text_core.declared.rule.Rule.TheVariants.{Q1}
+use Rattle.go_graph_core.specs.Packages.{IsPackageName, trees_of}
 use Rattle.go_term_core.specs.Terms.{Term}
-use Rattle.go_member_core.specs.table_core.Entries.{Entry}
-use Rattle.go_query_core.specs.part_core.Inputs.{path_in}
-use Rattle.go_query_core.specs.part_core.Parts.{PartModel}
-use Rattle.go_query_core.specs.snap_core.Snapshots.{SnapshotModel}
-use Rattle.go_member_core.specs.declared.listing.MemberKind.{MemberKind}
-use Rattle.go_member_core.specs.Members.{AreMembers, MemberOf}
+use Rattle.go_summary_core.specs.table_core.Entries.{Entry}
+use Rattle.go_package_core.specs.package_part.Inputs.{path_in}
+use Rattle.go_package_core.specs.package_part.Parts.{PartModel}
+use Rattle.go_snap_core.specs.Snapshots.{SnapshotModel}
+use Rattle.go_type_doc_core.specs.declared.members.listing.MemberKind.{MemberKind}
+use Rattle.go_type_doc_core.specs.members.Members.{AreMembers, MemberOf}
 use Rattle.go_query_core.specs.Defining.{HasNoPart}
 use Rattle.go_query_core.specs.Documenting.{IsImportRefused, IsImportedPart}
 use Rattle.go_query_core.specs.Parts.{IsPartOf}

@@ -1,18 +1,18 @@
 //! Parts of snapshots by paths.
 ghost use Rattle.std.specs.Prelude.{◌≡◌, ◌⊎◌, ◌<◌, IfErr, IfOk, MatchOption, Some, length, slice_get};
-ghost use Rattle.go_query_core.specs.graph_core.declared.imports.ImportOutcome.TheVariants.{Refused};
-ghost use Rattle.go_query_core.specs.list_core.Importing.{IsJudgedAt};
-ghost use Rattle.go_query_core.specs.part_core.Parts.{PartModel};
-ghost use Rattle.go_query_core.specs.snap_core.Snapshots.{IsPartAt};
+ghost use Rattle.go_graph_core.specs.declared.imports.ImportOutcome.TheVariants.{Refused};
+ghost use Rattle.go_import_core.specs.list.Importing.{IsJudgedAt};
+ghost use Rattle.go_package_core.specs.package_part.Parts.{PartModel};
+ghost use Rattle.go_snap_core.specs.Snapshots.{IsPartAt};
 ghost use Rattle.go_query_core.specs.Documenting.{IsImportedPart};
 ghost use Rattle.go_query_core.specs.Parts.{HasPart, IsPartOf};
 
+use go_graph_core::ImportOutcome;
+use go_import_core::list::{judge_import, number_of};
+use go_package_core::package_part::Part;
 use go_path_core::ImportPath;
-use go_query_core::graph_core::ImportOutcome;
-use go_query_core::list_core::{judge_import, number_of};
-use go_query_core::part_core::Part;
-use go_query_core::snap_core::Snapshot;
-use go_text_core::Rule;
+use go_path_core::text_core::Rule;
+use go_snap_core::Snapshot;
 use std::alloc::{AllocError, Global};
 
 // The part of the package of a number, if it has one.

@@ -5,25 +5,16 @@
 
 mod finding;
 mod laws;
+pub mod members;
 mod naming;
 mod reading;
 mod telling;
 
-pub use go_member_core::MemberKind;
+pub use crate::members::MemberKind;
 pub use laws::{files_have_looks, members_are_local};
 pub use telling::{Member, TypeDoc, doc_of_type};
 
 /// What the crates above name of `go_query_core`.
 pub mod query_core {
     pub use go_query_core::{Listing, PackageDoc, PackageEntry, complete, define, doc, list};
-}
-
-/// What the crates above name of `go_snap_core`.
-pub mod snap_core {
-    pub use go_query_core::snap_core::{PlacedFault, Snapshot};
-}
-
-/// What the crates above name of `go_symbol_core`.
-pub mod symbol_core {
-    pub use go_query_core::symbol_core::Symbol;
 }

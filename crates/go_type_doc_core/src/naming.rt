@@ -1,31 +1,33 @@
 //! The types that texts name.
 ghost use Rattle.std.specs.Prelude.{◌≡◌, ◌⊎◌, [], IfErr, IfOk, Some, false, length, map, option_map};
-ghost use Rattle.go_text_core.specs.Text.{is_blank};
+ghost use Rattle.go_path_core.specs.text_core.Text.{is_blank};
 ghost use Rattle.go_term_core.specs.Shapes.{shape};
 ghost use Rattle.go_term_core.specs.Terms.{Term};
-ghost use Rattle.go_query_core.specs.env_core.Found.{face_at};
-ghost use Rattle.go_query_core.specs.graph_core.Packages.{AllHaveTrees};
-ghost use Rattle.go_query_core.specs.scope_core.Laws.{denotes};
-ghost use Rattle.go_query_core.specs.scope_core.Models.{scopes_model};
-ghost use Rattle.go_query_core.specs.scope_core.Scopes.{Package, denoted_of};
-ghost use Rattle.go_query_core.specs.part_core.Parts.{IsPart};
-ghost use Rattle.go_query_core.specs.face_core.Faces.{face_shown};
-ghost use Rattle.go_query_core.specs.face_core.declared.face.Face.TheVariants as faces;
+ghost use Rattle.go_package_core.specs.env_core.Found.{face_at};
+ghost use Rattle.go_graph_core.specs.Packages.{AllHaveTrees};
+ghost use Rattle.go_names_core.specs.scope_core.Laws.{denotes};
+ghost use Rattle.go_names_core.specs.scope_core.Models.{scopes_model};
+ghost use Rattle.go_names_core.specs.scope_core.Scopes.{Package, denoted_of};
+ghost use Rattle.go_package_core.specs.package_part.Parts.{IsPart};
+ghost use Rattle.go_summary_core.specs.declared_core.Faces.{face_shown};
+ghost use Rattle.go_summary_core.specs.declared_core.declared.face.Face.TheVariants as faces;
 ghost use Rattle.go_type_doc_core.specs.Naming.{IsOwnRefusal, IsOwnType};
 ghost use Rattle.go_type_doc_core.specs.mirrors.Named.{HasOwnPlaces, IsNoType, IsNoTypeFace, IsNoneShown, IsPredeclaredRule, IsPredeclaredType, IsRuleIn, IsRuleOf, IsTypeIn, IsTypeOf, IsTypeShown, ShowsNone, ShowsType, known_of};
 ghost use Rattle.go_type_doc_core.specs.mirrors.Shown.{IsShownRefusal, IsShownType};
 
-use go_member_core::handle_core::{SignatureRef, TypeRef};
-use go_member_core::table_core::TypeTable;
+use go_names_core::block_core::DeclRef;
+use go_names_core::scope_core::{InScope, Scopes};
+use go_package_core::package_part::Part;
+use go_package_core::prepare::{PackageAt, package_outlines};
 use go_path_core::ImportPath;
-use go_query_core::block_core::DeclRef;
-use go_query_core::entry_core::ShownPackages;
-use go_query_core::face_core::{Face, FaceTable, ShownFace, WrittenFaces, hold, written_faces};
-use go_query_core::part_core::Part;
-use go_query_core::ready_core::{PackageAt, package_outlines};
-use go_query_core::scope_core::{InScope, Scopes};
+use go_path_core::text_core::{Rule, is_blank};
+use go_summary_core::declared_core::{
+    Face, FaceTable, ShownFace, WrittenFaces, hold, written_faces,
+};
+use go_summary_core::handle_core::{SignatureRef, TypeRef};
+use go_summary_core::table_core::TypeTable;
 use go_term_core::{Basic, Signature, TypeTerm, copy};
-use go_text_core::{Rule, is_blank};
+use go_typexpr_core::entry::ShownPackages;
 use go_universe_core::Predeclared;
 use std::alloc::{AllocError, Global};
 

@@ -1,24 +1,24 @@
 //! The doc comments of methods, from files that are read once.
 ghost use Rattle.std.specs.Prelude.{◌≡◌, ◌<◌, List, All, IfOk, IfSome, MatchOption, OnOk, [], length, map, nat_lt};
-ghost use Rattle.go_decl_core.specs.Shown.{decl_shown};
-ghost use Rattle.go_query_core.specs.graph_core.Sources.{SourceModel};
+ghost use Rattle.go_term_core.specs.decl_core.Shown.{decl_shown};
+ghost use Rattle.go_graph_core.specs.Sources.{SourceModel};
 ghost use Rattle.go_scan_core.specs.Texts.{CommentHasItsText};
 ghost use Rattle.go_scan_core.specs.Tokens.{CommentsInOrder};
-ghost use Rattle.go_query_core.specs.symbol_core.Symbols.{comments_found};
-ghost use Rattle.go_query_core.specs.symbol_core.mirrors.Docs.{AreDocsOf, AreRising, HasNumber, HasNumberAt};
-ghost use Rattle.go_query_core.specs.part_core.Inputs.{path_in};
-ghost use Rattle.go_query_core.specs.snap_core.Snapshots.{IsPartAt, SnapshotModel};
+ghost use Rattle.go_doc_core.specs.symbol.Symbols.{comments_found};
+ghost use Rattle.go_doc_core.specs.symbol.mirrors.Docs.{AreDocsOf, AreRising, HasNumber, HasNumberAt};
+ghost use Rattle.go_package_core.specs.package_part.Inputs.{path_in};
+ghost use Rattle.go_snap_core.specs.Snapshots.{IsPartAt, SnapshotModel};
 ghost use Rattle.go_type_doc_core.specs.Comments.{IsMethodDoc, IsPartDoc};
 ghost use Rattle.go_type_doc_core.specs.mirrors.Read.{AreRead, IsDocIn, read_shown};
 
-use go_decl_core::{Anchor, DeclRef, Outline, TopDecl, anchors, outline};
 use go_doc_core::doc_comment;
+use go_graph_core::Package;
+use go_package_core::package_part::Part;
 use go_path_core::ImportPath;
-use go_query_core::graph_core::Package;
-use go_query_core::part_core::Part;
-use go_query_core::snap_core::Snapshot;
 use go_scan_core::comments;
-use go_token_core::{Comment, ScanError};
+use go_snap_core::Snapshot;
+use go_term_core::decl_core::{Anchor, DeclRef, Outline, TopDecl, anchors, outline};
+use go_tree_nodes::token_core::{Comment, ScanError};
 use std::alloc::{AllocError, Global};
 use std::collections::BTreeMap;
 

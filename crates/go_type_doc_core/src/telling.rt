@@ -2,8 +2,8 @@
 ghost use Rattle.std.specs.Prelude.{◌≡◌, ◌↔◌, ◌⊎◌, ◌<◌, IfErr, IfOk, IsTrue, OnOk, Some, length, map, option_map};
 ghost use Rattle.std.specs.List.{AllZip};
 ghost use Rattle.go_term_core.specs.Shapes.{shape};
-ghost use Rattle.go_query_core.specs.part_core.Inputs.{path_in};
-ghost use Rattle.go_member_core.specs.Members.{type_member_shown};
+ghost use Rattle.go_package_core.specs.package_part.Inputs.{path_in};
+ghost use Rattle.go_type_doc_core.specs.members.Members.{type_member_shown};
 ghost use Rattle.go_query_core.specs.Parts.{IsPartOf};
 ghost use Rattle.go_type_doc_core.specs.Comments.{IsMemberDoc};
 ghost use Rattle.go_type_doc_core.specs.Naming.{IsOwnRefusal, types_seen};
@@ -13,15 +13,15 @@ ghost use Rattle.go_type_doc_core.specs.mirrors.Shown.{IsShownRefusal};
 ghost use Rattle.go_type_doc_core.specs.mirrors.Steps.{IsOtherDocOf, IsOtherStop, IsOwnDocOf, IsShownDocOf, method_shown};
 
 use crate::finding::{imported_part, own_part};
+use crate::members::{MemberKind, MethodPlace, TypeMember, members_of};
 use crate::naming::{other_type, own_type};
 use crate::reading::{ReadFiles, method_doc};
-use go_member_core::table_core::TypeTable;
-use go_member_core::{MemberKind, MethodPlace, TypeMember, members_of};
+use go_package_core::package_part::{Part, types_of};
 use go_path_core::ImportPath;
-use go_query_core::part_core::{Part, types_of};
-use go_query_core::snap_core::Snapshot;
+use go_path_core::text_core::{Name, Rule, add};
+use go_snap_core::Snapshot;
+use go_summary_core::table_core::TypeTable;
 use go_term_core::TypeTerm;
-use go_text_core::{Name, Rule, add};
 use std::alloc::{AllocError, Global};
 
 /// A member of a type, as a variable of the type has it.

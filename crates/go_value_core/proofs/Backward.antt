@@ -6,12 +6,12 @@ use Rattle.std.specs.List.{list_any}
 use Rattle.std.proofs.lemmas.Bool.{cases_lt, both_ways, eqb-true, eq-eqb}
 use Rattle.std.proofs.lemmas.List.{drop_more, get_or_past}
 use Rattle.std.proofs.lemmas.List.Elements.{All-contains}
-use Rattle.go_cycle_core.specs.declared.edge.Edge.{Edge}
-use Rattle.go_cycle_core.specs.Cycle as cycle
-use Rattle.go_cycle_core.specs.Cycle.{IsRanked, IsRanking, IsOnCycle, Reaches}
-use Rattle.go_needs_core.specs.Needs.{needed, NeedsLead, NeedsAreInside, edges_from}
-use Rattle.go_needs_core.proofs.Edges.{edge, need_edge, path_of}
-use Rattle.go_cycle_core.proofs.Walks.{leads_back}
+use Rattle.go_digraph_core.specs.declared.cycle.edge.Edge.{Edge}
+use Rattle.go_digraph_core.specs.cycle.Cycle as cycle
+use Rattle.go_digraph_core.specs.cycle.Cycle.{IsRanked, IsRanking, IsOnCycle, Reaches}
+use Rattle.go_digraph_core.specs.needs.Needs.{needed, NeedsLead, NeedsAreInside, edges_from}
+use Rattle.go_digraph_core.proofs.NeedsEdges.{edge, need_edge, path_of}
+use Rattle.go_digraph_core.proofs.CycleWalks.{leads_back}
 use Rattle.go_value_core.specs.Around.{LeadsBack, AreLeadingBack}
 use Rattle.go_value_core.specs.mirrors.Flags.{has_own_rank, flags_from}
 

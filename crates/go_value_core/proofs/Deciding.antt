@@ -1,13 +1,13 @@
 -- Proofs of the laws.
 use Rattle.std.proofs.Common.{◌≡◌, ℕ, zero, suc, List, [], ◌∷◌, refl, sym, ap, ◌∙◌, subst}
 use Rattle.std.specs.Prelude.{Option, Some, None, Contains, slice_get}
-use Rattle.go_env_core.specs.decl_core.TopDecls.{FormTree, ValueForm, TypeForm, FuncForm}
-use Rattle.go_env_core.specs.face_core.Faces.{TheFace}
-use Rattle.go_env_core.specs.face_core.Written.{written_at}
+use Rattle.go_term_core.specs.decl_core.TopDecls.{FormTree, ValueForm, TypeForm, FuncForm}
+use Rattle.go_env_core.specs.declared_core.Faces.{TheFace}
+use Rattle.go_env_core.specs.declared_core.Written.{written_at}
 use Rattle.go_env_core.specs.Scenes.{SceneModel}
 use Rattle.go_env_core.specs.Looks.{TheLooks}
-use Rattle.go_needs_core.specs.Needs.{AreValues, known_in, EndsWithin}
-use Rattle.go_needs_core.proofs.Needed.{one_table, endless_never}
+use Rattle.go_digraph_core.specs.needs.Needs.{AreValues, known_in, EndsWithin}
+use Rattle.go_digraph_core.proofs.NeedsNeeded.{one_table, endless_never}
 use Rattle.go_value_core.specs.Laws.{AreFaces, PackageHasOneTable, NeedsDecide, ThroughItselfHasNone, NeededNamesDecide, FormsAlike, PlacedAlike, AllAlike, NamesAndBodiesDoNotCount}
 use Rattle.go_value_core.specs.Package.{PlacedOf, form_idents, idents_need, decl_needs, package_needs, form_face, top_looks, some_face, declared_face, IsThroughItself}
 use Rattle.go_value_core.proofs.Owning.{initial_alike}

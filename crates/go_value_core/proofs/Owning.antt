@@ -6,7 +6,7 @@ use Rattle.std.specs.Option.{option_map}
 use Rattle.std.proofs.lemmas.Bool.{cases_lt, eqb-true, eq-eqb}
 use Rattle.std.proofs.lemmas.Bool.Decides.{eqb_tells}
 use Rattle.std.proofs.lemmas.List.{get_or-map, get_or-replicate, get_or_past, length-map, length-replicate}
-use Rattle.go_text_core.specs.declared.span.Span.{Span}
+use Rattle.go_constant_core.specs.text_core.declared.span.Span.{Span}
 use Rattle.go_tree_nodes.specs.declared.names.Ident.{Ident}
 use Rattle.go_tree_nodes.specs.declared.names.NextIdent.{NextIdent}
 use Rattle.go_tree_nodes.specs.declared.exprs.Expr.{Expr}
@@ -16,27 +16,27 @@ use Rattle.go_tree_nodes.specs.declared.decls.ValueKind.TheVariants as kinds
 use Rattle.go_tree_nodes.specs.TypeShapes.{idents_from}
 use Rattle.go_tree_nodes.specs.Shapes.{shape, exprs_from}
 use Rattle.go_tree_nodes.specs.Trees.{Separated, One, Then, TypeTree, ExprTree, ValueSpecTree}
-use Rattle.go_env_core.specs.local_core.Outline.{idents}
+use Rattle.go_names_core.specs.local_core.Outline.{idents}
 use Rattle.go_constant_core.specs.declared.values.Constant.{Constant}
-use Rattle.go_env_core.specs.operand_core.declared.types.Operand.{Operand}
-use Rattle.go_env_core.specs.operand_core.TypeRules.{TypeRules}
-use Rattle.go_env_core.specs.denote_core.declared.things.Found.{Found}
-use Rattle.go_env_core.specs.denote_core.declared.things.Stand.TheVariants as stands
-use Rattle.go_env_core.specs.denote_core.declared.things.Denoted as declared_denoted
-use Rattle.go_env_core.specs.denote_core.declared.things.Denoted.TheVariants as denotes
-use Rattle.go_env_core.specs.denote_core.declared.things.Argument.{Argument}
-use Rattle.go_env_core.specs.denote_core.declared.things.Argument.TheVariants as arguments
-use Rattle.go_env_core.specs.denote_core.Arguments.{argument_of, arguments_of}
-use Rattle.go_env_core.specs.denote_core.Look.{Look}
-use Rattle.go_env_core.specs.statement_core.Declarations.{given_type, declared_types, is_initial, initial_argument, initial_types}
-use Rattle.go_env_core.specs.expr_core.Looks.{Looks, look_of_place}
-use Rattle.go_env_core.specs.expr_core.Places.{start}
-use Rattle.go_env_core.specs.expr_core.Denoting.{denoted}
-use Rattle.go_env_core.specs.expr_core.Lists.{denoted_exprs}
-use Rattle.go_env_core.specs.expr_core.Laws.{AgreeOnIdents, LooksAtNames, finding}
-use Rattle.go_env_core.specs.expr_core.Alike.{needed_names}
+use Rattle.go_stmt_core.specs.operand_core.declared.types.Operand.{Operand}
+use Rattle.go_stmt_core.specs.operand_core.TypeRules.{TypeRules}
+use Rattle.go_stmt_core.specs.denote_core.declared.things.Found.{Found}
+use Rattle.go_stmt_core.specs.denote_core.declared.things.Stand.TheVariants as stands
+use Rattle.go_stmt_core.specs.denote_core.declared.things.Denoted as declared_denoted
+use Rattle.go_stmt_core.specs.denote_core.declared.things.Denoted.TheVariants as denotes
+use Rattle.go_stmt_core.specs.denote_core.declared.things.Argument.{Argument}
+use Rattle.go_stmt_core.specs.denote_core.declared.things.Argument.TheVariants as arguments
+use Rattle.go_stmt_core.specs.denote_core.Arguments.{argument_of, arguments_of}
+use Rattle.go_stmt_core.specs.denote_core.Look.{Look}
+use Rattle.go_stmt_core.specs.statement.Declarations.{given_type, declared_types, is_initial, initial_argument, initial_types}
+use Rattle.go_stmt_core.specs.expr_core.Looks.{Looks, look_of_place}
+use Rattle.go_stmt_core.specs.expr_core.Places.{start}
+use Rattle.go_stmt_core.specs.expr_core.Denoting.{denoted}
+use Rattle.go_stmt_core.specs.expr_core.Lists.{denoted_exprs}
+use Rattle.go_stmt_core.specs.expr_core.Laws.{AgreeOnIdents, LooksAtNames, finding}
+use Rattle.go_stmt_core.specs.expr_core.Alike.{needed_names}
 use Rattle.go_value_core.specs.Initial.{spec_name_count, some_written_type, values_given, variable, constant_value, constant_values, values_of, initialiser_values, initial, exprs, expr_in, expr_behind, expr_of, some_needed, initial_idents}
-use Rattle.go_env_core.specs.piece_core.Specifications as pieces
+use Rattle.go_stmt_core.specs.piece.Specifications as pieces
 use Rattle.go_value_core.specs.Laws.{SpecificationsAreAlike}
 use Rattle.go_value_core.specs.mirrors.Own.{one_of, is_one, is_alone, given_by, own_argument, type_from, value_from}
 

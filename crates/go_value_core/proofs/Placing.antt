@@ -2,14 +2,14 @@
 use Rattle.std.proofs.Common.{◌≡◌, ℕ, suc, ◌+◌, ◌<◌, ◌≤◌, List, [], ◌∷◌, ◌++◌, map, length, get_or, take, refl, sym, ap, ◌∙◌, arith, append-nil}
 use Rattle.std.specs.Prelude.{Vec, slice_index_or}
 use Rattle.std.specs.declared.alloc.Global.{Global}
-use Rattle.go_needs_core.specs.Needs.{rows_of}
+use Rattle.go_digraph_core.specs.needs.Needs.{rows_of}
 use Rattle.std.specs.List.{flat_map, enumerate_from}
 use Rattle.std.proofs.lemmas.List.{take_all, length-map}
-use Rattle.go_env_core.specs.decl_core.declared.tops.Outline.{Outline}
-use Rattle.go_env_core.specs.decl_core.Shown.{decl_shown}
-use Rattle.go_env_core.specs.entry_core.Outlines.{outline_shown}
-use Rattle.go_env_core.specs.entry_core.Numbered.{flat_more}
-use Rattle.go_env_core.specs.inline_core.Types.{InlineOf}
+use Rattle.go_term_core.specs.decl_core.declared.tops.Outline.{Outline}
+use Rattle.go_term_core.specs.decl_core.Shown.{decl_shown}
+use Rattle.go_typexpr_core.specs.entry.Outlines.{outline_shown}
+use Rattle.go_typexpr_core.proofs.EntryNumbered.{flat_more}
+use Rattle.go_stmt_core.specs.inline_core.Types.{InlineOf}
 use Rattle.go_value_core.specs.Package.{PlacedOf, placed, placed_in, placed_decls}
 
 pub rows_more : (xs : List (Vec ℕ Global)) (v : Vec ℕ Global) → rows_of (xs ++ v ∷ []) ≡ rows_of xs ++ v.items ∷ []

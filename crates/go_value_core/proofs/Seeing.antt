@@ -12,27 +12,27 @@ use Rattle.go_tree_nodes.specs.declared.names.Ident.{Ident}
 use Rattle.go_tree_nodes.specs.declared.decls.ValueKind.{ValueKind}
 use Rattle.go_tree_nodes.specs.declared.decls.ValueKind.TheVariants as kinds
 use Rattle.go_tree_nodes.specs.Trees.{TypeTree, ValueSpecTree}
-use Rattle.go_env_core.specs.decl_core.declared.keys.DeclRef.{DeclRef}
-use Rattle.go_env_core.specs.decl_core.TopDecls.{FormTree, ValueForm, TypeForm, FuncForm}
-use Rattle.go_env_core.specs.scope_core.Models.{scopes_model}
-use Rattle.go_env_core.specs.scope_core.Scopes as scopes
-use Rattle.go_env_core.specs.scope_core.Scopes.{Denoted}
-use Rattle.go_env_core.specs.scope_core.Laws.{denotes}
-use Rattle.go_env_core.specs.names_core.Scope.{some_meaning}
+use Rattle.go_term_core.specs.decl_core.declared.keys.DeclRef.{DeclRef}
+use Rattle.go_term_core.specs.decl_core.TopDecls.{FormTree, ValueForm, TypeForm, FuncForm}
+use Rattle.go_names_core.specs.scope_core.Models.{scopes_model}
+use Rattle.go_names_core.specs.scope_core.Scopes as scopes
+use Rattle.go_names_core.specs.scope_core.Scopes.{Denoted}
+use Rattle.go_names_core.specs.scope_core.Laws.{denotes}
+use Rattle.go_names_core.specs.Scope.{some_meaning}
 use Rattle.go_term_core.specs.Terms.{Term}
-use Rattle.go_env_core.specs.expr_core.Laws.{AgreeOnIdents, LooksAtNames}
-use Rattle.go_env_core.specs.expr_core.Looks.{WrittenRules}
-use Rattle.go_env_core.specs.inline_core.Types.{InlineOf}
-use Rattle.go_env_core.specs.face_core.declared.face.Face.TheVariants as faces
-use Rattle.go_env_core.specs.face_core.Faces.{TheFace}
-use Rattle.go_env_core.specs.face_core.Written.{WrittenOf, position_of, same_decl_place, written_at}
+use Rattle.go_stmt_core.specs.expr_core.Laws.{AgreeOnIdents, LooksAtNames}
+use Rattle.go_stmt_core.specs.expr_core.Looks.{WrittenRules}
+use Rattle.go_stmt_core.specs.inline_core.Types.{InlineOf}
+use Rattle.go_env_core.specs.declared_core.declared.face.Face.TheVariants as faces
+use Rattle.go_env_core.specs.declared_core.Faces.{TheFace}
+use Rattle.go_env_core.specs.declared_core.Written.{WrittenOf, position_of, same_decl_place, written_at}
 use Rattle.go_env_core.specs.declared.meaning.Meaning.{Meaning}
 use Rattle.go_env_core.specs.declared.meaning.Meaning.TheVariants as meanings
 use Rattle.go_env_core.specs.Scenes.{SceneModel}
 use Rattle.go_env_core.specs.Found.{found_of, found_face, face_at}
 use Rattle.go_env_core.specs.Looks.{TheLooks, looks_in, inline_rules}
-use Rattle.go_needs_core.specs.Needs.{LooksAtNeeds, NeedsAreInside, needed, known_in}
-use Rattle.go_needs_core.proofs.Edges.{none_inside, one_inside}
+use Rattle.go_digraph_core.specs.needs.Needs.{LooksAtNeeds, NeedsAreInside, needed, known_in}
+use Rattle.go_digraph_core.proofs.NeedsEdges.{none_inside, one_inside}
 use Rattle.go_value_core.specs.Initial.{initial, initial_idents, some_written_type}
 use Rattle.go_value_core.specs.Package.{PlacedOf, own_decl, some_position, position_in, name_needs, idents_need, value_idents, form_idents, decl_needs, package_needs, top_look, first_values, top_looks, value_face, form_face, some_face, declared_face}
 use Rattle.go_value_core.proofs.Owning.{initial_alike}

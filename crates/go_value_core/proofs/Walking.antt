@@ -2,7 +2,7 @@
 use Rattle.std.proofs.Common.{◌≡◌, List, ◌∷◌, ◌++◌, refl, sym, ap, ◌∙◌}
 use Rattle.std.specs.Prelude.{Option}
 use Rattle.std.specs.Global.{Box}
-use Rattle.go_text_core.specs.declared.span.Span.{Span}
+use Rattle.go_constant_core.specs.text_core.declared.span.Span.{Span}
 use Rattle.go_tree_nodes.specs.declared.names.Ident.{Ident}
 use Rattle.go_tree_nodes.specs.declared.names.TextLiteral.{TextLiteral}
 use Rattle.go_tree_nodes.specs.declared.types.TypeExpr.TheVariants as types
@@ -21,7 +21,7 @@ use Rattle.go_tree_nodes.specs.Trees.{FieldTrees}
 use Rattle.go_tree_nodes.specs.TypeShapes.{shape_type, shape_signature, fields_before, fields_of, methods_of, params_of}
 use Rattle.go_tree_nodes.specs.Shapes.{shape, items_of}
 use Rattle.go_tree_nodes.proofs.ShapeLemmas.{call_parts, literal_parts, struct_literal_parts}
-use Rattle.go_env_core.specs.expr_core.Needed.{needed_idents, needed_by_args}
+use Rattle.go_stmt_core.specs.expr_core.Needed.{needed_idents, needed_by_args}
 use Rattle.go_tree_nodes.specs.Idents.{type_name_idents, type_idents, fields_idents, methods_idents, signature_type_idents, params_idents}
 use Rattle.go_tree_nodes.specs.Idents.{field_idents}
 

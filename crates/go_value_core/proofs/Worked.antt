@@ -1,9 +1,9 @@
 -- The sample is computed.
 use Rattle.std.proofs.Common.{◌≡◌, ℕ, List, [], ◌∷◌, refl, subst}
 use Rattle.go_universe_core.specs.Universe.{found, spelling_of}
-use Rattle.go_env_core.specs.scope_core.Scopes.{universe}
-use Rattle.go_needs_core.specs.Needs.{NeedsLead}
-use Rattle.go_needs_core.proofs.Edges.{one_inside}
+use Rattle.go_names_core.specs.scope_core.Scopes.{universe}
+use Rattle.go_digraph_core.specs.needs.Needs.{NeedsLead}
+use Rattle.go_digraph_core.proofs.NeedsEdges.{one_inside}
 use Rattle.go_value_core.specs.Around.{LeadsBack}
 use Rattle.go_value_core.specs.Package.{package_needs, IsThroughItself}
 use Rattle.go_value_core.specs.Sample.{ValueSampleIsRight, value_sample_scene, value_sample}

@@ -1,6 +1,6 @@
 -- What leads back to itself.
 use Rattle.std.specs.Prelude.{◌≡◌, ◌↔◌, ℕ, Bool, true, false, List, ◌∷◌, length, slice_index_or}
-use Rattle.go_needs_core.specs.Needs.{NeedsLead}
+use Rattle.go_digraph_core.specs.needs.Needs.{NeedsLead}
 
 -- what a node needs leads back to it
 pub record LeadsBack (rows : List (List ℕ)) (a : ℕ) : Type 0 where

@@ -3,21 +3,21 @@
 -- docs/RULES.md, "Constants and variables of a package". The Go specification, "Constant declarations", "Variable declarations",
 -- "Package initialization".
 use Rattle.std.specs.Prelude.{ℕ, List, [], ◌∷◌, ◌==◌, length, map, slice_get, slice_index_or, Option, Some, None, if◌then◌else◌}
-use Rattle.go_text_core.specs.declared.span.Span.{Span}
+use Rattle.go_constant_core.specs.text_core.declared.span.Span.{Span}
 use Rattle.go_tree_nodes.specs.declared.names.Ident.{Ident}
 use Rattle.go_tree_nodes.specs.declared.decls.ValueKind.{ValueKind}
 use Rattle.go_tree_nodes.specs.declared.decls.ValueKind.TheVariants as kinds
 use Rattle.go_tree_nodes.specs.Trees.{Separated, One, Then, ExprTree, ValueSpecTree}
-use Rattle.go_env_core.specs.local_core.Outline.{idents}
-use Rattle.go_env_core.specs.operand_core.declared.types.Operand.{Operand}
-use Rattle.go_env_core.specs.operand_core.TypeRules.{TypeRules}
-use Rattle.go_env_core.specs.denote_core.declared.things.Argument.{Argument}
-use Rattle.go_env_core.specs.statement_core.Declarations.{initial_types}
-use Rattle.go_env_core.specs.expr_core.Looks.{Looks}
-use Rattle.go_env_core.specs.expr_core.Needed.{needed_idents}
-pub use Rattle.go_env_core.specs.piece_core.Types.{some_written_type}
-pub use Rattle.go_env_core.specs.piece_core.Values.{variable, list_start}
-pub use Rattle.go_env_core.specs.piece_core.Specifications.{constant_value, constant_values, values_given}
+use Rattle.go_names_core.specs.local_core.Outline.{idents}
+use Rattle.go_stmt_core.specs.operand_core.declared.types.Operand.{Operand}
+use Rattle.go_stmt_core.specs.operand_core.TypeRules.{TypeRules}
+use Rattle.go_stmt_core.specs.denote_core.declared.things.Argument.{Argument}
+use Rattle.go_stmt_core.specs.statement.Declarations.{initial_types}
+use Rattle.go_stmt_core.specs.expr_core.Looks.{Looks}
+use Rattle.go_stmt_core.specs.expr_core.Needed.{needed_idents}
+pub use Rattle.go_stmt_core.specs.piece.Types.{some_written_type}
+pub use Rattle.go_stmt_core.specs.piece.Values.{variable, list_start}
+pub use Rattle.go_stmt_core.specs.piece.Specifications.{constant_value, constant_values, values_given}
 
 -- a specification
 

@@ -4,16 +4,16 @@ use Rattle.std.specs.List.{list_all}
 use Rattle.go_tree_nodes.specs.declared.decls.ValueKind.{ValueKind}
 use Rattle.go_tree_nodes.specs.declared.decls.ValueKind.TheVariants as kinds
 use Rattle.go_tree_nodes.specs.Trees.{ValueSpecTree}
-use Rattle.go_env_core.specs.decl_core.TopDecls.{FormTree, ValueForm, TypeForm, FuncForm}
-use Rattle.go_env_core.specs.denote_core.declared.things.Found.{Found}
-use Rattle.go_env_core.specs.statement_core.Declarations.{is_initial}
-use Rattle.go_env_core.specs.expr_core.Looks.{Looks}
-use Rattle.go_env_core.specs.expr_core.Laws.{AgreeOnIdents, LooksAtNames, finding}
-use Rattle.go_env_core.specs.face_core.Faces.{TheFace}
+use Rattle.go_term_core.specs.decl_core.TopDecls.{FormTree, ValueForm, TypeForm, FuncForm}
+use Rattle.go_stmt_core.specs.denote_core.declared.things.Found.{Found}
+use Rattle.go_stmt_core.specs.statement.Declarations.{is_initial}
+use Rattle.go_stmt_core.specs.expr_core.Looks.{Looks}
+use Rattle.go_stmt_core.specs.expr_core.Laws.{AgreeOnIdents, LooksAtNames, finding}
+use Rattle.go_env_core.specs.declared_core.Faces.{TheFace}
 use Rattle.go_env_core.specs.Scenes.{SceneModel}
-use Rattle.go_needs_core.specs.Needs.{AreValues, known_in, needed}
+use Rattle.go_digraph_core.specs.needs.Needs.{AreValues, known_in, needed}
 use Rattle.go_value_core.specs.Initial.{initialiser_values, initial, initial_idents, some_written_type}
-use Rattle.go_env_core.specs.piece_core.Specifications as pieces
+use Rattle.go_stmt_core.specs.piece.Specifications as pieces
 use Rattle.go_value_core.specs.Package.{PlacedOf, package_needs, declared_face, IsThroughItself}
 
 -- what the declarations of a package are, by their positions

@@ -4,15 +4,5 @@ pub mod Laws
 pub mod Package
 pub mod Sample
 pub mod mirrors
-pub mod block_core
-pub mod decl_core
-pub mod entry_core
 pub mod env_core
-pub mod face_core
-pub mod inline_core
-pub mod names_core
-pub mod operand_core
-pub mod scope_core
-pub mod statement_core
 pub mod table_core
-pub mod written_core

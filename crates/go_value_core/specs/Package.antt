@@ -7,21 +7,21 @@ use Rattle.go_tree_nodes.specs.declared.names.Ident.{Ident}
 use Rattle.go_tree_nodes.specs.declared.decls.ValueKind.{ValueKind}
 use Rattle.go_tree_nodes.specs.declared.decls.ValueKind.TheVariants as kinds
 use Rattle.go_tree_nodes.specs.Trees.{TypeTree, ValueSpecTree}
-use Rattle.go_env_core.specs.decl_core.declared.keys.DeclRef.{DeclRef}
-use Rattle.go_env_core.specs.decl_core.Shown.{decl_shown}
-use Rattle.go_env_core.specs.decl_core.TopDecls.{TopDeclTree, FormTree, ValueForm, TypeForm, FuncForm}
-use Rattle.go_env_core.specs.block_core.Blocks.{BlocksModel}
-use Rattle.go_env_core.specs.scope_core.Models.{scopes_model}
-use Rattle.go_env_core.specs.scope_core.Scopes as scopes
-use Rattle.go_env_core.specs.scope_core.Scopes.{Denoted}
-use Rattle.go_env_core.specs.scope_core.Laws.{denotes}
-use Rattle.go_env_core.specs.local_core.Binding.{NameLook}
-use Rattle.go_env_core.specs.names_core.Scope.{beyond_in}
-use Rattle.go_env_core.specs.entry_core.Outlines.{FileOutline}
-use Rattle.go_env_core.specs.inline_core.Types.{InlineOf}
-use Rattle.go_env_core.specs.face_core.declared.face.Face.TheVariants as faces
-use Rattle.go_env_core.specs.face_core.Faces.{TheFace}
-use Rattle.go_env_core.specs.face_core.Written.{WrittenOf, position_of, written_at}
+use Rattle.go_term_core.specs.decl_core.declared.keys.DeclRef.{DeclRef}
+use Rattle.go_term_core.specs.decl_core.Shown.{decl_shown}
+use Rattle.go_term_core.specs.decl_core.TopDecls.{TopDeclTree, FormTree, ValueForm, TypeForm, FuncForm}
+use Rattle.go_names_core.specs.block_core.Blocks.{BlocksModel}
+use Rattle.go_names_core.specs.scope_core.Models.{scopes_model}
+use Rattle.go_names_core.specs.scope_core.Scopes as scopes
+use Rattle.go_names_core.specs.scope_core.Scopes.{Denoted}
+use Rattle.go_names_core.specs.scope_core.Laws.{denotes}
+use Rattle.go_names_core.specs.local_core.Binding.{NameLook}
+use Rattle.go_names_core.specs.Scope.{beyond_in}
+use Rattle.go_typexpr_core.specs.entry.Outlines.{FileOutline}
+use Rattle.go_stmt_core.specs.inline_core.Types.{InlineOf}
+use Rattle.go_env_core.specs.declared_core.declared.face.Face.TheVariants as faces
+use Rattle.go_env_core.specs.declared_core.Faces.{TheFace}
+use Rattle.go_env_core.specs.declared_core.Written.{WrittenOf, position_of, written_at}
 use Rattle.go_env_core.specs.declared.meaning.Meaning.{Meaning}
 use Rattle.go_env_core.specs.declared.meaning.Meaning.TheVariants as meanings
 use Rattle.go_env_core.specs.Scenes.{SceneModel}

@@ -1,27 +1,27 @@
 -- Constants and variables of a package of one file, worked out by hand:
 --   const a = b + b; const b = 2; const c = d; const d = c; const e = c; var v = a; var w, x = b, T{c}; var y string
 use Rattle.std.specs.Prelude.{◌≡◌, ℕ, pos, Bool, true, false, List, [], ◌∷◌, Option, Some, None, map, codes}
-use Rattle.go_token_core.specs.declared.kind.Operator.TheVariants as operators
+use Rattle.go_tree_nodes.specs.token_core.declared.kind.Operator.TheVariants as operators
 use Rattle.go_tree_nodes.specs.declared.decls.ValueKind.{ValueKind}
 use Rattle.go_tree_nodes.specs.declared.decls.ValueKind.TheVariants as value_kinds
 use Rattle.go_tree_nodes.specs.declared.types.TypeName.TheVariants as type_names
 use Rattle.go_tree_nodes.specs.Trees.{Separated, One, Then, TypeTree, NamedType, ExprTree, Integer, Binary, Literal, NoItems, Item, ValueSpecTree}
 use Rattle.go_tree_nodes.specs.Samples.{at, called, name_at}
-use Rattle.go_env_core.specs.decl_core.declared.places.DeclKind.TheVariants as kinds
-use Rattle.go_env_core.specs.decl_core.declared.keys.DeclRef.{DeclRef}
-use Rattle.go_env_core.specs.decl_core.TopDecls.{FormTree, ValueForm, top_decl}
-use Rattle.go_env_core.specs.block_core.Blocks.{blocks_model}
+use Rattle.go_term_core.specs.decl_core.declared.places.DeclKind.TheVariants as kinds
+use Rattle.go_term_core.specs.decl_core.declared.keys.DeclRef.{DeclRef}
+use Rattle.go_term_core.specs.decl_core.TopDecls.{FormTree, ValueForm, top_decl}
+use Rattle.go_names_core.specs.block_core.Blocks.{blocks_model}
 use Rattle.go_constant_core.specs.declared.values.Constant.TheVariants as constants
 use Rattle.go_term_core.specs.declared.term.Basic.TheVariants as basics
 use Rattle.go_term_core.specs.Terms.{Term, Predeclared}
-use Rattle.go_env_core.specs.operand_core.declared.types.ValueType.TheVariants as value_types
-use Rattle.go_env_core.specs.operand_core.declared.types.Operand.{Operand}
-use Rattle.go_env_core.specs.face_core.declared.face.Face.TheVariants as faces
-use Rattle.go_env_core.specs.face_core.Faces.{TheFace, variable_face}
-use Rattle.go_env_core.specs.face_core.Written.{WrittenOf}
+use Rattle.go_stmt_core.specs.operand_core.declared.types.ValueType.TheVariants as value_types
+use Rattle.go_stmt_core.specs.operand_core.declared.types.Operand.{Operand}
+use Rattle.go_env_core.specs.declared_core.declared.face.Face.TheVariants as faces
+use Rattle.go_env_core.specs.declared_core.Faces.{TheFace, variable_face}
+use Rattle.go_env_core.specs.declared_core.Written.{WrittenOf}
 use Rattle.go_env_core.specs.Scenes.{SceneModel}
 use Rattle.go_value_core.specs.Package.{PlacedOf, placed, package_needs, declared_face, IsThroughItself}
-use Rattle.go_env_core.specs.block_core.Declarations.{decl_ref}
+use Rattle.go_names_core.specs.block_core.Declarations.{decl_ref}
 
 -- one name and its expression
 abbrev pub one_value_spec : List ℕ → ExprTree → ValueSpecTree

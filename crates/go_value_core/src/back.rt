@@ -1,11 +1,11 @@
 //! Which needs lead back to where they come from.
 ghost use Rattle.std.specs.Prelude.{◌≡◌, ◌<◌, All, IfOk, length};
-ghost use Rattle.go_needs_core.specs.Needs.{NeedsAreInside, rows_of};
+ghost use Rattle.go_digraph_core.specs.needs.Needs.{NeedsAreInside, rows_of};
 ghost use Rattle.go_value_core.specs.Around.{AreLeadingBack};
 ghost use Rattle.go_value_core.specs.mirrors.Flags.{flags_from, has_own_rank};
 
-use go_cycle_core::rank_and_order;
-use go_needs_core::edges_of;
+use go_digraph_core::cycle::rank_and_order;
+use go_digraph_core::needs::edges_of;
 use std::alloc::{AllocError, Global};
 
 // Whether one of the needed nodes has the rank of the node that needs it.

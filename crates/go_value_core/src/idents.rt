@@ -1,7 +1,7 @@
 //! The identifiers that an expression needs.
 ghost use Rattle.std.specs.Prelude.{◌≡◌, ◌++◌, [], ◌∷◌, map, OnOk};
 ghost use Rattle.go_tree_nodes.specs.Shapes.{shape, items_of};
-ghost use Rattle.go_env_core.specs.expr_core.Needed.{needed_idents, needed_by_args};
+ghost use Rattle.go_stmt_core.specs.expr_core.Needed.{needed_idents, needed_by_args};
 
 use crate::type_idents::{add_type, add_type_name};
 use go_tree_nodes::{Expr, Ident, Item};

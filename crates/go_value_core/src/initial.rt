@@ -1,18 +1,18 @@
 //! What a name of a specification of constants or variables stands for.
 ghost use Rattle.std.specs.Prelude.{◌≡◌, IfOk, Some, true};
 ghost use Rattle.go_tree_nodes.specs.Shapes.{shape, shape_some_type, shape_value_spec};
-ghost use Rattle.go_env_core.specs.denote_core.declared.things.Stand.TheVariants as stands;
-ghost use Rattle.go_env_core.specs.expr_core.Looks.{everywhere};
-ghost use Rattle.go_env_core.specs.expr_core.Denoting as denoting;
+ghost use Rattle.go_stmt_core.specs.denote_core.declared.things.Stand.TheVariants as stands;
+ghost use Rattle.go_stmt_core.specs.expr_core.Looks.{everywhere};
+ghost use Rattle.go_stmt_core.specs.expr_core.Denoting as denoting;
 ghost use Rattle.go_value_core.specs.Initial as values;
 ghost use Rattle.go_value_core.specs.mirrors.Own as own;
 
 use crate::specs::{expr_of, is_alone, name_count};
-use go_env_core::denote_core::{Argument, Denoted, Stand, argument_of, arguments_of};
-use go_env_core::expr_core::{Exprs, Notes, check_expr};
-use go_env_core::operand_core::Operand;
-use go_env_core::piece_core::variable;
-use go_env_core::statement_core::{constant_answer, declared_types, initial_argument};
+use go_stmt_core::denote_core::{Argument, Denoted, Stand, argument_of, arguments_of};
+use go_stmt_core::expr_core::{Exprs, Notes, check_expr};
+use go_stmt_core::operand_core::Operand;
+use go_stmt_core::piece::variable;
+use go_stmt_core::statement::{constant_answer, declared_types, initial_argument};
 use go_tree_nodes::{Expr, TypeExpr, ValueKind, ValueSpec};
 use std::alloc::{AllocError, Global};
 

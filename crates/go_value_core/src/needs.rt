@@ -1,10 +1,10 @@
 //! What the declarations of a package need of one another.
 ghost use Rattle.std.specs.Prelude.{◌≡◌, ◌++◌, Some, IfOk, OnOk, map};
-ghost use Rattle.go_env_core.specs.decl_core.Shown.{decl_shown, form_shown};
+ghost use Rattle.go_term_core.specs.decl_core.Shown.{decl_shown, form_shown};
 ghost use Rattle.go_tree_nodes.specs.Shapes.{shape_value_spec};
-ghost use Rattle.go_needs_core.specs.Needs.{rows_of};
-ghost use Rattle.go_env_core.specs.scope_core.Laws.{denotes};
-ghost use Rattle.go_env_core.specs.scope_core.Scopes.{denoted_of};
+ghost use Rattle.go_digraph_core.specs.needs.Needs.{rows_of};
+ghost use Rattle.go_names_core.specs.scope_core.Laws.{denotes};
+ghost use Rattle.go_names_core.specs.scope_core.Scopes.{denoted_of};
 ghost use Rattle.go_env_core.specs.Scenes.{scene_shown};
 ghost use Rattle.go_value_core.specs.Initial as initial;
 ghost use Rattle.go_value_core.specs.Package as package_values;
@@ -13,9 +13,9 @@ use crate::idents::add_needed;
 use crate::placed::PlacedDecl;
 use crate::specs::expr_of;
 use go_env_core::Scene;
-use go_env_core::block_core::DeclRef;
-use go_env_core::decl_core::DeclForm;
-use go_env_core::scope_core::{InScope, Scopes};
+use go_names_core::block_core::DeclRef;
+use go_names_core::scope_core::{InScope, Scopes};
+use go_term_core::decl_core::DeclForm;
 use go_tree_nodes::{Ident, ValueKind, ValueSpec};
 use std::alloc::{AllocError, Global};
 

@@ -1,11 +1,11 @@
 //! The declarations of a package, where they stand.
 ghost use Rattle.std.specs.Prelude.{◌≡◌, ◌++◌, IfOk, OnOk, length, map};
-ghost use Rattle.go_env_core.specs.decl_core.Shown.{decl_shown};
-ghost use Rattle.go_env_core.specs.entry_core.Outlines.{outline_shown};
+ghost use Rattle.go_term_core.specs.decl_core.Shown.{decl_shown};
+ghost use Rattle.go_typexpr_core.specs.entry.Outlines.{outline_shown};
 ghost use Rattle.go_value_core.specs.Package.{placed, placed_decls, placed_shown};
 
-use go_env_core::decl_core::{Outline, TopDecl};
-use go_env_core::inline_core::InlineTypes;
+use go_stmt_core::inline_core::InlineTypes;
+use go_term_core::decl_core::{Outline, TopDecl};
 use std::alloc::{AllocError, Global};
 
 /// A declaration of a package outside functions, where it stands.

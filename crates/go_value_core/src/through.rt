@@ -1,7 +1,7 @@
 //! Constants that are defined through themselves.
 ghost use Rattle.std.specs.Prelude.{◌≡◌, IfOk, length, map};
-ghost use Rattle.go_env_core.specs.decl_core.Shown.{form_shown};
-ghost use Rattle.go_env_core.specs.entry_core.Outlines.{outline_shown};
+ghost use Rattle.go_term_core.specs.decl_core.Shown.{form_shown};
+ghost use Rattle.go_typexpr_core.specs.entry.Outlines.{outline_shown};
 ghost use Rattle.go_env_core.specs.Scenes.{scene_shown};
 ghost use Rattle.go_value_core.specs.Package as package_values;
 ghost use Rattle.go_value_core.specs.Package.{AreThroughThemselves, placed_decls, placed_shown};
@@ -11,8 +11,8 @@ use crate::back::leading_back;
 use crate::needs::package_needs;
 use crate::placed::{PlacedDecl, placed_decls};
 use go_env_core::Scene;
-use go_env_core::decl_core::{DeclForm, Outline};
-use go_env_core::inline_core::InlineTypes;
+use go_stmt_core::inline_core::InlineTypes;
+use go_term_core::decl_core::{DeclForm, Outline};
 use go_tree_nodes::ValueKind;
 use std::alloc::{AllocError, Global};
 

@@ -9,3 +9,4 @@ pub mod ByTable
 pub mod Fronts
 pub mod Noting
 pub mod Worked
+pub mod OutputsOutputLemmas

@@ -8,3 +8,4 @@ pub mod Requests
 pub mod Steps
 pub mod Table
 pub mod mirrors
+pub mod outputs

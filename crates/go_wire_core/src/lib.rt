@@ -6,6 +6,7 @@
 mod desk;
 mod given;
 mod laws;
+pub mod outputs;
 mod reading;
 mod reply;
 mod request;

@@ -10,11 +10,11 @@ ghost use Rattle.go_wire_core.specs.Ends.{IsEnd, ReadsUpTo, Served, most_read};
 ghost use Rattle.go_wire_core.specs.mirrors.Serving.{Going, IsEndOfLines, IsEndOfTurn, IsLine, IsRefusedLong, IsStop, IsUnsent, IsWithin, IsWriteFault};
 
 use crate::desk::Desk;
+use crate::outputs::{flush_out, is_interruption, write_out};
 use crate::reading::step_of;
 use crate::reply::WireReply;
 use crate::step::Step;
 use crate::write::line_of;
-use go_output_core::{flush_out, is_interruption, write_out};
 use go_text_core::Rule;
 use std::alloc::{AllocError, Global};
 use std::io::{Read, Write};

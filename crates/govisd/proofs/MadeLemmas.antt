@@ -5,7 +5,7 @@ use Rattle.std.specs.declared.string.String.{String}
 use Rattle.govisd.specs.declared.program.Ran.{Ran}
 use Rattle.go_explain_core.specs.Naming.{rule_of_number}
 use Rattle.go_explain_core.specs.Telling.{unknown_text}
-use Rattle.govisd_core.proofs.OutputLemmas.{keeps_same}
+use Rattle.govisd_resolve.proofs.OutputLemmas.{keeps_same}
 use Rattle.govisd.specs.Runs.{Explains, ExplainsFound, Helps, HelpsFound, RefusesMade, RefusesName}
 use Rattle.govisd.specs.Says.{SaysText}
 use Rattle.govisd_words.specs.Texts.{help_of, unknown_command_text}

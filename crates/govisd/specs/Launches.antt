@@ -2,7 +2,7 @@
 use Rattle.std.specs.Prelude.{ℕ, ◌⊎◌, List, Option, Some, None}
 use Rattle.std.specs.Io.KnownBytes.{Keeps}
 use Rattle.govisd_folders.specs.declared.checking.CheckAnswer.{CheckAnswer}
-use Rattle.govisd_runs.specs.Answers.{IsAnswerOfRun}
+use Rattle.govisd_folders.specs.runs.Answers.{IsAnswerOfRun}
 use Rattle.govisd.specs.declared.program.Ran.{Ran}
 use Rattle.govisd.specs.Says.{RunsOut, WritesAnswer}
 

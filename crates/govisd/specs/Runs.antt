@@ -7,11 +7,11 @@ use Rattle.clap.specs.Values.{kind_of}
 use Rattle.clap.specs.declared.error.Error.{Error}
 use Rattle.clap.specs.declared.error.kind.ErrorKind.{ErrorKind}
 use Rattle.clap.specs.declared.error.kind.ErrorKind.TheVariants.{MissingRequiredArgument, MissingSubcommand, OutOfMemory, UnknownArgument}
-use Rattle.govisd_core.specs.Inputs.{ReadsUpTo}
-use Rattle.govisd_core.specs.Outputs.{IsCutShort}
-use Rattle.govisd_core.specs.Reports.{IsEnd, ReadsAll, max_bytes}
-use Rattle.govisd_core.specs.declared.run.ResolveEnd.{ResolveEnd}
-use Rattle.govisd_core.specs.declared.run.ResolveEnd.TheVariants.{Memory}
+use Rattle.govisd_resolve.specs.Inputs.{ReadsUpTo}
+use Rattle.govisd_resolve.specs.Outputs.{IsCutShort}
+use Rattle.govisd_resolve.specs.Reports.{IsEnd, ReadsAll, max_bytes}
+use Rattle.govisd_resolve.specs.declared.run.ResolveEnd.{ResolveEnd}
+use Rattle.govisd_resolve.specs.declared.run.ResolveEnd.TheVariants.{Memory}
 use Rattle.govisd.specs.declared.program.Ran.{Ran}
 use Rattle.govisd_words.specs.declared.words.ValueOption.{ValueOption}
 use Rattle.govisd_words.specs.declared.words.ValueOption.TheVariants.{Workers, Steps}

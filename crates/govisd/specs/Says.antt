@@ -2,8 +2,8 @@
 use Rattle.std.specs.Prelude.{◌≡◌, ◌⊎◌, ℕ, Bool, true, false, List, Option, string_bytes}
 use Rattle.std.specs.Io.KnownBytes.{Appends, Keeps}
 use Rattle.std.specs.declared.io.ErrorKind.{ErrorKind}
-use Rattle.govisd_core.specs.Outputs.{IsCutShort}
-use Rattle.govisd_core.specs.declared.run.ResolveEnd.TheVariants.{Memory}
+use Rattle.govisd_resolve.specs.Outputs.{IsCutShort}
+use Rattle.govisd_resolve.specs.declared.run.ResolveEnd.TheVariants.{Memory}
 use Rattle.govisd_folders.specs.declared.checking.CheckAnswer.{CheckAnswer}
 use Rattle.govisd.specs.declared.program.Ran.{Ran}
 use Rattle.govisd_words.specs.Texts.{end_text, unwritten_text}

@@ -1,12 +1,12 @@
 //! Runs of folders, over whatever runs them.
 ghost use Rattle.std.specs.Prelude.{ℕ, List, IfOk, option_map};
 ghost use Rattle.std.specs.Result.{result_ok};
-ghost use Rattle.govisd_runs.specs.Answers.{IsAnswerOfRun};
+ghost use Rattle.govisd_folders.specs.runs.Answers.{IsAnswerOfRun};
 ghost use Rattle.govisd.specs.Launches.{RunsFolder};
 
 use crate::program::{Ran, give, run_out};
 use govisd_folders::CheckAnswer;
-use govisd_runs::RunOrder;
+use govisd_folders::runs::RunOrder;
 use std::alloc::AllocError;
 use std::io::Write;
 

@@ -5,41 +5,43 @@ mod daemons;
 mod launches;
 mod program;
 
+use govisd_folders::runs::{RunOrder, run_folder};
 use govisd_folders::{CheckAnswer, Order, check_folder};
-use govisd_runs::{RunOrder, run_folder};
 use govisd_words::unread_status;
 use launches::Launches;
 use program::{Checks, run};
 use std::alloc::AllocError;
 use std::io;
 use std::process::ExitCode;
+use std::thread::Threads;
 use thiserror::Error;
 
-/// The folders of the system.
+/// The folders of the system, and leave to begin threads that read them.
 #[derive(Drop)]
-struct Folders<'a> {
+struct Folders<'a, T: Threads> {
     rt: &'a HostRuntime,
+    threads: &'a T,
 }
 
-impl Checks for Folders<'_> {
+impl<T: Threads> Checks for Folders<'_, T> {
     ghost use Rattle.std.specs.Prelude.{IfSome};
     ghost use Rattle.govisd_folders.specs.Checks.{IsAnswerOfCheck};
 
     ghost Answers = { λ folders folder style path answer. IfSome answer (IsAnswerOfCheck folder style path) };
 
     fn check(&self, order: &Order<'_>) -> Result<CheckAnswer, AllocError> {
-        check_folder(self.rt, order)
+        check_folder(self.rt, self.threads, order)
     }
 }
 
-impl Launches for Folders<'_> {
+impl<T: Threads> Launches for Folders<'_, T> {
     ghost use Rattle.std.specs.Prelude.{IfSome};
-    ghost use Rattle.govisd_runs.specs.Answers.{IsAnswerOfRun};
+    ghost use Rattle.govisd_folders.specs.runs.Answers.{IsAnswerOfRun};
 
     ghost Outcomes = { λ host folder path main steps answer. IfSome answer (IsAnswerOfRun folder path main steps) };
 
     fn launch(&self, order: &RunOrder<'_>) -> Result<CheckAnswer, AllocError> {
-        run_folder(self.rt, order)
+        run_folder(self.rt, self.threads, order)
     }
 }
 
@@ -77,7 +79,10 @@ fn main(rt: HostRuntime) -> ExitCode {
     let ended = run(
         rt.alloc(),
         words.as_slice(),
-        &Folders { rt: &rt },
+        &Folders {
+            rt: &rt,
+            threads: &rt,
+        },
         &rt,
         rt.stdin(),
         rt.stdout(),

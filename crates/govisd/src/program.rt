@@ -13,8 +13,8 @@ use crate::launches::{Launches, launch};
 use clap::Error;
 use clap::error::ErrorKind;
 use go_explain_core::{explained, listed, rule_named, unknown};
-use govisd_core::{ResolveEnd, run_resolve, write_report};
 use govisd_folders::{CheckAnswer, Order};
+use govisd_resolve::{ResolveEnd, run_resolve, write_report};
 use govisd_words::{
     Request, ValueOption, bad_value_text, command_help, end_status, end_text, program_help,
     read_words, refusal_status, refused_text, unknown_command, unwritten_text, version_text,

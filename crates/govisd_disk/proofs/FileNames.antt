@@ -10,7 +10,7 @@ use Rattle.std.specs.Map.{keys_of}
 use Rattle.std.specs.declared.string.String.{String}
 use Rattle.std.specs.declared.cmp.Ordering.TheVariants.{Less}
 use Rattle.std.proofs.lemmas.Map.Text.{is_eq-slice_cmp}
-use Rattle.go_snap_core.specs.graph_core.Workspaces.{given_files, HaveDistinctNames}
+use Rattle.go_graph_core.specs.Workspaces.{given_files, HaveDistinctNames}
 
 apart : {Y Z : Type 0} (k : String Y) (es : List (String Y × String Z)) → AllByRecursion (λ y. string_cmp k y ≡ Less) (keys_of es) → AllByRecursion (λ y. bytes_eq (string_bytes k) y ≡ false) (keys_of (given_files es))
 apart k [] h = tt

@@ -1,6 +1,8 @@
 mod FileNames
 mod FindingLemmas
 mod FolderLemmas
+mod GroupLemmas
 mod PuttingLemmas
 mod ReadingLemmas
 pub mod ScopeLemmas
+pub mod AtOnceBatches

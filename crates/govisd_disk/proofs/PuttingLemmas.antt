@@ -1,9 +1,9 @@
 -- Folders that are put one after another.
 use Rattle.std.proofs.Common.{◌≡◌, ◌∙◌, ℕ, List, [], ◌∷◌, ◌++◌, inl, inr, Some, None, Result, Ok, Err, OnOk, refl, sym, subst}
-use Rattle.go_text_core.specs.declared.rule.Rule.TheVariants.{E1}
+use Rattle.go_path_core.specs.text_core.declared.rule.Rule.TheVariants.{E1}
 use Rattle.go_path_core.specs.Path.{IsPath}
 use Rattle.go_folder_core.specs.Folders.{joined_path}
-use Rattle.go_snap_core.specs.graph_core.Workspaces.{PackageModel, Puts}
+use Rattle.go_graph_core.specs.Workspaces.{PackageModel, Puts}
 use Rattle.govisd_disk.specs.Notes.{refusal_line}
 use Rattle.govisd_disk.specs.Puts.{ArePut, FolderModel, IsPathOf, IsPut, StateModel}
 

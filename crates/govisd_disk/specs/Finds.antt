@@ -2,10 +2,10 @@
 use Rattle.std.specs.Prelude.{◌≡◌, ◌⊎◌, ℕ, Bool, true, false, List, [], ◌++◌, Option, Some, None, codes, string_bytes, unwrap_or, if◌then◌else◌}
 use Rattle.std.specs.Path.{path_file_name}
 use Rattle.std.specs.declared.io.ErrorKind.{ErrorKind}
-use Rattle.go_text_core.specs.declared.rule.Rule.TheVariants.{E2, O2}
+use Rattle.go_path_core.specs.text_core.declared.rule.Rule.TheVariants.{E2, O2}
 use Rattle.go_path_core.specs.Path.{IsPath}
 use Rattle.go_folder_core.specs.Named.{IsNamedFolder}
-use Rattle.go_snap_core.specs.graph_core.Workspaces.{PackageModel}
+use Rattle.go_graph_core.specs.Workspaces.{PackageModel}
 use Rattle.govisd_disk.specs.declared.finding.ReadFolder.{ReadFolder}
 use Rattle.govisd_disk.specs.declared.finding.ReadFolder.TheVariants as read
 use Rattle.govisd_disk.specs.Notes.{note_line, passed_line, refusal_line, name_or_quotes, wants_memory}

@@ -3,8 +3,8 @@ use Rattle.std.specs.Prelude.{◌≡◌, ◌+◌, ◌/◌, ◌%◌, ℕ, Bool, t
 use Rattle.std.specs.List.{list_any}
 use Rattle.std.specs.declared.io.ErrorKind.{ErrorKind}
 use Rattle.std.specs.declared.io.ErrorKind.TheVariants.{OutOfMemory}
-use Rattle.go_text_core.specs.Rules.{rule_number}
-use Rattle.go_text_core.specs.declared.rule.Rule.{Rule}
+use Rattle.go_path_core.specs.text_core.Rules.{rule_number}
+use Rattle.go_path_core.specs.text_core.declared.rule.Rule.{Rule}
 use Rattle.go_explain_core.specs.Meanings.{rule_meaning}
 
 -- a byte of a control character, and one that stands for itself in quotation marks

@@ -5,8 +5,8 @@ use Rattle.std.specs.List.{ends_with}
 use Rattle.std.specs.String.{string_cmp}
 use Rattle.std.specs.declared.io.ErrorKind.{ErrorKind}
 use Rattle.std.specs.declared.string.String.{String}
-use Rattle.go_text_core.specs.declared.rule.Rule.{Rule}
-use Rattle.go_text_core.specs.declared.rule.Rule.TheVariants.{E2, E3, E4, L1}
+use Rattle.go_path_core.specs.text_core.declared.rule.Rule.{Rule}
+use Rattle.go_path_core.specs.text_core.declared.rule.Rule.TheVariants.{E2, E3, E4, L1}
 use Rattle.go_folder_core.specs.Folders.{joined_path}
 use Rattle.go_folder_core.specs.Names.{kind_of_file, passed_over}
 use Rattle.go_folder_core.specs.declared.names.FileKind.{FileKind}

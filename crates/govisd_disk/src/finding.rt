@@ -2,23 +2,25 @@
 ghost use Rattle.std.specs.Prelude.{◌≡◌, ◌++◌, IfOk, codes, map, option_map, string_bytes};
 ghost use Rattle.std.specs.IoError.{error_kind};
 ghost use Rattle.go_path_core.specs.Path.{IsPath};
-ghost use Rattle.go_text_core.specs.declared.rule.Rule.TheVariants.{E2};
+ghost use Rattle.go_path_core.specs.text_core.declared.rule.Rule.TheVariants.{E2};
 ghost use Rattle.govisd_disk.specs.Finds.{IsIn, IsOfFolders, IsReadAs, IsReadFor, IsReadNamed, IsReadOf, IsReadRoot, IsUnread, Found as IsFound, Refused as IsRefused, folder_name, module_hint, no_module_text, read_on, read_shown, refused_line};
 ghost use Rattle.govisd_disk.specs.Notes.{refusal_line};
 ghost use Rattle.govisd_disk.specs.Puts.{folder_of};
 
 use crate::notes::{name_or_quotes, note, note_rule, passed_text, push, why_unread};
+use crate::parsing::{AtOnce, InTurn, Parser};
 use crate::progress::Progress;
 use crate::putting::put_all;
 use crate::reading::{FolderFiles, FoundFolders, found_below};
 use crate::roots::{Above, Root, module_above};
 use crate::scopes::{Scope, has_any};
 use go_folder_core::{FileKind, file_kind, named_folder};
+use go_graph_core::Workspace;
 use go_path_core::ImportPath;
-use go_snap_core::graph_core::Workspace;
-use go_text_core::Rule;
+use go_path_core::text_core::Rule;
 use std::alloc::{AllocError, Global};
 use std::path::{Path, PathBuf};
+use std::thread::Threads;
 use std::{fs, io};
 
 /// The packages of a folder, and what is to be said of the reading.
@@ -109,6 +111,7 @@ fn read_on(
 
 // What comes of folders that were found.
 fn read_found(
+    parser: &impl Parser,
     alloc: Global,
     folder: &str,
     module_path: &str,
@@ -123,6 +126,7 @@ fn read_found(
     let mut notes = left_out;
     let mut workspace = Workspace::empty(alloc);
     put_all(
+        parser,
         alloc,
         &mut workspace,
         &mut notes,
@@ -137,6 +141,7 @@ fn read_found(
 // Reads the folder at a path, below a module.
 fn read_module(
     rt: &HostRuntime,
+    parser: &impl Parser,
     folder: &str,
     root: &str,
     module_path: &str,
@@ -156,6 +161,7 @@ fn read_module(
     } = found_below(rt, folder, root, progress)?;
     let passed = passed_text(alloc, passed_files, passed_folders)?;
     read_found(
+        parser,
         alloc,
         folder,
         module_path,
@@ -206,6 +212,7 @@ fn refuse_module(alloc: Global, module_path: &str) -> Result<ReadFolder, AllocEr
 // Reads the folder at a path as that of a module.
 fn read_as(
     rt: &HostRuntime,
+    parser: &impl Parser,
     given: &str,
     folder: &str,
     module_path: &str,
@@ -216,7 +223,7 @@ fn read_as(
 {
     let alloc = rt.alloc();
     match ImportPath::read(alloc, module_path) {
-        Ok(_) => read_module(rt, given, folder, module_path, scope, progress),
+        Ok(_) => read_module(rt, parser, given, folder, module_path, scope, progress),
         Err(Rule::M0) => Err(AllocError),
         Err(_) => refuse_module(alloc, module_path),
     }
@@ -225,6 +232,7 @@ fn read_as(
 // Reads the folder at a path as that of the module that has its name.
 fn read_named(
     rt: &HostRuntime,
+    parser: &impl Parser,
     given: &str,
     folder: &str,
     file: &str,
@@ -237,12 +245,13 @@ fn read_named(
         package: name,
         file,
     };
-    read_as(rt, given, folder, name, &scope, progress)
+    read_as(rt, parser, given, folder, name, &scope, progress)
 }
 
 // Reads the folder of a module.
 fn read_above(
     rt: &HostRuntime,
+    parser: &impl Parser,
     given: &str,
     root: &Root,
     file: &str,
@@ -256,6 +265,7 @@ fn read_above(
     };
     read_as(
         rt,
+        parser,
         given,
         root.folder.as_str(),
         root.own.as_str(),
@@ -267,6 +277,7 @@ fn read_above(
 // Reads the folder at a path, or the folder of the module that it lies in.
 fn read_in(
     rt: &HostRuntime,
+    parser: &impl Parser,
     given: &str,
     folder: &str,
     file: &str,
@@ -276,15 +287,16 @@ fn read_in(
 {
     let above = module_above(rt, given, folder)?;
     match above {
-        Above::Nowhere => read_named(rt, given, folder, file, progress),
+        Above::Nowhere => read_named(rt, parser, given, folder, file, progress),
         Above::Refused(said) => refuse_hinted(said),
-        Above::Found(root) => read_above(rt, given, &root, file, progress),
+        Above::Found(root) => read_above(rt, parser, given, &root, file, progress),
     }
 }
 
 // Reads the folder at a path as that of a module whose path is given.
 fn read_given(
     rt: &HostRuntime,
+    parser: &impl Parser,
     given: &str,
     folder: &str,
     file: &str,
@@ -297,12 +309,13 @@ fn read_given(
         package: module_path,
         file,
     };
-    read_as(rt, given, folder, module_path, &scope, progress)
+    read_as(rt, parser, given, folder, module_path, &scope, progress)
 }
 
 // Reads the folder at a path, where the path of the module may be given. Of a file in it, that is what was asked for.
 fn read_root(
     rt: &HostRuntime,
+    parser: &impl Parser,
     given: &str,
     folder: &str,
     file: &str,
@@ -312,8 +325,8 @@ fn read_root(
     ensures { IfOk result (λ r. IsReadRoot given.now folder.now file.now (option_map (λ m. m.now) module_path.entry) (read_shown r)) }
 {
     match module_path {
-        Some(module_path) => read_given(rt, given, folder, file, module_path, progress),
-        None => read_in(rt, given, folder, file, progress),
+        Some(module_path) => read_given(rt, parser, given, folder, file, module_path, progress),
+        None => read_in(rt, parser, given, folder, file, progress),
     }
 }
 
@@ -340,6 +353,7 @@ fn refuse_name(alloc: Global, given: &str) -> Result<ReadFolder, AllocError>
 // Reads the folder that a file lies in.
 fn read_file(
     rt: &HostRuntime,
+    parser: &impl Parser,
     given: &str,
     folder: &str,
     file: &str,
@@ -349,7 +363,7 @@ fn read_file(
     ensures { IfOk result (λ r. IsReadNamed given.now (option_map (λ m. m.now) module_path.entry) (read_shown r)) }
 {
     match file_kind(file) {
-        FileKind::Source => read_root(rt, given, folder, file, module_path, progress),
+        FileKind::Source => read_root(rt, parser, given, folder, file, module_path, progress),
         FileKind::BadName => refuse_name(rt.alloc(), given),
         FileKind::Other => refuse_other(rt.alloc(), given),
     }
@@ -358,6 +372,7 @@ fn read_file(
 // Reads the folder at a path, or the folder that the file at a path lies in.
 fn read_path(
     rt: &HostRuntime,
+    parser: &impl Parser,
     given: &str,
     path: &PathBuf,
     module_path: Option<&str>,
@@ -366,12 +381,38 @@ fn read_path(
     ensures { IfOk result (λ r. IsReadNamed given.now (option_map (λ m. m.now) module_path.entry) (read_shown r)) }
 {
     if path.is_dir(rt) {
-        return read_root(rt, given, path.as_str(), "", module_path, progress);
+        return read_root(rt, parser, given, path.as_str(), "", module_path, progress);
     }
     let name = path.file_name().unwrap_or("");
     match path.parent() {
-        Some(folder) => read_file(rt, given, folder.as_str(), name, module_path, progress),
+        Some(folder) => read_file(
+            rt,
+            parser,
+            given,
+            folder.as_str(),
+            name,
+            module_path,
+            progress,
+        ),
         None => refuse_other(rt.alloc(), given),
+    }
+}
+
+// Reads the Go packages of a folder, whose files a parser parses.
+fn read_by(
+    rt: &HostRuntime,
+    parser: &impl Parser,
+    folder: &str,
+    module_path: Option<&str>,
+    progress: &mut Progress<'_>,
+) -> Result<ReadFolder, AllocError>
+    ensures { IfOk result (λ r. IsReadOf folder.now (option_map (λ m. m.now) module_path.entry) (read_shown r)) }
+{
+    let alloc = rt.alloc();
+    let given = named_folder(folder);
+    match fs::canonicalize(rt, given) {
+        Ok(path) => read_path(rt, parser, given, &path, module_path, progress),
+        Err(error) => refuse_folder(alloc, given, &error),
     }
 }
 
@@ -391,10 +432,28 @@ pub fn read_folder(
 ) -> Result<ReadFolder, AllocError>
     ensures { IfOk result (λ r. IsReadOf folder.now (option_map (λ m. m.now) module_path.entry) (read_shown r)) }
 {
-    let alloc = rt.alloc();
-    let given = named_folder(folder);
-    match fs::canonicalize(rt, given) {
-        Ok(path) => read_path(rt, given, &path, module_path, progress),
-        Err(error) => refuse_folder(alloc, given, &error),
-    }
+    let parser = InTurn { alloc: rt.alloc() };
+    read_by(rt, &parser, folder, module_path, progress)
+}
+
+/// Reads the Go packages of a folder as [`read_folder`] does. Where there are 65,536 bytes of source and more, several threads parse the files, some megabytes
+/// of source at a time.
+///
+/// # Errors
+///
+/// `AllocError` for want of memory.
+pub fn read_folder_at_once(
+    rt: &HostRuntime,
+    threads: &impl Threads,
+    folder: &str,
+    module_path: Option<&str>,
+    progress: &mut Progress<'_>,
+) -> Result<ReadFolder, AllocError>
+    ensures { IfOk result (λ r. IsReadOf folder.now (option_map (λ m. m.now) module_path.entry) (read_shown r)) }
+{
+    let parser = AtOnce {
+        threads,
+        alloc: rt.alloc(),
+    };
+    read_by(rt, &parser, folder, module_path, progress)
 }

@@ -2,16 +2,19 @@
 //! folder.
 #![tactic(auto)]
 
+pub mod at_once;
 mod finding;
 mod folders;
+mod groups;
 mod notes;
+mod parsing;
 mod progress;
 mod putting;
 mod reading;
 mod roots;
 mod scopes;
 
-pub use finding::{FoundPackages, ReadFolder, read_folder};
+pub use finding::{FoundPackages, ReadFolder, read_folder, read_folder_at_once};
 pub use folders::folder_of;
 pub use notes::{name_or_quotes, note, note_rule, push, push_number};
 pub use progress::Progress;

@@ -5,7 +5,7 @@ ghost use Rattle.std.specs.List.{list_any};
 ghost use Rattle.govisd_disk.specs.Notes.{SaysUnread, counts_line, hex_digit, is_control, name_byte, name_or_quotes, none_passed, note_line, passed_line, quoted_name, refusal_line, stands_plain, told_name, wants_memory};
 
 use go_explain_core::meaning;
-use go_text_core::Rule;
+use go_path_core::text_core::Rule;
 use std::alloc::{AllocError, Global};
 use std::io;
 

@@ -1,31 +1,19 @@
 //! From the files of folders to a workspace.
-ghost use Rattle.std.specs.Prelude.{◌≡◌, IfOk, OnOk, [], map, string_bytes};
-ghost use Rattle.std.specs.List.Sorted.{IsStrictlySortedBy};
-ghost use Rattle.std.specs.Map.{keys_of};
-ghost use Rattle.std.specs.String.{string_cmp};
-ghost use Rattle.go_snap_core.specs.graph_core.Workspaces.{HaveDistinctNames, given_files};
-ghost use Rattle.govisd_disk.specs.Puts.{ArePut, IsPathOf, IsPut, folder_of};
+ghost use Rattle.std.specs.Prelude.{◌≡◌, All, IfOk, OnOk, [], map, string_bytes};
+ghost use Rattle.go_graph_core.specs.Sources.{IsRead};
+ghost use Rattle.go_graph_core.specs.Workspaces.{HaveDistinctNames, texts_of_files};
+ghost use Rattle.govisd_disk.specs.Puts.{ArePut, IsGroup, IsPathOf, IsPut, folder_of, group_of};
 
+use crate::groups::{Group, next_files};
 use crate::notes::note_rule;
+use crate::parsing::Parser;
 use crate::progress::Progress;
 use crate::reading::FolderFiles;
 use go_folder_core::package_path;
+use go_graph_core::{SourceFile, Workspace};
 use go_path_core::ImportPath;
-use go_snap_core::graph_core::Workspace;
-use go_text_core::Rule;
+use go_path_core::text_core::Rule;
 use std::alloc::{AllocError, Global};
-use std::collections::BTreeMap;
-
-// Files with their names, in order of name.
-fn named_files(
-    alloc: Global,
-    files: BTreeMap<String, String>,
-) -> Result<Vec<(String, String)>, AllocError>
-    ensures files { IfOk result (λ v. v.items ≡ files.entries) }
-    ensures order { IfOk result (λ v. IsStrictlySortedBy string_cmp (keys_of v.items)) }
-{
-    files.into_iter().collect(alloc)
-}
 
 /// The path that a text writes, if it writes one.
 ///
@@ -42,22 +30,23 @@ pub fn path_of(alloc: Global, text: &str) -> Result<Option<ImportPath>, AllocErr
     }
 }
 
-// Puts files as those of a package, where its path is one, and says so where it is none.
-fn put_files(
+// Puts the files of a folder as those of a package, where its path is one, and says so where it is none.
+fn put_folder(
     alloc: Global,
     workspace: &mut Workspace,
     notes: &mut String,
     module_path: &str,
     folder: &str,
-    files: Vec<(String, String)>,
+    files: Vec<SourceFile>,
 ) -> Result<(), AllocError>
-    requires { HaveDistinctNames (given_files files.items) }
-    ensures { OnOk result (IsPut module_path.now (folder.now, given_files files.items) (workspace.old, string_bytes notes.old) (workspace.new, string_bytes notes.new)) }
+    requires names { HaveDistinctNames (texts_of_files files.items) }
+    requires read { All IsRead files.items }
+    ensures { OnOk result (IsPut module_path.now (folder.now, texts_of_files files.items) (workspace.old, string_bytes notes.old) (workspace.new, string_bytes notes.new)) }
 {
     let text = package_path(alloc, module_path, folder)?;
     let found = path_of(alloc, text.as_str())?;
     match found {
-        Some(path) => match workspace.put(alloc, &path, files) {
+        Some(path) => match workspace.put_read(alloc, &path, files) {
             Ok(()) => Ok(()),
             Err(_) => Err(AllocError),
         },
@@ -65,28 +54,35 @@ fn put_files(
     }
 }
 
-// Puts the files of a folder.
-fn put_folder(
+// Parses the files of the folders of a group, and puts those of each.
+fn put_group(
+    parser: &impl Parser,
     alloc: Global,
     workspace: &mut Workspace,
     notes: &mut String,
     module_path: &str,
-    found: FolderFiles,
+    group: Group,
 ) -> Result<(), AllocError>
-    ensures { OnOk result (IsPut module_path.now (folder_of found) (workspace.old, string_bytes notes.old) (workspace.new, string_bytes notes.new)) }
+    requires { IsGroup group }
+    ensures { OnOk result (ArePut module_path.now (group_of group) (workspace.old, string_bytes notes.old) (workspace.new, string_bytes notes.new)) }
 {
-    let FolderFiles { folder, files } = found;
-    let files = named_files(alloc, files)?;
-    put_files(alloc, workspace, notes, module_path, folder.as_str(), files)
+    let Group { folders, files, .. } = group;
+    let mut read = parser.parse(files)?.into_iter();
+    for (folder, count) in folders {
+        let files = next_files(alloc, &mut read, count)?;
+        put_folder(alloc, workspace, notes, module_path, folder.as_str(), files)?;
+    }
+    Ok(())
 }
 
 /// Puts the files of folders into a workspace, each as the package of its folder's path below a module. Files of a folder whose path is none are
-/// left out, and that is said.
+/// left out, and that is said. The files of many folders, of some megabytes, are parsed together.
 ///
 /// # Errors
 ///
 /// `AllocError` for want of memory.
 pub fn put_all(
+    parser: &impl Parser,
     alloc: Global,
     workspace: &mut Workspace,
     notes: &mut String,
@@ -96,9 +92,14 @@ pub fn put_all(
 ) -> Result<(), AllocError>
     ensures { OnOk result (ArePut module_path.now (map folder_of found.items) (workspace.old, string_bytes notes.old) (workspace.new, string_bytes notes.new)) }
 {
+    let mut group = Group::empty(alloc);
     for folder in found {
-        put_folder(alloc, workspace, notes, module_path, folder)?;
-        progress.parsed(workspace.packages().len());
+        group.add(alloc, folder)?;
+        if group.is_full() {
+            put_group(parser, alloc, workspace, notes, module_path, group)?;
+            group = Group::empty(alloc);
+            progress.parsed(workspace.packages().len());
+        }
     }
-    Ok(())
+    put_group(parser, alloc, workspace, notes, module_path, group)
 }

@@ -7,7 +7,7 @@ ghost use Rattle.govisd_disk.specs.Reads.{AddsEntry, AddsLooked, EntersFolder, I
 use crate::notes::{is_memory, note, note_rule, note_unread};
 use crate::progress::Progress;
 use go_folder_core::{FileKind, MAX_FILES, below, file_kind, is_passed_over};
-use go_text_core::Rule;
+use go_path_core::text_core::Rule;
 use std::alloc::{AllocError, Global};
 use std::collections::BTreeMap;
 use std::fs::{DirEntry, Metadata};

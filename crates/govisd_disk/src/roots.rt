@@ -5,7 +5,7 @@ use crate::notes::{name_or_quotes, note, note_rule, note_unread, push_number};
 use crate::putting::path_of;
 use crate::reading::text_at;
 use go_folder_core::{below, is_passed_over, module_line, package_path};
-use go_text_core::Rule;
+use go_path_core::text_core::Rule;
 use std::alloc::{AllocError, Global};
 use std::path::Path;
 

@@ -2,8 +2,8 @@
 ghost use Rattle.std.specs.Prelude.{◌≡◌, ◌++◌, IfOk, OnOk, map, option_map};
 ghost use Rattle.govisd_disk.specs.Scopes.{has_any, has_fault, has_file, has_package, is_below, is_inside, packages_in, path_if, source_at};
 
+use go_graph_core::{PackageSource, SourceFile, Workspace};
 use go_snap_core::PlacedFault;
-use go_snap_core::graph_core::{PackageSource, SourceFile, Workspace};
 use std::alloc::{AllocError, Global};
 
 /// The part of a module that was asked for: the packages of a folder and below it, or one file.

@@ -1,12 +1,12 @@
 //! Answers to requests.
 
-use govisd_asked::{
+use govisd_diagnostics::{code_actions, prepare_rename, rename};
+use govisd_documents::{AskedPlace, Session, asked_place};
+use govisd_protocol::{ErrorCode, Refusal, position_at, refuse_with, text_at};
+use govisd_requests::{
     completion, definition, document_symbols, highlights, hover, references, resolved,
     semantic_tokens, signature_help, workspace_symbols,
 };
-use govisd_open::{AskedPlace, Session, asked_place};
-use govisd_protocol::{ErrorCode, Refusal, position_at, refuse_with, text_at};
-use govisd_told::{code_actions, prepare_rename, rename};
 use serde_json::Value;
 use std::alloc::AllocError;
 

@@ -5,8 +5,9 @@
 #![tactic(auto)]
 
 mod answers;
+pub mod host;
 mod requests;
 mod serving;
 
-pub use govisd_open::Disk;
+pub use govisd_documents::Disk;
 pub use serving::{EditorEnd, run_editor};

@@ -2,14 +2,14 @@
 
 use crate::answers::answer;
 use crate::serving::settle;
-use govisd_asked::legend;
-use govisd_open::{
+use govisd_documents::{
     Disk, Phase, Session, can_watch, changed, closed, encoding_in, encoding_name, open_around,
     open_module, opened, watched_all,
 };
 use govisd_protocol::{
     ErrorCode, Stop, refuse_with, send_refusal, send_request, send_result, text_at,
 };
+use govisd_requests::legend;
 use serde_json::{Map, Value, json};
 use std::alloc::{AllocError, Global};
 use std::io::Write;

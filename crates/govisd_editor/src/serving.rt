@@ -1,10 +1,10 @@
 //! An editor that is served.
 
 use crate::requests::handle;
-use go_frame_core::{FrameEnd, Input, read_message};
-use govisd_open::{Disk, Phase, Session};
+use go_lsp_core::frames::{FrameEnd, Input, read_message};
+use govisd_diagnostics::publish;
+use govisd_documents::{Disk, Phase, Session};
 use govisd_protocol::{ErrorCode, Stop, refuse_with, send_refusal};
-use govisd_told::publish;
 use serde_json::Value;
 use std::alloc::Global;
 use std::io::{Read, Write};

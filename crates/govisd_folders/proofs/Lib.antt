@@ -2,3 +2,4 @@ mod LineLemmas
 mod ReportLemmas
 mod SelectingLemmas
 mod TellingLemmas
+mod RunsRunLemmas

@@ -3,10 +3,10 @@ use Rattle.std.proofs.Common.{◌≡◌, ◌∙◌, ℕ, Bool, true, List, [], �
 use Rattle.std.specs.Prelude.{string_bytes}
 use Rattle.go_folder_core.specs.Places.{IsPosition}
 use Rattle.go_folder_core.specs.declared.places.Position.{Position}
-use Rattle.go_snap_core.specs.graph_core.Workspaces.{PackageModel}
-use Rattle.go_snap_core.specs.Faults.{LiesIn}
-use Rattle.go_snap_core.specs.Snapshots.{IsSnapshot, SnapshotModel}
-use Rattle.go_snap_core.specs.declared.fault.PlacedFault.{PlacedFault}
+use Rattle.go_graph_core.specs.Workspaces.{PackageModel}
+use Rattle.go_diagnostic_core.specs.snap_core.Faults.{LiesIn}
+use Rattle.go_diagnostic_core.specs.snap_core.Snapshots.{IsSnapshot, SnapshotModel}
+use Rattle.go_diagnostic_core.specs.snap_core.declared.fault.PlacedFault.{PlacedFault}
 use Rattle.go_cause_core.specs.Causes.{AreCauses}
 use Rattle.go_cause_core.specs.Names.{AreRepeated}
 use Rattle.govisd_folders.specs.Checks.{SnapshotIsTold, WorkspaceIsChecked}

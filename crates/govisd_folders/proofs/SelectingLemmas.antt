@@ -1,7 +1,7 @@
 -- Faults with those that they follow from.
 use Rattle.std.proofs.Common.{◌≡◌, ◌∙◌, ℕ, List, [], ◌∷◌, ◌++◌, Option, append_assoc, refl, sym, ap}
 use Rattle.std.proofs.lemmas.List.{append-nil}
-use Rattle.go_snap_core.specs.declared.fault.PlacedFault.{PlacedFault}
+use Rattle.go_diagnostic_core.specs.snap_core.declared.fault.PlacedFault.{PlacedFault}
 use Rattle.govisd_folders.specs.Selecting.{joined_by, joined_cause, root_of, told_by, told_of}
 use Rattle.go_cause_core.specs.declared.cause.Cause.{Cause}
 use Rattle.govisd_folders.specs.declared.selecting.Told.{Told}

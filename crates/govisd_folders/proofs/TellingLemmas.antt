@@ -9,10 +9,10 @@ use Rattle.std.proofs.lemmas.Option.{none-some}
 use Rattle.std.proofs.Math.Seq.{take-add}
 use Rattle.go_folder_core.specs.Folders.{joined_path}
 use Rattle.go_folder_core.specs.Places.{IsPosition}
-use Rattle.go_snap_core.specs.graph_core.Workspaces.{PackageModel}
-use Rattle.go_snap_core.specs.declared.fault.PlacedFault.{PlacedFault}
-use Rattle.go_snap_core.specs.Faults.{LiesIn}
-use Rattle.go_snap_core.specs.graph_core.Sources.{SourceModel}
+use Rattle.go_graph_core.specs.Workspaces.{PackageModel}
+use Rattle.go_diagnostic_core.specs.snap_core.declared.fault.PlacedFault.{PlacedFault}
+use Rattle.go_diagnostic_core.specs.snap_core.Faults.{LiesIn}
+use Rattle.go_graph_core.specs.Sources.{SourceModel}
 use Rattle.govisd_disk.specs.Scopes.{ScopeModel, has_fault, source_at}
 use Rattle.govisd_folders.specs.Selecting.{is_shown, shown_in, told_by, told_if, told_in}
 use Rattle.govisd_folders.specs.Telling.{AddsFault, AddsLines, AddsOne, AreLines, IsFault, IsFolderOf, IsLine, LiesTold, file_text}

@@ -3,10 +3,10 @@ use Rattle.std.specs.Prelude.{◌≡◌, ◌==◌, ℕ, Bool, true, false, List,
 use Rattle.go_folder_core.specs.declared.orders.Color.{Color}
 use Rattle.go_folder_core.specs.declared.orders.Color.TheVariants as color
 use Rattle.go_folder_core.specs.declared.orders.Style.{Style}
-use Rattle.go_snap_core.specs.graph_core.Workspaces.{PackageModel}
-use Rattle.go_snap_core.specs.declared.fault.PlacedFault.{PlacedFault}
-use Rattle.go_snap_core.specs.part_core.Parts.{PartModel}
-use Rattle.go_snap_core.specs.Snapshots.{IsSnapshot}
+use Rattle.go_graph_core.specs.Workspaces.{PackageModel}
+use Rattle.go_diagnostic_core.specs.snap_core.declared.fault.PlacedFault.{PlacedFault}
+use Rattle.go_emit_core.specs.package_core.PackagePartParts.{PartModel}
+use Rattle.go_diagnostic_core.specs.snap_core.Snapshots.{IsSnapshot}
 use Rattle.govisd_folders.specs.declared.checking.CheckAnswer.{CheckAnswer}
 use Rattle.govisd_folders.specs.declared.looks.Look.{Look}
 use Rattle.govisd_folders.specs.declared.telling.Report.{Report}

@@ -1,9 +1,9 @@
 -- Which faults are told, and which of them are shown.
 use Rattle.std.specs.Prelude.{◌||◌, ℕ, Bool, true, false, List, [], ◌∷◌, Option, Some, None, slice_get, flat_map, is_some, if◌then◌else◌}
-use Rattle.go_text_core.specs.declared.rule.Rule.{Rule}
-use Rattle.go_text_core.specs.declared.rule.Rule.TheVariants.{N1}
-use Rattle.go_snap_core.specs.graph_core.Workspaces.{PackageModel}
-use Rattle.go_snap_core.specs.declared.fault.PlacedFault.{PlacedFault}
+use Rattle.go_path_core.specs.text_core.declared.rule.Rule.{Rule}
+use Rattle.go_path_core.specs.text_core.declared.rule.Rule.TheVariants.{N1}
+use Rattle.go_graph_core.specs.Workspaces.{PackageModel}
+use Rattle.go_diagnostic_core.specs.snap_core.declared.fault.PlacedFault.{PlacedFault}
 use Rattle.go_cause_core.specs.declared.cause.Cause.{Cause}
 use Rattle.go_cause_core.specs.declared.cause.Cause.TheVariants as cause
 use Rattle.govisd_disk.specs.Scopes.{ScopeModel, has_fault}

@@ -1,18 +1,18 @@
 -- How faults are written.
 use Rattle.std.specs.Prelude.{◌≡◌, ◌≢◌, ◌<◌, ◌-◌, ◌==◌, ℕ, Bool, true, false, nat_le, List, [], ◌∷◌, ◌++◌, get_or, length, take, Option, Some, None, codes, decimal, string_bytes, if◌then◌else◌}
-use Rattle.go_text_core.specs.Rules.{rule_number}
-use Rattle.go_text_core.specs.declared.rule.Rule.{Rule}
-use Rattle.go_text_core.specs.declared.rule.Rule.TheVariants.{L1}
+use Rattle.go_path_core.specs.text_core.Rules.{rule_number}
+use Rattle.go_path_core.specs.text_core.declared.rule.Rule.{Rule}
+use Rattle.go_path_core.specs.text_core.declared.rule.Rule.TheVariants.{L1}
 use Rattle.go_explain_core.specs.Meanings.{rule_meaning}
 use Rattle.go_folder_core.specs.Folders.{joined_path}
 use Rattle.go_folder_core.specs.Places.{IsPosition}
 use Rattle.go_folder_core.specs.declared.orders.Format.{Format}
 use Rattle.go_folder_core.specs.declared.orders.Format.TheVariants as format
 use Rattle.go_folder_core.specs.declared.places.Position.{Position}
-use Rattle.go_snap_core.specs.graph_core.Sources.{SourceModel}
-use Rattle.go_snap_core.specs.graph_core.Workspaces.{PackageModel}
-use Rattle.go_snap_core.specs.declared.fault.PlacedFault.{PlacedFault}
-use Rattle.go_snap_core.specs.Faults.{LiesIn}
+use Rattle.go_graph_core.specs.Sources.{SourceModel}
+use Rattle.go_graph_core.specs.Workspaces.{PackageModel}
+use Rattle.go_diagnostic_core.specs.snap_core.declared.fault.PlacedFault.{PlacedFault}
+use Rattle.go_diagnostic_core.specs.snap_core.Faults.{LiesIn}
 use Rattle.go_cause_core.specs.Causes.{AreCauses}
 use Rattle.go_cause_core.specs.Names.{AreRepeated}
 use Rattle.govisd_disk.specs.Scopes.{ScopeModel, packages_in, source_at}

@@ -1,16 +1,17 @@
 //! From a folder to its faults.
 ghost use Rattle.std.specs.Prelude.{◌≡◌, List, ℕ, IfOk, option_map, string_bytes};
-ghost use Rattle.go_snap_core.specs.Snapshots.{IsSnapshot};
+ghost use Rattle.go_diagnostic_core.specs.snap_core.Snapshots.{IsSnapshot};
 ghost use Rattle.govisd_folders.specs.Checks.{IsAnswerOfCheck, IsAnswerOn, SnapshotIsTold, WorkspaceIsChecked, notes_status, status_of};
 ghost use Rattle.govisd_disk.specs.Finds.{read_shown};
 
 use crate::looks::{Look, look_of};
 use crate::telling::{Page, Report, told};
+use go_diagnostic_core::snap_core::{Snapshot, compile};
 use go_folder_core::{Order, named_folder};
-use go_snap_core::graph_core::Workspace;
-use go_snap_core::{Snapshot, compile};
-use govisd_disk::{FoundPackages, Progress, ReadFolder, Scope, push, read_folder};
+use go_graph_core::Workspace;
+use govisd_disk::{FoundPackages, Progress, ReadFolder, Scope, push, read_folder_at_once};
 use std::alloc::{AllocError, Global};
+use std::thread::Threads;
 
 /// What came of the check of a folder, or of a run of its program.
 #[derive(Drop)]
@@ -154,12 +155,13 @@ fn answer_on(
 // Reads a folder, and checks its packages.
 fn check_read(
     rt: &HostRuntime,
+    threads: &impl Threads,
     order: &Order<'_>,
     progress: &mut Progress<'_>,
 ) -> Result<CheckAnswer, AllocError>
     ensures { IfOk result (IsAnswerOfCheck order.now.folder.now order.now.style (option_map (λ m. m.now) order.now.module_path)) }
 {
-    let read = read_folder(rt, order.folder, order.module_path, progress)?;
+    let read = read_folder_at_once(rt, threads, order.folder, order.module_path, progress)?;
     let look = look_of(rt, order.style);
     answer_on(rt.alloc(), look, named_folder(order.folder), read)
 }
@@ -168,16 +170,20 @@ fn check_read(
 /// compiled among all others of its module, and the answer tells each fault that follows from no other with its place, or all of them. Nothing is
 /// written into the folder. Where standard error is a
 /// terminal, a line there says how far it is: from the moment a second has passed while files are read or parsed, and from the end of the reading
-/// where more than 4,000,000 bytes of source were read.
+/// where more than 4,000,000 bytes of source were read. Several threads parse the files where there are 65,536 bytes of source and more.
 ///
 /// # Errors
 ///
 /// `AllocError` for want of memory.
-pub fn check_folder(rt: &HostRuntime, order: &Order<'_>) -> Result<CheckAnswer, AllocError>
+pub fn check_folder(
+    rt: &HostRuntime,
+    threads: &impl Threads,
+    order: &Order<'_>,
+) -> Result<CheckAnswer, AllocError>
     ensures { IfOk result (IsAnswerOfCheck order.now.folder.now order.now.style (option_map (λ m. m.now) order.now.module_path)) }
 {
     let mut progress = Progress::begin(rt);
-    let answer = check_read(rt, order, &mut progress);
+    let answer = check_read(rt, threads, order, &mut progress);
     progress.end();
     answer
 }

@@ -7,6 +7,7 @@ mod excerpts;
 mod lines;
 mod looks;
 mod painting;
+pub mod runs;
 mod selecting;
 mod spots;
 mod telling;
@@ -17,12 +18,7 @@ pub use checking::{CheckAnswer, check_folder};
 pub use go_folder_core::{Color, Format, Order, Style};
 pub use govisd_disk::{
     FoundPackages, Progress, ReadFolder, Scope, is_inside, name_or_quotes, note, note_rule,
-    path_of, push, read_folder,
+    path_of, push, read_folder_at_once,
 };
 pub use looks::{Look, PLAIN};
 pub use telling::{Page, Report, told};
-
-/// What the crates above name of `go_snap_core`.
-pub mod snap_core {
-    pub use go_snap_core::{PlacedFault, Snapshot, compile, faults_lie_in_files};
-}

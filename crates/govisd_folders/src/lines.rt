@@ -6,7 +6,7 @@ use crate::unused::Beside;
 use crate::words::Words;
 use go_explain_core::meaning;
 use go_folder_core::{Format, Position};
-use go_text_core::Rule;
+use go_path_core::text_core::Rule;
 use govisd_disk::{push, push_number};
 use std::alloc::{AllocError, Global};
 

@@ -3,9 +3,9 @@ ghost use Rattle.std.specs.Prelude.{◌≡◌, ◌++◌, IfOk, OnOk};
 ghost use Rattle.govisd_folders.specs.Selecting.{follows, follows_by, is_shown, joined_by, joined_cause, root_elsewhere, root_of, shown_in, told_by, told_if, told_in};
 
 use go_cause_core::Cause;
-use go_snap_core::PlacedFault;
-use go_snap_core::graph_core::Workspace;
-use go_text_core::Rule;
+use go_diagnostic_core::snap_core::PlacedFault;
+use go_graph_core::Workspace;
+use go_path_core::text_core::Rule;
 use govisd_disk::{Scope, has_fault};
 use std::alloc::{AllocError, Global};
 

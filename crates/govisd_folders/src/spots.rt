@@ -1,10 +1,10 @@
 //! The place of a fault, as it is written.
 
 use crate::lines::push_place;
+use go_diagnostic_core::snap_core::PlacedFault;
 use go_folder_core::{Position, below, position_of};
-use go_snap_core::PlacedFault;
-use go_snap_core::graph_core::Workspace;
-use go_text_core::Rule;
+use go_graph_core::Workspace;
+use go_path_core::text_core::Rule;
 use govisd_disk::{Scope, folder_of, is_below, push, source_of};
 use std::alloc::{AllocError, Global};
 

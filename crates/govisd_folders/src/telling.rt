@@ -1,8 +1,8 @@
 //! How faults are written.
 ghost use Rattle.std.specs.Prelude.{◌≡◌, ◌++◌, ◌-◌, ◌<◌, ◌≤◌, [], All, IfOk, IsTrue, OnOk, length, option_map, string_bytes, take, true};
 ghost use Rattle.go_folder_core.specs.Folders.{joined_path};
-ghost use Rattle.go_snap_core.specs.Faults.{LiesIn};
-ghost use Rattle.go_snap_core.specs.Snapshots.{IsSnapshot};
+ghost use Rattle.go_diagnostic_core.specs.snap_core.Faults.{LiesIn};
+ghost use Rattle.go_diagnostic_core.specs.snap_core.Snapshots.{IsSnapshot};
 ghost use Rattle.govisd_disk.specs.Scopes.{packages_in, source_at};
 ghost use Rattle.govisd_folders.specs.Selecting.{shown_in, told_by, told_in};
 ghost use Rattle.govisd_folders.specs.Telling.{AddsFault, AddsLines, AddsReport, AreTold, IsPlacedIn, IsReport, LiesTold, count_text, ending_text, faults_text, file_text, full_text, head_text, hidden_text, packages_text, several_text, shows_all, told_at};
@@ -14,12 +14,12 @@ use crate::spots::{Spot, push_fault_place, push_fault_spot};
 use crate::unused::{Beside, unused_in};
 use crate::words::{Words, words_of};
 use go_cause_core::{Cause, causes, repeated_names};
+use go_diagnostic_core::snap_core::{PlacedFault, Snapshot, faults_lie_in_files};
 use go_diagnostic_core::{LineKind, Message};
 use go_folder_core::{Format, LineCounter, Position, below};
+use go_graph_core::SourceFile;
 use go_mismatch_core::{FileMessages, is_of_types, message_below};
-use go_snap_core::graph_core::SourceFile;
-use go_snap_core::{PlacedFault, Snapshot, faults_lie_in_files};
-use go_text_core::Rule;
+use go_path_core::text_core::Rule;
 use govisd_disk::{STAND_IN, Scope, folder_of, packages_in, push, push_number, source_of};
 use std::alloc::{AllocError, Global};
 
@@ -55,8 +55,8 @@ fn add_note(message: &mut Message, text: String) -> Result<(), AllocError> {
 struct Sheet<'s, 'f> {
     page: &'s Page<'s>,
     snapshot: &'s Snapshot,
-    /// All faults that are told of.
-    every: &'s [Told],
+    /// The faults of names that stand at several places, but for the first of each name.
+    again: &'s [Told],
     /// The path of its package.
     package: &'s str,
     /// The path of the file, as it is written.
@@ -73,7 +73,7 @@ impl Drop for Sheet<'_, '_> {
         let Sheet {
             page: _,
             snapshot: _,
-            every: _,
+            again: _,
             package: _,
             file: _,
             text: _,
@@ -126,18 +126,29 @@ fn push_left(alloc: Global, text: &mut String, left: usize) -> Result<(), AllocE
     )
 }
 
+// Those of some faults that are of a name which an earlier one is of, too.
+fn repeated_in(alloc: Global, faults: &[Told]) -> Result<Vec<Told>, AllocError> {
+    let mut again = Vec::new(alloc);
+    for told in faults {
+        if told.root.is_some() && !follows(*told) {
+            again.push(*told)?;
+        }
+    }
+    Ok(again)
+}
+
 // At which other places a name stands that is told of once, if there are any.
 fn other_places(
     alloc: Global,
     page: &Page<'_>,
     snapshot: &Snapshot,
-    every: &[Told],
+    again: &[Told],
     first: PlacedFault,
 ) -> Result<Option<String>, AllocError> {
     let mut text = String::from_str(alloc, "also at")?;
     let mut places: usize = 0;
     let mut left: usize = 0;
-    for other in every {
+    for other in again {
         if is_of_name(*other, first) {
             if places < OTHER_PLACES {
                 push(&mut text, if places == 0 { " " } else { ", " })?;
@@ -166,7 +177,7 @@ fn note_others(
     alloc: Global,
     page: &Page<'_>,
     snapshot: &Snapshot,
-    every: &[Told],
+    again: &[Told],
     told: Told,
     message: &mut Message,
 ) -> Result<(), AllocError> {
@@ -176,7 +187,7 @@ fn note_others(
         }
     }
     if told.fault.rule == Rule::N1 && !page.look.all {
-        if let Some(text) = other_places(alloc, page, snapshot, every, told.fault)? {
+        if let Some(text) = other_places(alloc, page, snapshot, again, told.fault)? {
             return add_note(message, text);
         }
     }
@@ -215,7 +226,7 @@ fn message_of(alloc: Global, sheet: &Sheet<'_, '_>, told: Told) -> Result<Messag
         said_in(alloc, sheet, &told.fault)?
     };
     if page.look.format != Format::Json {
-        note_others(alloc, page, sheet.snapshot, sheet.every, told, &mut message)?;
+        note_others(alloc, page, sheet.snapshot, sheet.again, told, &mut message)?;
     }
     Ok(message)
 }
@@ -377,7 +388,7 @@ fn push_file<'s>(
     out: &mut String,
     page: &'s Page<'s>,
     snapshot: &'s Snapshot,
-    every: &'s [Told],
+    again: &'s [Told],
     faults: &[Told],
     before: usize,
     is_first: bool,
@@ -402,7 +413,7 @@ fn push_file<'s>(
     let sheet = Sheet {
         page,
         snapshot,
-        every,
+        again,
         package,
         file: file.as_str(),
         text,
@@ -418,7 +429,7 @@ fn push_all(
     out: &mut String,
     page: &Page<'_>,
     snapshot: &Snapshot,
-    every: &[Told],
+    again: &[Told],
     faults: &[Told],
 ) -> Result<(), AllocError>
     requires { All (LiesTold snapshot.now.sources) faults.now }
@@ -427,7 +438,7 @@ fn push_all(
     let mut told = 0;
     'turns: while told < faults.len() {
         let (_, rest) = faults.split_at(told);
-        told += push_file(alloc, out, page, snapshot, every, rest, told, told == 0)?;
+        told += push_file(alloc, out, page, snapshot, again, rest, told, told == 0)?;
     }
     Ok(())
 }
@@ -574,7 +585,7 @@ fn push_report(
     out: &mut String,
     page: &Page<'_>,
     snapshot: &Snapshot,
-    every: &[Told],
+    again: &[Told],
     faults: usize,
     shown: &[Told],
     notes: &[Beside],
@@ -585,7 +596,7 @@ fn push_report(
 {
     let count = shown.len();
     push_head(out, page.look.format)?;
-    push_all(alloc, out, page, snapshot, every, shown)?;
+    push_all(alloc, out, page, snapshot, again, shown)?;
     push_beside(alloc, out, page.look.format, notes)?;
     push_end(alloc, out, page.look.format, faults, count, packages)
 }
@@ -624,13 +635,14 @@ fn report_text(
     ensures { IfOk result (λ text. AddsReport page.now.look page.now.scope.package.now page.now.given.now snapshot.now.sources faults shown.now packages [] (string_bytes text)) }
 {
     let notes = notes_of(alloc, page, snapshot)?;
+    let again = repeated_in(alloc, every)?;
     let mut text = String::new(alloc);
     push_report(
         alloc,
         &mut text,
         page,
         snapshot,
-        every,
+        again.as_slice(),
         faults,
         shown,
         notes.as_slice(),

@@ -1,13 +1,12 @@
 //! Variables of functions that nothing uses. The Go specification leaves it to compilers whether they are refused, and `go build` refuses them.
 
 use crate::spots::{file_shown, word_at};
+use go_diagnostic_core::snap_core::Snapshot;
+use go_emit_core::package_core::{FileAnswers, Part};
 use go_folder_core::{LineCounter, Position};
-use go_snap_core::Snapshot;
-use go_snap_core::answer_core::Answer;
-use go_snap_core::graph_core::SourceFile;
-use go_snap_core::package_core::FileAnswers;
-use go_snap_core::part_core::Part;
-use go_text_core::add;
+use go_graph_core::SourceFile;
+use go_path_core::text_core::add;
+use go_report_core::answer::Answer;
 use govisd_disk::{Scope, has_file};
 use std::alloc::{AllocError, Global};
 

@@ -5,12 +5,12 @@ use crate::looks::Look;
 use crate::painting::{BLUE, GREEN, paint, unpaint};
 use crate::selecting::{Told, follows};
 use crate::spots::{Spot, file_shown, word_at};
+use go_diagnostic_core::snap_core::PlacedFault;
 use go_diagnostic_core::{LineKind, Message};
 use go_explain_core::meaning;
 use go_folder_core::{Format, push_command, push_json, push_shown};
-use go_snap_core::PlacedFault;
-use go_snap_core::graph_core::Workspace;
-use go_text_core::add;
+use go_graph_core::Workspace;
+use go_path_core::text_core::add;
 use govisd_disk::{Scope, push, push_number, source_of};
 use std::alloc::{AllocError, Global};
 

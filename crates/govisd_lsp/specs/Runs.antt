@@ -2,7 +2,7 @@
 use Rattle.std.specs.Prelude.{◌≡◌, ◌⊎◌, ℕ, Bool, true, List, Option}
 use Rattle.std.specs.Io.KnownBytes.{Appends, Keeps}
 use Rattle.std.specs.declared.io.ErrorKind.{ErrorKind}
-use Rattle.go_output_core.specs.Outputs.{IsCutShort}
+use Rattle.go_wire_core.specs.outputs.Outputs.{IsCutShort}
 use Rattle.govisd_editor.specs.Ends.{status_of}
 use Rattle.govisd_editor.specs.declared.serving.EditorEnd.{EditorEnd}
 use Rattle.govisd_lsp.specs.Texts.{SaysText, editor_end_text, help_text, unknown_text, unwritten_text, version_text}

@@ -3,7 +3,7 @@ use Rattle.std.specs.Prelude.{ℕ, Bool, true, false, List, [], Option, codes}
 use Rattle.std.specs.Io.KnownBytes.{Appends}
 use Rattle.std.specs.declared.io.ErrorKind.{ErrorKind}
 use Rattle.std.specs.declared.io.ErrorKind.TheVariants.{BrokenPipe}
-use Rattle.go_output_core.specs.Outputs.{IsCutShort}
+use Rattle.go_wire_core.specs.outputs.Outputs.{IsCutShort}
 use Rattle.govisd_editor.specs.declared.serving.EditorEnd.{EditorEnd}
 use Rattle.govisd_editor.specs.declared.serving.EditorEnd.TheVariants.{Done, Left, Cut, ReadFault, WriteFault, Memory}
 

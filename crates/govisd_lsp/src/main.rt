@@ -4,7 +4,7 @@
 mod asking;
 mod program;
 
-use govisd_host::HostDisk;
+use govisd_editor::host::HostDisk;
 use program::run;
 use std::alloc::AllocError;
 use std::io;

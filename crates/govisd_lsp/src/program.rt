@@ -5,7 +5,7 @@ ghost use Rattle.govisd_lsp.specs.Runs.{Does, ServesEditor, ShowsText};
 ghost use Rattle.govisd_lsp.specs.Texts.{SaysText, editor_end_text as text_of_end, help_text as text_of_help, unknown_text as text_of_unknown, unwritten_text as text_of_unwritten, version_text as text_of_version};
 
 use crate::asking::{Asked, asked_in};
-use go_output_core::write_out;
+use go_wire_core::outputs::write_out;
 use govisd_editor::{Disk, EditorEnd, run_editor};
 use std::alloc::Global;
 use std::io::{ErrorKind, Read, Write};

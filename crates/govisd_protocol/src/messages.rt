@@ -1,6 +1,6 @@
 //! Messages that go out.
 
-use go_frame_core::{SendFault, write_message};
+use go_lsp_core::frames::{SendFault, write_message};
 use serde_json::{Value, json};
 use std::alloc::{AllocError, Global};
 use std::io::Write;

@@ -1,6 +1,6 @@
 //! What stands in messages, and values that go out.
 
-use go_position_core::{Position, Range};
+use go_lsp_core::positions::{Position, Range};
 use serde_json::{Value, json};
 use std::alloc::{AllocError, Global};
 

@@ -4,7 +4,7 @@ use Rattle.std.specs.List.{AllZip}
 use Rattle.std.proofs.lemmas.List.{take_more}
 use Rattle.std.proofs.lemmas.Slice.Zip.{all_zipped_more}
 use Rattle.go_wire_core.specs.declared.reply.PackageEntry.{PackageEntry}
-use Rattle.go_look_core.specs.query_core.Entries.{EntryOf}
+use Rattle.go_session_core.specs.query_core.Entries.{EntryOf}
 use Rattle.govisd_replies.specs.Told.{IsEntryFor}
 
 pub entry_more : (xs : List EntryOf) (ys : List PackageEntry) (i : ℕ) (x : EntryOf) (y : PackageEntry) → i < length xs → x ≡ get_or xs i x

@@ -14,19 +14,19 @@ use Rattle.go_wire_core.specs.declared.reply.SymbolKind.TheVariants.{Const, Var,
 use Rattle.go_wire_core.specs.declared.reply.WireReply.{WireReply}
 use Rattle.go_wire_core.specs.declared.reply.WireReply.TheVariants.{Built, Listed, Described, Completed, Defined, Ran, Refused}
 use Rattle.go_graph_core.specs.Packages.{IsPackageName, trees_of}
-use Rattle.go_look_core.specs.query_core.Entries.{AreDeps, AreImports, EntryOf}
+use Rattle.go_session_core.specs.query_core.Entries.{AreDeps, AreImports, EntryOf}
 use Rattle.go_decl_core.specs.declared.places.DeclKind.{DeclKind}
 use Rattle.go_decl_core.specs.declared.places.DeclKind.TheVariants as decl
-use Rattle.go_run_core.specs.declared.outcome.Run.{Run}
-use Rattle.go_run_core.specs.declared.outcome.Run.TheVariants as runs
-use Rattle.go_look_core.specs.declared.faults.Fault.{Fault}
-use Rattle.go_look_core.specs.query_core.declared.listing.Listing.{Listing}
-use Rattle.go_look_core.specs.query_core.declared.documenting.PackageDoc.{PackageDoc}
-use Rattle.go_look_core.specs.symbol_core.declared.symbols.Symbol.{Symbol as FoundSymbol}
-use Rattle.go_look_core.specs.member_core.declared.listing.MemberKind.{MemberKind}
-use Rattle.go_look_core.specs.member_core.declared.listing.MemberKind.TheVariants as member
-use Rattle.go_look_core.specs.type_doc_core.declared.telling.Member.{Member}
-use Rattle.go_look_core.specs.type_doc_core.declared.telling.TypeDoc.{TypeDoc}
+use Rattle.go_machine_core.specs.declared.runs.outcome.Run.{Run}
+use Rattle.go_machine_core.specs.declared.runs.outcome.Run.TheVariants as runs
+use Rattle.go_session_core.specs.declared.queries.faults.Fault.{Fault}
+use Rattle.go_session_core.specs.query_core.declared.listing.Listing.{Listing}
+use Rattle.go_session_core.specs.query_core.declared.documenting.PackageDoc.{PackageDoc}
+use Rattle.go_doc_core.specs.declared.symbol.symbols.Symbol.{Symbol as FoundSymbol}
+use Rattle.go_session_core.specs.type_doc_core.declared.members.listing.MemberKind.{MemberKind}
+use Rattle.go_session_core.specs.type_doc_core.declared.members.listing.MemberKind.TheVariants as member
+use Rattle.go_session_core.specs.type_doc_core.declared.telling.Member.{Member}
+use Rattle.go_session_core.specs.type_doc_core.declared.telling.TypeDoc.{TypeDoc}
 
 -- a fault, with where it stands
 abbrev pub place_of : Fault → FaultPlace

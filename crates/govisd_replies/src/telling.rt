@@ -1,16 +1,16 @@
 //! What is found, as it goes out.
 ghost use Rattle.std.specs.Prelude.{◌≡◌, IfOk, map, string_bytes};
 ghost use Rattle.std.specs.List.{AllZip};
-ghost use Rattle.go_look_core.specs.shown_core.Shown.{texts};
+ghost use Rattle.go_summary_core.specs.shown.Shown.{texts};
 ghost use Rattle.govisd_replies.specs.Told.{AreNamesTold, IsEntryFor, TellsDoc, TellsListing, TellsOutcome, TellsTypeDoc, kind_told, member_kind_told, member_told, or_memory, place_of, symbol_shown, symbol_told};
 
 use go_decl_core::DeclKind;
+use go_doc_core::symbol::Symbol as FoundSymbol;
 use go_graph_core::SourceFile;
-use go_look_core::Fault;
-use go_look_core::query_core::{Listing, PackageDoc, PackageEntry as FoundEntry};
-use go_look_core::symbol_core::Symbol as FoundSymbol;
-use go_look_core::type_doc_core::{Member, MemberKind, TypeDoc};
-use go_run_core::Run;
+use go_machine_core::runs::Run;
+use go_session_core::queries::Fault;
+use go_session_core::query_core::{Listing, PackageDoc, PackageEntry as FoundEntry};
+use go_session_core::type_doc_core::{Member, MemberKind, TypeDoc};
 use go_text_core::{Name, Rule, add};
 use go_wire_core::{FaultPlace, PackageEntry, RunEnd, Symbol, SymbolKind, Text, WireReply};
 use std::alloc::{AllocError, Global};

@@ -1,3 +1,5 @@
 mod Serving
 mod Unserved
 pub mod Crossing
+mod DesksMany
+mod DesksOpening

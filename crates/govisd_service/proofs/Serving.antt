@@ -3,8 +3,8 @@ use Rattle.std.specs.Prelude.{◌≡◌, ℕ, List, Option, Some, None, IfSome, 
 use Rattle.std.proofs.Common.{subst}
 use Rattle.go_wire_core.specs.Ends.{IsEnd}
 use Rattle.go_wire_core.specs.declared.serving.ServeEnd.{ServeEnd}
-use Rattle.govisd_desk.specs.hall.Seat.{Seat}
-use Rattle.govisd_desk.specs.Desks.{ConnectionAnswers, ScriptAnswers, no_sessions}
+use Rattle.go_hall.specs.Seat.{Seat}
+use Rattle.govisd_service.specs.desks.Desks.{ConnectionAnswers, ScriptAnswers, no_sessions}
 use Rattle.govisd_service.specs.Ends.{IsConnection, IsScript}
 
 pub script_served : (known : Option (List ℕ)) (end : ServeEnd) (left old new : Option (List ℕ)) (d e : List (Option Seat)) → d ≡ no_sessions

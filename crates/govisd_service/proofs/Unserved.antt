@@ -5,7 +5,7 @@ use Rattle.std.proofs.KnownBytes.{Appends-nil}
 use Rattle.go_wire_core.specs.declared.serving.ServeEnd.TheVariants.{Memory}
 use Rattle.go_wire_core.specs.Lines.{lines}
 use Rattle.go_wire_core.specs.Steps.{wire}
-use Rattle.govisd_desk.specs.Desks.{no_sessions}
+use Rattle.govisd_service.specs.desks.Desks.{no_sessions}
 use Rattle.govisd_service.specs.Ends.{IsScript}
 
 pub unserved : (bytes : List ℕ) (left out : Option (List ℕ)) → IsScript Memory bytes left out out

@@ -2,8 +2,8 @@
 use Rattle.std.specs.Prelude.{ℕ, List, Option, None, true, false, codes}
 use Rattle.go_wire_core.specs.Ends.{IsEnd}
 use Rattle.go_wire_core.specs.declared.serving.ServeEnd.{ServeEnd}
-use Rattle.govisd_desk.specs.hall.Seat.{Seat}
-use Rattle.govisd_desk.specs.Desks.{ConnectionAnswers, ScriptAnswers, no_sessions}
+use Rattle.go_hall.specs.Seat.{Seat}
+use Rattle.govisd_service.specs.desks.Desks.{ConnectionAnswers, ScriptAnswers, no_sessions}
 
 -- of these bytes, of which those are left, a script is served, in which no session is open at first
 pub record IsScript (end : ServeEnd) (bytes : List ℕ) (left old new : Option (List ℕ)) : Type 0 where

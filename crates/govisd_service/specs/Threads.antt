@@ -2,9 +2,9 @@
 use denote.RattleType.{RattleType}
 use denote.Param.Send.{IsSend, IsSync}
 use Rattle.std.specs.declared.sync.ledger.Ledger as ledger
-use Rattle.go_stamp_core.specs.declared.book.NamesBook as stamps
-use Rattle.govisd_desk.specs.hall_core.declared.counted.Named as named
-use Rattle.govisd_desk.specs.hall.contracts.hall.Hall as hall
+use Rattle.go_hall.specs.hall_core.declared.stamping.book.NamesBook as stamps
+use Rattle.go_hall.specs.hall_core.declared.counted.Named as named
+use Rattle.go_hall.specs.contracts.hall.Hall as hall
 
 -- a hall under a name of a ledger, and of a book of stamps
 abbrev pub HallsCross : (L : RattleType) → named.Ghosts L.Denot → ledger.Ghosts L.Denot → stamps.Ghosts L.Denot → Type 0

@@ -1,15 +1,15 @@
 //! Connections: each has a session of its own.
 ghost use Rattle.std.specs.Prelude.{◌≡◌, ◌<◌, IfSome};
-ghost use Rattle.go_output_core.specs.Outputs.{IsWrittenOut};
+ghost use Rattle.go_wire_core.specs.outputs.Outputs.{IsWrittenOut};
 ghost use Rattle.govisd_service.specs.Ends.{IsConnection, turned_away};
 
+use crate::desks::ConnectionDesk;
 use crate::workers::start;
 use crate::{PARTS, STACK, TURNS};
-use go_output_core::write_out;
+use go_hall::Hall;
+use go_hall::hall_core::{Named, Stamps};
+use go_wire_core::outputs::write_out;
 use go_wire_core::{ServeEnd, serve};
-use govisd_desk::ConnectionDesk;
-use govisd_desk::hall::Hall;
-use govisd_desk::hall_core::{Named, Stamps};
 use std::alloc::Global;
 use std::io::{ErrorKind, Read, Write};
 use std::marker::Brand;

@@ -1,7 +1,7 @@
 //! What threads may take and see: halls. The lemmas are in `proofs/Crossing`, which what gives a hall to threads cites.
 ghost use Rattle.govisd_service.specs.Threads.{HallsCross};
 
-use govisd_desk::hall_core::Named;
+use go_hall::hall_core::Named;
 
 /// Halls, under any names of a ledger and of a book of stamps, may go to a thread and be seen by several.
 pub fn halls_cross<L: Named>()

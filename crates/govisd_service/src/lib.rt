@@ -2,6 +2,7 @@
 #![tactic(auto)]
 
 mod connections;
+pub mod desks;
 mod laws;
 mod script;
 mod workers;
@@ -18,3 +19,20 @@ const PARTS: u64 = 1_048_577;
 
 /// The stack of a worker and of a connection in bytes, which the limit of the process does not make smaller: a tree of height 200 wants some 800 KB.
 const STACK: usize = 2_097_152;
+
+/// What the crates above name of `go_hall`.
+pub mod hall {
+    pub use go_hall::{Built, Gate, Hall, OpenGate, Session, WorkEnd, work};
+}
+
+/// What the crates above name of `go_hall_core`.
+pub mod hall_core {
+    pub use go_hall::hall_core::{Errand, Named, Seen, Stamps, Submits};
+}
+
+/// What the crates above name of `go_sched_core`.
+pub mod sched_core {
+    pub use go_hall::sched_core::{
+        Action, Committed, Core, Event, MAX_EVENTS, Ran, Reply, SessionId, TicketState, run_events,
+    };
+}

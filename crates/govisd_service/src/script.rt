@@ -2,12 +2,12 @@
 ghost use Rattle.std.specs.Prelude.{◌≡◌, ◌<◌, IfSome};
 ghost use Rattle.govisd_service.specs.Ends.{IsScript};
 
+use crate::desks::ScriptDesk;
 use crate::workers::start;
 use crate::{PARTS, TURNS};
+use go_hall::Hall;
+use go_hall::hall_core::{Named, Stamps};
 use go_wire_core::{ServeEnd, serve};
-use govisd_desk::ScriptDesk;
-use govisd_desk::hall::Hall;
-use govisd_desk::hall_core::{Named, Stamps};
 use std::alloc::Global;
 use std::io::{Read, Write};
 use std::marker::Brand;

@@ -1,7 +1,7 @@
 //! The workers of a hall.
 use crate::STACK;
-use govisd_desk::hall::{Hall, OpenGate, work};
-use govisd_desk::hall_core::Named;
+use go_hall::hall_core::Named;
+use go_hall::{Hall, OpenGate, work};
 use std::sync::Wait;
 use std::thread::{Builder, Scope, Threads};
 use std::time::Clock;

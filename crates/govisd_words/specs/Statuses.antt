@@ -6,8 +6,8 @@ use Rattle.clap.specs.declared.error.kind.ErrorKind.{ErrorKind}
 use Rattle.clap.specs.declared.error.kind.ErrorKind.TheVariants.{OutOfMemory}
 use Rattle.go_wire_core.specs.declared.serving.ServeEnd.{ServeEnd}
 use Rattle.go_wire_core.specs.declared.serving.ServeEnd.TheVariants.{Done}
-use Rattle.govisd_core.specs.declared.run.ResolveEnd.{ResolveEnd}
-use Rattle.govisd_core.specs.declared.run.ResolveEnd.TheVariants.{Clean}
+use Rattle.govisd_resolve.specs.declared.run.ResolveEnd.{ResolveEnd}
+use Rattle.govisd_resolve.specs.declared.run.ResolveEnd.TheVariants.{Clean}
 
 -- 0 for a source without fault
 abbrev pub end_status : ResolveEnd → ℕ

@@ -7,8 +7,8 @@ use Rattle.std.specs.declared.io.ErrorKind.TheVariants.{BrokenPipe}
 use Rattle.std.specs.declared.net.socket_addr.SocketAddr.{SocketAddr}
 use Rattle.go_wire_core.specs.declared.serving.ServeEnd.{ServeEnd}
 use Rattle.go_wire_core.specs.declared.serving.ServeEnd.TheVariants as served
-use Rattle.govisd_core.specs.declared.run.ResolveEnd.{ResolveEnd}
-use Rattle.govisd_core.specs.declared.run.ResolveEnd.TheVariants.{Clean, Faults, ReadFault, WriteFault, Memory}
+use Rattle.govisd_resolve.specs.declared.run.ResolveEnd.{ResolveEnd}
+use Rattle.govisd_resolve.specs.declared.run.ResolveEnd.TheVariants.{Clean, Faults, ReadFault, WriteFault, Memory}
 use Rattle.govisd_words.specs.declared.words.ValueOption.{ValueOption}
 use Rattle.govisd_words.specs.declared.words.ValueOption.TheVariants.{Workers, Connections, Steps, Form, Colors}
 

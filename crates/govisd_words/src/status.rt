@@ -4,7 +4,7 @@ ghost use Rattle.govisd_words.specs.Statuses.{end_status as status_of_end, refus
 
 use clap::error::ErrorKind;
 use go_wire_core::ServeEnd;
-use govisd_core::ResolveEnd;
+use govisd_resolve::ResolveEnd;
 use std::io;
 
 /// The exit status of a run: 0 for a source without fault, and else 1.

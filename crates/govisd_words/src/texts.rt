@@ -5,7 +5,7 @@ ghost use Rattle.govisd_words.specs.Texts.{check_help_text, explain_help_text, h
 
 use crate::words::ValueOption;
 use go_wire_core::ServeEnd;
-use govisd_core::ResolveEnd;
+use govisd_resolve::ResolveEnd;
 use std::alloc::{AllocError, Global};
 use std::io::ErrorKind;
 use std::net::SocketAddr;

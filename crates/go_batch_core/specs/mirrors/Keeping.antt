@@ -1,15 +1,15 @@
 -- What a batch keeps.
 use Rattle.std.specs.Prelude.{◌≡◌, ◌≤◌, ◌+◌, ℕ, List, Option, Some, None, ⊤, map, length, slice_get}
-use Rattle.go_snap_core.specs.graph_core.Workspaces.{PackageModel, AreAllRead}
-use Rattle.go_snap_core.specs.graph_core.Plans.{AreImporters, IsAssembledAt, PlanModel}
-use Rattle.go_reach_core.specs.Numbers.{Numbers}
-use Rattle.go_snap_core.specs.summary_core.Summaries.{SummaryModel}
-use Rattle.go_snap_core.specs.part_core.Parts.{PartModel, IsPart}
-use Rattle.go_snap_core.specs.whole_core.Inputs.{IsInputAt}
-use Rattle.go_snap_core.specs.make_core.Telling.{told_of}
-use Rattle.go_turn_core.specs.declared.mark.Mark.{Mark}
-use Rattle.go_turn_core.specs.declared.mark.Mark.TheVariants as mark
-use Rattle.go_turn_core.specs.Turns.{TurnsModel}
+use Rattle.go_block_core.specs.graph_core.Workspaces.{PackageModel, AreAllRead}
+use Rattle.go_block_core.specs.graph_core.Plans.{AreImporters, IsAssembledAt, PlanModel}
+use Rattle.go_digraph_core.specs.reach.Numbers.{Numbers}
+use Rattle.go_summary_core.specs.Summaries.{SummaryModel}
+use Rattle.go_package_core.specs.package_part.Parts.{PartModel, IsPart}
+use Rattle.go_snap_core.specs.whole_workspace.Inputs.{IsInputAt}
+use Rattle.go_snap_core.specs.make.Telling.{told_of}
+use Rattle.go_digraph_core.specs.declared.ready_queue.mark.Mark.{Mark}
+use Rattle.go_digraph_core.specs.declared.ready_queue.mark.Mark.TheVariants as mark
+use Rattle.go_digraph_core.specs.ready_queue.Turns.{TurnsModel}
 use Rattle.go_batch_core.specs.declared.slot.Slot.{Slot}
 use Rattle.go_batch_core.specs.declared.slot.Slot.TheVariants.{NoAction, Untaken, Taken, Finished}
 use Rattle.go_batch_core.specs.Batches.{AreImportsFinished, actions_left, batch_with}

@@ -1,9 +1,9 @@
 -- What a package has by two plans.
 use Rattle.std.specs.Prelude.{◌≡◌, ℕ, Bool, true, List, Some, IsTrue, length, slice_get}
-use Rattle.go_reach_core.specs.Numbers.{Numbers}
-use Rattle.go_snap_core.specs.graph_core.Plans.{PlanModel}
-use Rattle.go_snap_core.specs.graph_core.Workspaces.{PackageModel}
-use Rattle.go_head_core.specs.Rows.{HaveSameRows}
+use Rattle.go_digraph_core.specs.reach.Numbers.{Numbers}
+use Rattle.go_block_core.specs.graph_core.Plans.{PlanModel}
+use Rattle.go_block_core.specs.graph_core.Workspaces.{PackageModel}
+use Rattle.go_import_core.specs.head.Rows.{HaveSameRows}
 
 -- the package of a number has a set in both lists, with the same members
 abbrev pub HaveSameReached : List Numbers → List Numbers → ℕ → Type 0

@@ -1,7 +1,7 @@
 -- What packages tell, with what is not added yet.
 use Rattle.std.specs.Prelude.{◌<◌, ℕ, List, All, Option, Some, slice_set}
 use Rattle.std.specs.List.{fold}
-use Rattle.go_snap_core.specs.summary_core.Summaries.{SummaryModel}
+use Rattle.go_summary_core.specs.Summaries.{SummaryModel}
 use Rattle.go_batch_core.specs.declared.tell.Tell.{Tell}
 
 -- with what a package tells in its place

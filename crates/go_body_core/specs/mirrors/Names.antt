@@ -3,15 +3,15 @@ use Rattle.std.proofs.Common.{◌≡◌, ℕ, Bool, List, [], ◌∷◌, Option,
 use Rattle.go_tree_nodes.specs.Trees.{TypeTree}
 use Rattle.go_term_core.specs.Terms.{Term, Sign}
 use Rattle.go_env_core.specs.handle_core.Declarations.{Declaration}
-use Rattle.go_env_core.specs.local_core.Binding.{NameLook}
-use Rattle.go_env_core.specs.local_core.Alike.{LookAtNames}
-use Rattle.go_env_core.specs.expr_core.Locality.{SameType}
-use Rattle.go_env_core.specs.piece_core.Laws.{FindByNames}
-use Rattle.go_env_core.specs.local_core.Pieces.{piece_types}
-use Rattle.go_env_core.specs.piece_core.Shown.{pieces_look}
-use Rattle.go_env_core.specs.piece_core.Local.{all_made}
-use Rattle.go_env_core.specs.face_core.Faces.{TheFace}
-use Rattle.go_env_core.specs.inline_core.Types.{InlineOf}
+use Rattle.go_names_core.specs.local_core.Binding.{NameLook}
+use Rattle.go_names_core.specs.local_core.Alike.{LookAtNames}
+use Rattle.go_stmt_core.specs.expr_core.Locality.{SameType}
+use Rattle.go_stmt_core.specs.piece.Laws.{FindByNames}
+use Rattle.go_names_core.specs.local_core.Pieces.{piece_types}
+use Rattle.go_stmt_core.proofs.PieceShown.{pieces_look}
+use Rattle.go_stmt_core.proofs.PieceLocal.{all_made}
+use Rattle.go_env_core.specs.declared_core.Faces.{TheFace}
+use Rattle.go_stmt_core.specs.inline_core.Types.{InlineOf}
 use Rattle.go_env_core.specs.declared.meaning.Meaning.{Meaning}
 use Rattle.go_env_core.specs.Scenes.{SceneModel, scene_shown}
 use Rattle.go_env_core.specs.Found.{found_of}

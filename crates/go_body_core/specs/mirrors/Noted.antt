@@ -1,11 +1,11 @@
 -- What the checker notes of a piece.
 use Rattle.std.specs.Prelude.{Bool, List, Option}
 use Rattle.go_tree_nodes.specs.declared.names.Ident.{Ident}
-use Rattle.go_env_core.specs.operand_core.declared.types.Operand.{Operand}
+use Rattle.go_stmt_core.specs.operand_core.declared.types.Operand.{Operand}
 use Rattle.go_term_core.specs.Terms.{Term}
-use Rattle.go_env_core.specs.piece_core.Pieces.{piece_uses}
-use Rattle.go_env_core.specs.names_core.declared.look.OpenNames.{OpenNames}
-use Rattle.go_env_core.specs.names_core.Scope.{open_look}
+use Rattle.go_stmt_core.specs.piece.Pieces.{piece_uses}
+use Rattle.go_names_core.specs.declared.look.OpenNames.{OpenNames}
+use Rattle.go_names_core.specs.Scope.{open_look}
 use Rattle.go_env_core.specs.declared.meaning.Meaning.{Meaning}
 use Rattle.go_env_core.specs.declared.meaning.Meaning.TheVariants as meanings
 use Rattle.go_env_core.specs.Scenes.{scene_shown}

@@ -1,10 +1,10 @@
 -- Code that is written from its end.
 use Rattle.std.specs.Prelude.{ℕ, ◌-◌, ◌≤◌, List, [], ◌++◌, length}
 use Rattle.go_tree_nodes.specs.Trees.{ExprTree, Call, ElseTree, NoElse, ElseBlock, ElseIf}
-use Rattle.go_fragment_core.specs.instruction_core.declared.instruction.Instruction.{Instruction}
+use Rattle.go_object_core.specs.declared.instructions.instruction.Instruction.{Instruction}
 use Rattle.go_code_core.specs.declared.stmts.Marks.{Marks}
 use Rattle.go_code_core.specs.Code.{Exits, branch_code, call_end, items_code, jump, lines_code, receiver_code}
-use Rattle.go_fragment_core.specs.Names.{Frame, callee_meaning}
+use Rattle.go_code_core.specs.fragments.Names.{Frame, callee_meaning}
 
 -- how far it is from what is written next to where `break` and `continue` lead, where so many instructions are written and so many of them
 -- stand behind these places

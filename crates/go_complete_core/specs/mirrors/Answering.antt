@@ -1,19 +1,19 @@
 -- What is answered by the spot of an identifier, where locals are open.
 use Rattle.std.specs.Prelude.{◌≡◌, ◌↔◌, ℕ, Bool, true, false, List, [], Option, Some, None, Contains}
 use Rattle.std.specs.List.Sorted.{IsStrictlySortedBy}
-use Rattle.go_fitting_core.specs.graph_core.Workspaces.{by_bytes}
+use Rattle.go_graph_core.specs.Workspaces.{by_bytes}
 use Rattle.go_tree_nodes.specs.declared.names.Ident.{Ident}
 use Rattle.go_tree_nodes.specs.declared.usage.Usage.{Usage}
 use Rattle.go_tree_nodes.specs.declared.usage.Usage.TheVariants as usages
 use Rattle.go_tree_nodes.specs.Trees.{ExprTree, Named}
-use Rattle.go_open_core.specs.Blocks.{found_in}
-use Rattle.go_fitting_core.specs.scope_core.Models.{ScopesModel}
-use Rattle.go_fitting_core.specs.scope_core.Scopes.{scope_blocks}
-use Rattle.go_fitting_core.specs.denote_core.declared.things.Stand.{Stand}
-use Rattle.go_fitting_core.specs.denote_core.declared.things.Stand.TheVariants as stands
-use Rattle.go_fitting_core.specs.face_core.Packages.{PackageFacesModel}
-use Rattle.go_place_core.specs.spot_core.Used.{SpotTree, NameSpot, BehindSpot, BehindNameSpot, KeySpot}
-use Rattle.go_fitting_core.specs.Fitting.{fits_alone, fits_behind, package_at}
+use Rattle.go_cursor_core.specs.scope_stack.Blocks.{found_in}
+use Rattle.go_names_core.specs.scope_core.Models.{ScopesModel}
+use Rattle.go_names_core.specs.scope_core.Scopes.{scope_blocks}
+use Rattle.go_cursor_core.specs.denote_core.declared.things.Stand.{Stand}
+use Rattle.go_cursor_core.specs.denote_core.declared.things.Stand.TheVariants as stands
+use Rattle.go_candidate_core.specs.declared_core.Packages.{PackageFacesModel}
+use Rattle.go_cursor_core.specs.Used.{SpotTree, NameSpot, BehindSpot, BehindNameSpot, KeySpot}
+use Rattle.go_candidate_core.specs.fitting.Fitting.{fits_alone, fits_behind, package_at}
 
 -- exactly the names that pass a test, in byte order
 abbrev pub ArePassing : (List ℕ → Bool) → Option (List (List ℕ)) → Type 0

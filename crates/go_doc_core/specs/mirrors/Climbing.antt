@@ -1,7 +1,7 @@
 -- A run of comments that is read upwards, a comment at a time.
 use Rattle.std.specs.Prelude.{◌≡◌, ℕ, ◌+◌, ◌-◌, ◌≤◌, ◌<◌, min, Bool, ◌&&◌, cond, nat_eq, nat_le, List, [], ◌∷◌, length, get_or, Option, Some, None, All, Contains}
-use Rattle.go_scan_core.specs.text_core.declared.span.Span.{Span}
-use Rattle.go_scan_core.specs.token_core.declared.token.Comment.{Comment}
+use Rattle.go_tree_nodes.specs.text_core.declared.span.Span.{Span}
+use Rattle.go_tree_nodes.specs.token_core.declared.token.Comment.{Comment}
 use Rattle.go_doc_core.specs.declared.runs.Climb.{Climb}
 use Rattle.go_doc_core.specs.DocComments.{AreAbove, IsAbove, IsDocRun, begins_line, first_byte, line_of, top_line}
 

@@ -1,6 +1,6 @@
 -- Where the members of a list stand that an identifier names, by where its name stands among theirs.
 use Rattle.std.specs.Prelude.{ℕ, Bool, Option, Some, None, if◌then◌else◌}
-use Rattle.go_index_core.specs.declared.spellings.Spelling.{Spelling}
+use Rattle.go_collections_core.specs.declared.spelling_index.spellings.Spelling.{Spelling}
 use Rattle.go_embed_core.specs.declared.indexed.Place.{Place}
 use Rattle.go_embed_core.specs.declared.indexed.Place.TheVariants as places
 use Rattle.go_embed_core.specs.Owners.{Found}

@@ -1,11 +1,11 @@
 -- The functions of a package by the outlines of its files.
 use Rattle.std.specs.Prelude.{ℕ, suc, List, [], ◌∷◌, ◌++◌}
-use Rattle.go_meaning_core.specs.entry_core.Outlines.{FileOutline}
-use Rattle.go_meaning_core.specs.handle_core.Declarations.{Declaration}
-use Rattle.go_meaning_core.specs.part_core.Parts.{FileOf}
+use Rattle.go_declared_core.specs.typexpr_core.EntryOutlines.{FileOutline}
+use Rattle.go_declared_core.specs.handle_core.Declarations.{Declaration}
+use Rattle.go_package_core.specs.package_part.Parts.{FileOf}
 use Rattle.go_object_core.specs.Objects.{FunctionOf}
 use Rattle.go_emit_core.specs.Emitted.{file_functions}
-use Rattle.go_meaning_core.specs.Scenes.{CodeScene}
+use Rattle.go_emit_core.specs.meaning.Scenes.{CodeScene}
 
 abbrev pub outlines_functions : CodeScene → ℕ → List FileOutline → List FileOf → List (FunctionOf Declaration)
 outlines_functions s n [] files = []

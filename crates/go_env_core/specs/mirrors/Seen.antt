@@ -3,10 +3,10 @@ use Rattle.std.specs.Prelude.{ℕ, Bool, true, false, List, [], ◌∷◌, Optio
 use Rattle.std.specs.Borrow.{Bor}
 use Rattle.go_term_core.specs.declared.term.Field.{Field}
 use Rattle.go_term_core.specs.Shapes.{Line, fields_in, line_at, line_shapes}
-use Rattle.go_face_core.specs.table_core.declared.entry.DefinedType.{DefinedType}
-use Rattle.go_face_core.specs.table_core.Entries.{has_method}
-use Rattle.go_face_core.specs.embed_core.Owners.{OwnerModel, nobody}
-use Rattle.go_face_core.specs.embed_core.OwnersShown.{entry_owner}
+use Rattle.go_table_core.specs.declared.entry.DefinedType.{DefinedType}
+use Rattle.go_table_core.specs.Entries.{has_method}
+use Rattle.go_select_core.specs.embed_core.Owners.{OwnerModel, nobody}
+use Rattle.go_select_core.specs.embed_core.OwnersShown.{entry_owner}
 use Rattle.go_env_core.specs.declared.fields.SeenFields.{SeenFields}
 use Rattle.go_env_core.specs.Scenes.{SceneModel}
 use Rattle.go_env_core.specs.Fields.{TheField, field_seen, fields_seen}

@@ -2,10 +2,10 @@
 use Rattle.std.specs.Prelude.{ℕ, false, List, [], ◌∷◌, ◌++◌, Option, Some, None}
 use Rattle.go_tree_nodes.specs.declared.exprs.Key.{Key}
 use Rattle.go_tree_nodes.specs.Trees.{ItemTrees, NoItems, Item}
-use Rattle.go_literal_core.specs.declared.things.KeyMark.{KeyMark}
-use Rattle.go_literal_core.specs.Look.{FieldOf}
-use Rattle.go_literal_core.specs.Marks.{made_mark}
-use Rattle.go_literal_core.specs.Repeats.{has_name}
+use Rattle.go_denote_core.specs.declared.composite.things.KeyMark.{KeyMark}
+use Rattle.go_denote_core.specs.composite.Look.{FieldOf}
+use Rattle.go_denote_core.specs.composite.Marks.{made_mark}
+use Rattle.go_denote_core.specs.composite.Repeats.{has_name}
 use Rattle.go_expr_core.specs.Elements.{key_names, all_keys}
 
 -- that of an element without a key

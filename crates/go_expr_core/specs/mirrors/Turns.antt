@@ -2,12 +2,12 @@
 use Rattle.std.specs.Prelude.{ℕ, Bool, List, [], ◌∷◌, ◌++◌, Option, Some, None}
 use Rattle.go_tree_nodes.specs.declared.exprs.Key.{Key}
 use Rattle.go_tree_nodes.specs.Trees.{ExprTree}
-use Rattle.go_literal_core.specs.tree_core.declared.occurrence.Role.TheVariants as roles
-use Rattle.go_literal_core.specs.denote_core.declared.things.Stand.TheVariants as stands
-use Rattle.go_literal_core.specs.declared.things.Mode.{Mode}
-use Rattle.go_literal_core.specs.Literals.{element_target}
-use Rattle.go_literal_core.specs.declared.things.KeyMark.{KeyMark}
-use Rattle.go_literal_core.specs.Marks.{marked_answer}
+use Rattle.go_tree_core.specs.declared.occurrence.Role.TheVariants as roles
+use Rattle.go_denote_core.specs.declared.things.Stand.TheVariants as stands
+use Rattle.go_denote_core.specs.declared.composite.things.Mode.{Mode}
+use Rattle.go_denote_core.specs.composite.Literals.{element_target}
+use Rattle.go_denote_core.specs.declared.composite.things.KeyMark.{KeyMark}
+use Rattle.go_denote_core.specs.composite.Marks.{marked_answer}
 use Rattle.go_expr_core.specs.declared.things.Use.{Use}
 use Rattle.go_local_core.specs.declared.Fault.{Fault}
 use Rattle.go_expr_core.specs.Looks.{Looks, literals_at}

@@ -1,7 +1,7 @@
 -- What may be wrong with the package clause of a file.
 use Rattle.std.specs.Prelude.{◌≡◌, ◌⊎◌, Bool, not, List, Option, Some, None, get_or}
 use Rattle.std.specs.List.{position}
-use Rattle.go_path_core.specs.text_core.declared.rule.Rule.{Rule}
+use Rattle.go_collections_core.specs.text_core.declared.rule.Rule.{Rule}
 use Rattle.go_tree_nodes.specs.declared.names.Ident.{Ident}
 use Rattle.go_graph_core.specs.declared.assembly.ClauseFlaw.{ClauseFlaw}
 use Rattle.go_graph_core.specs.declared.assembly.ClauseFlaw.TheVariants.{Missing, Named, NotNamed}

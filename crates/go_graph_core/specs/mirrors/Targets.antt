@@ -2,9 +2,9 @@
 use Rattle.std.specs.Prelude.{◌≡◌, ℕ, ◌⊎◌, Bool, true, false, suc, List, [], ◌∷◌, ◌++◌, Option, Some, None, slice_get, Contains}
 use Rattle.std.specs.List.{AllZip, flat_map}
 use Rattle.std.specs.declared.vec.Vec.{Vec}
-use Rattle.go_path_core.specs.text_core.declared.rule.Rule.TheVariants.{I4}
-use Rattle.go_reach_core.specs.cycle_core.declared.edge.Edge.{Edge}
-use Rattle.go_reach_core.specs.cycle_core.Cycle.{IsOnCycle, IsRanking}
+use Rattle.go_collections_core.specs.text_core.declared.rule.Rule.TheVariants.{I4}
+use Rattle.go_digraph_core.specs.declared.cycle.edge.Edge.{Edge}
+use Rattle.go_digraph_core.specs.cycle.Cycle.{IsOnCycle, IsRanking}
 use Rattle.go_graph_core.specs.declared.imports.ImportOutcome.{ImportOutcome}
 use Rattle.go_graph_core.specs.declared.imports.ImportOutcome.TheVariants.{Package, Refused}
 use Rattle.go_graph_core.specs.declared.imports.Standing.{Standing}

@@ -2,22 +2,22 @@
 use Rattle.std.proofs.Common.{◌≡◌, true, List, [], ◌∷◌, ◌++◌, map, Option, Some, None, ℕ, refl, sym, ap, ◌∙◌}
 use Rattle.std.specs.Prelude.{if◌then◌else◌}
 use Rattle.std.proofs.lemmas.List.{map-append}
-use Rattle.go_text_core.specs.declared.span.Span.{Span}
-use Rattle.go_token_core.specs.declared.kind.Operator.TheVariants as operator
+use Rattle.go_tree_nodes.specs.text_core.declared.span.Span.{Span}
+use Rattle.go_tree_nodes.specs.token_core.declared.kind.Operator.TheVariants as operator
 use Rattle.go_tree_nodes.specs.declared.types.TypeName.{TypeName}
 use Rattle.go_tree_nodes.specs.declared.types.TypeName.TheVariants as type_name
 use Rattle.go_tree_nodes.specs.Terminals.{Terminal}
 use Rattle.go_tree_nodes.specs.Trees.{Separated, One, Then, TypeTree, FieldTrees, MethodTrees, SignatureTree, ResultTree, ParamTrees, NamedType, Pointer, ParenType, Struct, Interface, NoFields, NamedFields, EmbeddedField, NoMethods, Method, Signed, NoResult, OneResult, Results, NoParams, Param, ExprTree, ItemTrees, Integer, Text, Named, Paren, Unary, Binary, Select, Call, Literal, StructLiteral, NoItems, Item, ValueSpecTree, SimpleTree, Alone, Step, Assign, Update, Define}
 use Rattle.go_tree_nodes.specs.Spelling.{spell_idents, spell_some, spell_type_name, spell_tag, spell_names, spell_type, spell_fields, spell_methods, spell_signature, spell_result, spell_params, spell_key, spell, spell_items, spell_exprs, spell_some_type, spell_values, spell_value_spec, spell_simple, spell_some_exprs, spell_receiver}
 use Rattle.go_tree_nodes.specs.WrittenTypes.{expr_types, items_types, exprs_types, some_exprs_types, params_types, result_types, signature_types, some_type, values_types, spec_types, simple_types}
-use Rattle.go_embed_core.specs.decl_core.declared.keys.DeclKey.{DeclKey}
-use Rattle.go_embed_core.specs.decl_core.declared.places.DeclKind.TheVariants as kinds
+use Rattle.go_term_core.specs.decl_core.declared.keys.DeclKey.{DeclKey}
+use Rattle.go_term_core.specs.decl_core.declared.places.DeclKind.TheVariants as kinds
 use Rattle.go_term_core.specs.Terms.{NoType, PointerTo, StructOf, InterfaceOf, AField, AMethod, SignOf, ATerm, NoTerm}
-use Rattle.go_embed_core.specs.settle_core.declared.kind.Kind.{Kind}
-use Rattle.go_embed_core.specs.settle_core.Settled.{settled}
+use Rattle.go_term_core.specs.declared.settling.kind.Kind.{Kind}
+use Rattle.go_term_core.specs.settling.Settled.{settled}
 use Rattle.go_embed_core.specs.Faults.{term_faults}
-use Rattle.go_entry_core.specs.written_core.Written.{InFile, Meaning, member_place, term_starred, tag_of, named_fields, for_names, term_of, fields_of_tree, methods_of_tree, signature_of, results_of_tree, params_of_tree}
-use Rattle.go_embed_core.specs.decl_core.Outer.{last_ident}
+use Rattle.go_typexpr_core.specs.written.Written.{InFile, Meaning, member_place, term_starred, tag_of, named_fields, for_names, term_of, fields_of_tree, methods_of_tree, signature_of, results_of_tree, params_of_tree}
+use Rattle.go_term_core.specs.decl_core.Outer.{last_ident}
 use Rattle.go_names_core.specs.local_core.Steps.{Piece, Header, Spec, Act, Condition, Given, spell_piece}
 use Rattle.go_names_core.specs.local_core.Binding.{NameLook}
 use Rattle.go_names_core.specs.local_core.Alike.{Alike, LookAtNames}

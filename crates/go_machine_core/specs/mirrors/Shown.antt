@@ -1,7 +1,7 @@
 -- How the values of a run stand for the machine.
 use Rattle.std.specs.Prelude.{ℕ, ◌+◌, ◌-◌, min, ◌^◌, List, [], map, Option, Some, None, slice_get, ℤ, string_bytes}
-use Rattle.go_instruction_core.specs.declared.instruction.Instruction.{Instruction}
-use Rattle.go_instruction_core.specs.declared.instruction.Instruction.TheVariants as instructions
+use Rattle.go_object_core.specs.declared.instructions.instruction.Instruction.{Instruction}
+use Rattle.go_object_core.specs.declared.instructions.instruction.Instruction.TheVariants as instructions
 use Rattle.go_machine_core.specs.declared.linked.Linked.{Linked}
 use Rattle.go_machine_core.specs.declared.words.Operation.{Operation}
 use Rattle.go_machine_core.specs.declared.words.Operation.TheVariants as operations

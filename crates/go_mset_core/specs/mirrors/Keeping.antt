@@ -2,7 +2,7 @@
 use Rattle.std.specs.Prelude.{Bool, true, false, not, ◌||◌, List, [], ◌∷◌, if◌then◌else◌}
 use Rattle.go_select_core.specs.embed_core.Owners.{Found, AFieldOf, AMethodOf, AnInterfaces, TheErrorMethod}
 use Rattle.go_select_core.specs.embed_core.OwnersShown.{found_shown}
-use Rattle.go_select_core.specs.level_core.declared.search.Selected.{Selected}
+use Rattle.go_select_core.specs.declared.levels.search.Selected.{Selected}
 use Rattle.go_mset_core.specs.declared.methods.SetMethod.{SetMethod}
 
 abbrev pub callable : Found → Bool → Bool

@@ -1,14 +1,14 @@
 -- The faults of names that are declared, by what each of them is in its block.
 use Rattle.std.specs.Prelude.{◌≡◌, ℕ, map, Bool, true, false, not, List, [], ◌∷◌, ◌++◌, if◌then◌else◌}
-use Rattle.go_tree_nodes.specs.text_core.declared.rule.Rule.TheVariants.{B1}
+use Rattle.go_scope_core.specs.text_core.declared.rule.Rule.TheVariants.{B1}
 use Rattle.go_tree_nodes.specs.declared.names.Ident.{Ident}
-use Rattle.go_walk_core.specs.open_core.Blocks.{any_new, short_names, is_short_new}
-use Rattle.go_walk_core.specs.open_core.declared.short.ShortName.{ShortName}
-use Rattle.go_walk_core.specs.open_core.declared.short.ShortName.TheVariants.{New, Old, Blank, Repeated}
-use Rattle.go_walk_core.specs.local_core.declared.Fault.{Fault}
-use Rattle.go_walk_core.specs.local_core.Faults.{ident_fault, none_new_fault, spellings}
+use Rattle.go_local_core.specs.scope_stack.Blocks.{any_new, short_names, is_short_new}
+use Rattle.go_local_core.specs.scope_stack.declared.short.ShortName.{ShortName}
+use Rattle.go_local_core.specs.scope_stack.declared.short.ShortName.TheVariants.{New, Old, Blank, Repeated}
+use Rattle.go_local_core.specs.declared.Fault.{Fault}
+use Rattle.go_local_core.specs.Faults.{ident_fault, none_new_fault, spellings}
 use Rattle.go_names_core.specs.declared.declaring.NewNames.{NewNames}
-use Rattle.go_walk_core.specs.local_core.Steps.{Newness, EachFirst, OneNew}
+use Rattle.go_local_core.specs.Steps.{Newness, EachFirst, OneNew}
 
 -- names before `:=`, or others
 abbrev pub manner_of : Bool → Newness

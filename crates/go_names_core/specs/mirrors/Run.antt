@@ -1,9 +1,9 @@
 -- What is noted on the way through steps with the blocks of a scope, where locals have numbers in a list of what they mean.
 use Rattle.std.specs.Prelude.{List, [], ◌++◌}
-use Rattle.go_walk_core.specs.local_core.declared.Fault.{Fault}
-use Rattle.go_walk_core.specs.local_core.Faults.{name_faults}
-use Rattle.go_walk_core.specs.local_core.Steps.{Steps, Done, Check, Declare, Inner}
-use Rattle.go_walk_core.specs.local_core.Law.{Rules}
+use Rattle.go_local_core.specs.declared.Fault.{Fault}
+use Rattle.go_local_core.specs.Faults.{name_faults}
+use Rattle.go_local_core.specs.Steps.{Steps, Done, Check, Declare, Inner}
+use Rattle.go_local_core.specs.Law.{Rules}
 use Rattle.go_names_core.specs.declared.meaning.Outside.{Outside}
 use Rattle.go_names_core.specs.Body.{each_means}
 use Rattle.go_names_core.specs.Scenes.{NameScene, name_scene, look_at, entered, news_at, locals_declared}

@@ -2,7 +2,7 @@
 use Rattle.std.proofs.Common.{◌≡◌, ℕ, List, [], ◌++◌, refl, sym, ap, ◌∙◌}
 use Rattle.std.proofs.lemmas.List.{append_assoc, append-nil}
 use Rattle.go_scope_core.specs.Models.{ScopesModel, scopes_model}
-use Rattle.go_walk_core.specs.local_core.Steps.{Steps, Done, Inner}
+use Rattle.go_local_core.specs.Steps.{Steps, Done, Inner}
 use Rattle.go_names_core.specs.declared.meaning.Outside.{Outside}
 use Rattle.go_names_core.specs.Scenes.{NameScene, name_scene, entered}
 use Rattle.go_names_core.specs.mirrors.Run.{Noted, noted, also, Ran, ran, before, run}

@@ -1,10 +1,10 @@
 -- States of a walk: the rules, the open names, what is noted so far, and whether memory was wanting.
 use Rattle.std.specs.Prelude.{◌≡◌, ℕ, Bool, false, List, [], ◌∷◌, ◌++◌}
-use Rattle.go_walk_core.specs.open_core.declared.DeclId.{DeclId}
+use Rattle.go_local_core.specs.scope_stack.declared.DeclId.{DeclId}
 use Rattle.go_scope_core.specs.Models.{ScopesModel}
-use Rattle.go_walk_core.specs.local_core.declared.Fault.{Fault}
-use Rattle.go_walk_core.specs.local_core.Steps.{Steps}
-use Rattle.go_walk_core.specs.local_core.Law.{Rules}
+use Rattle.go_local_core.specs.declared.Fault.{Fault}
+use Rattle.go_local_core.specs.Steps.{Steps}
+use Rattle.go_local_core.specs.Law.{Rules}
 use Rattle.go_names_core.specs.declared.meaning.Outside.{Outside}
 use Rattle.go_names_core.specs.Scenes.{NameScene, name_scene, entered}
 use Rattle.go_names_core.specs.mirrors.Run.{Noted, noted, before, run}

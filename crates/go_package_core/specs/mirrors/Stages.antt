@@ -1,9 +1,9 @@
 -- What is known of a package between the steps of its check.
 use Rattle.std.specs.Prelude.{◌≡◌, List, map}
-use Rattle.go_ready_core.specs.table_core.Entries.{Entry}
-use Rattle.go_ready_core.specs.declared.ready.Ready.{Ready}
-use Rattle.go_ready_core.specs.Inlines.{AreFunctionsIn, initial_in}
-use Rattle.go_ready_core.specs.Packages.{PackageIn, scene_in}
+use Rattle.go_type_core.specs.table_core.Entries.{Entry}
+use Rattle.go_package_core.specs.declared.prepare.ready.Ready.{Ready}
+use Rattle.go_package_core.specs.prepare.Inlines.{AreFunctionsIn, initial_in}
+use Rattle.go_package_core.specs.prepare.Packages.{PackageIn, scene_in}
 
 -- what is made of it before its files are checked
 pub record IsReady (p : PackageIn) (types : List Entry) (r : Ready) : Type 0 where

@@ -1,8 +1,8 @@
 -- Reading imports, functions and files.
 use Rattle.std.specs.Prelude.{ℕ, zero, suc, Bool, true, false, ◌||◌, List, [], ◌∷◌, length, Option, Some, None, Result, Ok, Err, is_some}
-use Rattle.go_scan_core.specs.text_core.declared.span.Span.{Span}
-use Rattle.go_scan_core.specs.token_core.declared.kind.Keyword.TheVariants as keyword
-use Rattle.go_scan_core.specs.token_core.declared.kind.Operator.TheVariants as operator
+use Rattle.go_tree_nodes.specs.text_core.declared.span.Span.{Span}
+use Rattle.go_tree_nodes.specs.token_core.declared.kind.Keyword.TheVariants as keyword
+use Rattle.go_tree_nodes.specs.token_core.declared.kind.Operator.TheVariants as operator
 use Rattle.go_tree_nodes.specs.declared.names.Ident.{Ident}
 use Rattle.go_tree_nodes.specs.declared.names.TextLiteral.{TextLiteral}
 use Rattle.go_tree_nodes.specs.declared.types.TypeName.{TypeName}
@@ -12,9 +12,9 @@ use Rattle.go_tree_nodes.specs.declared.files.ImportName.TheVariants as import_n
 use Rattle.go_tree_nodes.specs.declared.files.Receiver.{Receiver}
 use Rattle.go_tree_nodes.specs.Terminals.{Terminal}
 use Rattle.go_tree_nodes.specs.Trees.{SignatureTree, FuncTree, DeclTree, Value, Types, Func, TopTree, ImportSpecTree, ImportTree, FileTree}
-use Rattle.go_parse_stmts.specs.parse_types.mirrors.Marks.{Stuck, Grammar, ◌>>=◌, Reading, MarkAhead, need, mark_at, keyword_at, name_at, text_at, some_mark}
-use Rattle.go_parse_stmts.specs.parse_types.mirrors.TypeReading.{type_name_at, type_at, signature_at}
-use Rattle.go_parse_stmts.specs.mirrors.StmtReading.{specs_at, value_at, value_word, types_at, Braced, braced, block_at}
+use Rattle.go_parse_reader.specs.types.mirrors.Marks.{Stuck, Grammar, ◌>>=◌, Reading, MarkAhead, need, mark_at, keyword_at, name_at, text_at, some_mark}
+use Rattle.go_parse_reader.specs.types.mirrors.TypeReading.{type_name_at, type_at, signature_at}
+use Rattle.go_parse_core.specs.stmts.mirrors.StmtReading.{specs_at, value_at, value_word, types_at, Braced, braced, block_at}
 
 -- imports
 

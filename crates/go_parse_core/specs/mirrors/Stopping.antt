@@ -1,10 +1,10 @@
 -- The fault for which the parser stops.
 use Rattle.std.specs.Prelude.{◌≡◌, ◌≤◌, ℕ}
-use Rattle.go_scan_core.specs.text_core.declared.rule.Rule.TheVariants.{P1, P2}
+use Rattle.go_tree_nodes.specs.text_core.declared.rule.Rule.TheVariants.{P1, P2}
 use Rattle.go_parse_core.specs.declared.error.ParseError.{ParseError}
 use Rattle.go_parse_core.specs.declared.error.ParseError.TheVariants as errors
-use Rattle.go_parse_stmts.specs.parse_types.declared.stop.Stop.{Stop}
-use Rattle.go_parse_stmts.specs.parse_types.declared.stop.Stop.TheVariants as stop
+use Rattle.go_parse_reader.specs.declared.types.stop.Stop.{Stop}
+use Rattle.go_parse_reader.specs.declared.types.stop.Stop.TheVariants as stop
 
 -- the fault for which the parser stops; its place lies in a text of that length
 abbrev pub IsErrorOf : ParseError → Stop → ℕ → Type 0

@@ -2,10 +2,10 @@
 use Rattle.std.specs.Prelude.{◌≡◌, ◌<◌, ◌^◌, ℕ, Some, length, map, slice_get}
 use Rattle.std.specs.List.{HoldsAt}
 use Rattle.go_tree_nodes.specs.Rules.{Wf_file}
-use Rattle.go_tree_core.specs.Occurrences.{CoversAt, Follow, file_occs}
-use Rattle.go_hint_core.specs.expr_core.Laws.{occurrence_place, use_place}
-use Rattle.go_hint_core.specs.ready_core.Packages.{trees_in}
-use Rattle.go_hint_core.specs.snap_core.Snapshots.{FoundFile}
+use Rattle.go_parse_core.specs.tree_core.Occurrences.{CoversAt, Follow, file_occs}
+use Rattle.go_expr_core.specs.Laws.{occurrence_place, use_place}
+use Rattle.go_complete_core.specs.package_core.PreparePackages.{trees_in}
+use Rattle.go_complete_core.specs.snap_core.Snapshots.{FoundFile}
 
 -- the file is one of its package and of the grammar, its occurrences follow one another, and what its part has stands where they stand
 pub record HasSpots (f : FoundFile) : Type 0 where

@@ -1,8 +1,8 @@
 -- References that are added to others.
 use Rattle.std.specs.Prelude.{◌≡◌, ◌↔◌, ℕ, List, ◌++◌, Option, Some, None, AllPairs, Contains, slice_get}
-use Rattle.go_snap_core.specs.handle_core.Declarations.{Declaration}
-use Rattle.go_snap_core.specs.part_core.Parts.{FileOf, PartModel}
-use Rattle.go_snap_core.specs.used_core.Used.{FileUse}
+use Rattle.go_handle_core.specs.Declarations.{Declaration}
+use Rattle.go_query_core.specs.package_core.PackagePartParts.{FileOf, PartModel}
+use Rattle.go_query_core.specs.report_core.UsageUsed.{FileUse}
 use Rattle.go_reference_core.specs.declared.reference.Reference.{Reference}
 use Rattle.go_reference_core.specs.References.{HasDeclaration, IsBefore}
 

@@ -1,11 +1,11 @@
 -- What the core keeps beside its state: the plan of what is published, and what of the last snapshot is as it was in the batch that runs.
 use Rattle.std.specs.Prelude.{◌≡◌, ℕ, Bool, true, false, List, Option, Some, None, ⊤, slice_set}
-use Rattle.go_batch_core.specs.graph_core.Workspaces.{PackageModel}
-use Rattle.go_batch_core.specs.part_core.Parts.{PartModel}
-use Rattle.go_batch_core.specs.snap_core.Snapshots.{SnapshotModel}
+use Rattle.go_graph_core.specs.Workspaces.{PackageModel}
+use Rattle.go_submit_core.specs.package_core.PackagePartParts.{PartModel}
+use Rattle.go_submit_core.specs.snap_core.Snapshots.{SnapshotModel}
 use Rattle.go_submit_core.specs.Published.{last_of, sources_of}
 use Rattle.go_submit_core.specs.declared.published.PublishedBatch.{PublishedBatch}
-use Rattle.go_batch_core.specs.whole_core.Inputs.{Tells}
+use Rattle.go_submit_core.specs.snap_core.WholeWorkspaceInputs.{Tells}
 use Rattle.go_batch_core.specs.Batches.{Awaits, BatchModel}
 use Rattle.go_batch_core.specs.Planning.{IsPlanned}
 use Rattle.go_batch_core.specs.Steadiness.{AreAgain, BeginsSteady, IsSteady, SteadyModel, WasAt, steady_with}

@@ -1,8 +1,8 @@
 -- What is known of a change that was prepared.
 use Rattle.std.specs.Prelude.{◌≡◌, ◌≢◌, ℕ, ◌+◌, ◌<◌, ◌^◌, Bool, true, List, [], ◌∷◌, ◌++◌, length, Option, Some, None}
-use Rattle.go_batch_core.specs.part_core.Inputs.{path_in}
-use Rattle.go_batch_core.specs.part_core.Parts.{PartModel}
-use Rattle.go_batch_core.specs.snap_core.Snapshots.{IsSnapshot, SnapshotModel}
+use Rattle.go_submit_core.specs.package_core.PackagePartInputs.{path_in}
+use Rattle.go_submit_core.specs.package_core.PackagePartParts.{PartModel}
+use Rattle.go_submit_core.specs.snap_core.Snapshots.{IsSnapshot, SnapshotModel}
 use Rattle.go_submit_core.specs.Published.{IsEarlierPart, batch_of}
 use Rattle.go_submit_core.specs.Submitted.{submission_with}
 use Rattle.go_submit_core.specs.Trees.{TreeModel}

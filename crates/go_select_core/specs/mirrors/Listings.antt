@@ -3,19 +3,19 @@ use Rattle.std.specs.Prelude.{◌≡◌, ◌<◌, ℕ, Bool, true, false, not, �
 use Rattle.std.specs.List.Sorted.{IsStrictlySortedBy}
 use Rattle.std.specs.Map.{keys_of}
 use Rattle.std.specs.Str.{bytes_eq, chars}
-use Rattle.go_text_core.specs.Text.{exported, SameId, is_blank}
-use Rattle.go_text_core.specs.declared.name.Name.{Name}
+use Rattle.go_path_core.specs.text_core.Text.{exported, SameId, is_blank}
+use Rattle.go_path_core.specs.text_core.declared.name.Name.{Name}
 use Rattle.go_term_core.specs.Terms.{Term}
-use Rattle.go_level_core.specs.table_core.Entries.{EntryLook}
-use Rattle.go_level_core.specs.embed_core.declared.member.Member.{Member}
-use Rattle.go_level_core.specs.embed_core.Owners.{Found, AFieldOf, AMethodOf, AnInterfaces, TheErrorMethod}
-use Rattle.go_level_core.specs.embed_core.OwnersShown.{found_shown, name_shown, member_package_shown}
-use Rattle.go_level_core.specs.declared.level.Reached.{Reached}
+use Rattle.go_embed_core.specs.table_core.Entries.{EntryLook}
+use Rattle.go_embed_core.specs.declared.member.Member.{Member}
+use Rattle.go_embed_core.specs.Owners.{Found, AFieldOf, AMethodOf, AnInterfaces, TheErrorMethod}
+use Rattle.go_embed_core.specs.OwnersShown.{found_shown, name_shown, member_package_shown}
+use Rattle.go_select_core.specs.declared.levels.level.Reached.{Reached}
 use Rattle.go_select_core.specs.declared.names.Known.{Known}
 use Rattle.go_select_core.specs.declared.names.Known.TheVariants.{One, More}
-use Rattle.go_level_core.specs.declared.search.Selected.{Selected}
-use Rattle.go_level_core.specs.Paths.{IsSelected}
-use Rattle.go_level_core.specs.Selectors.{IsFieldFound, IsSelectedAs}
+use Rattle.go_select_core.specs.declared.levels.search.Selected.{Selected}
+use Rattle.go_select_core.specs.levels.Paths.{IsSelected}
+use Rattle.go_select_core.specs.levels.Selectors.{IsFieldFound, IsSelectedAs}
 use Rattle.go_select_core.specs.Selections.{IsSelectedBefore}
 use Rattle.go_select_core.specs.mirrors.Names.{Identifier, Key, names_shown, known_of, key_cmp}
 

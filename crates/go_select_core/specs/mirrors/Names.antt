@@ -6,19 +6,19 @@ use Rattle.std.specs.Ordering.{nat_cmp, ordering_then}
 use Rattle.std.specs.Cmp.Lexicographic.{slice_cmp}
 use Rattle.std.specs.Map.{lookup}
 use Rattle.std.specs.Str.{bytes_eq, chars}
-use Rattle.go_text_core.specs.Text.{exported}
+use Rattle.go_path_core.specs.text_core.Text.{exported}
 use Rattle.go_term_core.specs.Terms.{Term}
-use Rattle.go_level_core.specs.table_core.Entries.{EntryLook}
-use Rattle.go_level_core.specs.embed_core.declared.member.Member.{Member}
-use Rattle.go_level_core.specs.embed_core.Owners.{Found}
-use Rattle.go_level_core.specs.embed_core.OwnersShown.{found_shown, name_shown, member_package_shown}
-use Rattle.go_level_core.specs.declared.level.Reached.{Reached}
+use Rattle.go_embed_core.specs.table_core.Entries.{EntryLook}
+use Rattle.go_embed_core.specs.declared.member.Member.{Member}
+use Rattle.go_embed_core.specs.Owners.{Found}
+use Rattle.go_embed_core.specs.OwnersShown.{found_shown, name_shown, member_package_shown}
+use Rattle.go_select_core.specs.declared.levels.level.Reached.{Reached}
 use Rattle.go_select_core.specs.declared.names.Known.{Known}
 use Rattle.go_select_core.specs.declared.names.Known.TheVariants.{One, More}
 use Rattle.go_select_core.specs.declared.names.Names as declared_names
-use Rattle.go_level_core.specs.Paths.{IsSelected}
-use Rattle.go_level_core.specs.mirrors.Ways.{At}
-use Rattle.go_level_core.specs.mirrors.Levels.{IsNone, IsOnly, IsClash}
+use Rattle.go_select_core.specs.levels.Paths.{IsSelected}
+use Rattle.go_select_core.specs.levels.mirrors.Ways.{At}
+use Rattle.go_select_core.specs.levels.mirrors.Levels.{IsNone, IsOnly, IsClash}
 
 -- an identifier: a name, with the path of the package where it is written unless it is exported
 abbrev pub Identifier : Type 0

@@ -1,14 +1,14 @@
 -- The faults of a workspace as lists, package by package and file by file.
 use Rattle.std.specs.Prelude.{◌≡◌, ◌↔◌, ◌<◌, ℕ, suc, List, [], ◌∷◌, ◌++◌, map, Option, Some, None, Result, Ok, Err, AllPairs, Contains}
-use Rattle.go_text_core.specs.declared.rule.Rule.{Rule}
+use Rattle.go_path_core.specs.text_core.declared.rule.Rule.{Rule}
 use Rattle.go_tree_nodes.specs.Trees.{FileTree}
-use Rattle.go_make_core.specs.parse_core.declared.error.SynFault.{SynFault}
-use Rattle.go_make_core.specs.graph_core.declared.assembly.KFault.{KFault}
-use Rattle.go_make_core.specs.graph_core.Packages.{IsAssembly}
-use Rattle.go_make_core.specs.graph_core.Sources.{SourceModel}
-use Rattle.go_make_core.specs.graph_core.Workspaces.{PackageModel}
-use Rattle.go_local_core.specs.declared.Fault.{Fault}
-use Rattle.go_make_core.specs.part_core.Parts.{ContentOf, FileOf}
+use Rattle.go_graph_core.specs.parse_core.declared.error.SynFault.{SynFault}
+use Rattle.go_graph_core.specs.declared.assembly.KFault.{KFault}
+use Rattle.go_graph_core.specs.Packages.{IsAssembly}
+use Rattle.go_graph_core.specs.Sources.{SourceModel}
+use Rattle.go_graph_core.specs.Workspaces.{PackageModel}
+use Rattle.go_names_core.specs.local_core.declared.Fault.{Fault}
+use Rattle.go_emit_core.specs.package_core.PackagePartParts.{ContentOf, FileOf}
 use Rattle.go_snap_core.specs.declared.fault.PlacedFault.{PlacedFault}
 use Rattle.go_snap_core.specs.Faults.{IsPlacedBefore, IsWorkspaceFault}
 

@@ -1,8 +1,8 @@
 -- How entries are stored, so that a model may hold one.
 use Rattle.std.specs.Prelude.{refl, ℕ, Bool, List}
 use Rattle.std.specs.Coded.{Coded, code_by, coded×, coded_list, coded_ℕ, coded_bool}
-use Rattle.go_settle_core.specs.decl_core.declared.keys.DeclKey.{DeclKey}
-use Rattle.go_settle_core.specs.decl_core.contracts.keys.DeclKey as decl_key
+use Rattle.go_term_core.specs.decl_core.declared.keys.DeclKey.{DeclKey}
+use Rattle.go_term_core.specs.decl_core.contracts.keys.DeclKey as decl_key
 use Rattle.go_term_core.specs.declared.term.MemberPlace.{MemberPlace}
 use Rattle.go_term_core.specs.contracts.term.MemberPlace as member_place
 use Rattle.go_term_core.specs.Terms.{Term, Sign}

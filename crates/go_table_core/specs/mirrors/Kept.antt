@@ -1,7 +1,7 @@
 -- What a defined type keeps beside what is seen of it, and a type with an index.
 use Rattle.std.specs.Prelude.{◌≡◌, Bool, Option, None, IfSome, map}
-use Rattle.go_index_core.specs.declared.spellings.Spellings.{Spellings}
-use Rattle.go_index_core.specs.Spelled.{AreSpelled, places_of}
+use Rattle.go_collections_core.specs.declared.spelling_index.spellings.Spellings.{Spellings}
+use Rattle.go_collections_core.specs.spelling_index.Spelled.{AreSpelled, places_of}
 use Rattle.go_term_core.specs.Terms.{Term}
 use Rattle.go_table_core.specs.Entries.{Entry}
 use Rattle.go_table_core.specs.MemberNames.{term_names}

@@ -1,7 +1,7 @@
 -- Fields that stand in order of their places, and are found by an index of their names.
 use Rattle.std.specs.Prelude.{◌≡◌, ℕ, zero, suc, Bool, true, false, ◌&&◌, List, Option, Some, None}
-use Rattle.go_index_core.specs.declared.spellings.Spelling.{Spelling}
-use Rattle.go_index_core.specs.Spelled.{AreSpelled, places_of}
+use Rattle.go_collections_core.specs.declared.spelling_index.spellings.Spelling.{Spelling}
+use Rattle.go_collections_core.specs.spelling_index.Spelled.{AreSpelled, places_of}
 use Rattle.go_term_core.specs.declared.term.MemberPlace.{MemberPlace}
 use Rattle.go_term_core.specs.Terms.{Fields, NoField, AField}
 use Rattle.go_table_core.specs.declared.fields.FieldPlaces.{FieldPlaces}

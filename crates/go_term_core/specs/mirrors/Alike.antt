@@ -1,6 +1,6 @@
 -- A method of an interface type that is the same as a method of another.
 use Rattle.std.specs.Prelude.{◌≡◌, ℕ, Bool, false, List, []}
-use Rattle.go_decl_core.specs.text_core.Text.{SameId}
+use Rattle.go_tree_nodes.specs.text_core.Text.{SameId}
 use Rattle.go_term_core.specs.declared.term.MemberPlace.{MemberPlace}
 use Rattle.go_term_core.specs.Terms.{NoType, Methods, Sign}
 use Rattle.go_term_core.specs.Shapes.{Line}

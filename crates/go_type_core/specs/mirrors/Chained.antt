@@ -1,10 +1,10 @@
 -- Chains of types that are defined by one another, by their numbers.
 use Rattle.std.specs.Prelude.{◌≡◌, ◌↔◌, ℕ, Bool, true, false, ◌||◌, List, Option, Some, None, length, slice_get, slice_index_or}
-use Rattle.go_table_core.specs.decl_core.declared.keys.DeclKey.{DeclKey}
-use Rattle.go_chain_core.specs.Chains.{AreEnds}
-use Rattle.go_table_core.specs.settle_core.declared.kind.Kind.{Kind}
-use Rattle.go_table_core.specs.settle_core.declared.kind.Kind.TheVariants as kinds
-use Rattle.go_table_core.specs.settle_core.Settled.{kind_of_term, settled}
+use Rattle.go_term_core.specs.decl_core.declared.keys.DeclKey.{DeclKey}
+use Rattle.go_digraph_core.specs.chain.Chains.{AreEnds}
+use Rattle.go_term_core.specs.declared.settling.kind.Kind.{Kind}
+use Rattle.go_term_core.specs.declared.settling.kind.Kind.TheVariants as kinds
+use Rattle.go_term_core.specs.settling.Settled.{kind_of_term, settled}
 use Rattle.go_term_core.specs.Terms.{Term, NoType, Predeclared, ErrorType, Defined, PointerTo, StructOf, InterfaceOf, is_no_type}
 use Rattle.go_table_core.specs.Entries.{Entry, EntryLook, term_in}
 use Rattle.go_type_core.specs.Built.{base, IsNoTypeHere}

@@ -1,8 +1,8 @@
 -- The uses of types by one another as edges between their numbers.
 use Rattle.std.specs.Prelude.{◌≡◌, ◌↔◌, ◌⊎◌, ℕ, suc, ◌<◌, Bool, true, false, List, [], ◌∷◌, ◌++◌, Option, Some, None, length, slice_get, slice_index_or, slice_set, Contains, if◌then◌else◌}
-use Rattle.go_table_core.specs.decl_core.declared.keys.DeclKey.{DeclKey}
-use Rattle.go_cycle_core.specs.declared.edge.Edge.{Edge}
-use Rattle.go_cycle_core.specs.Cycle.{IsOnCycle}
+use Rattle.go_term_core.specs.decl_core.declared.keys.DeclKey.{DeclKey}
+use Rattle.go_digraph_core.specs.declared.cycle.edge.Edge.{Edge}
+use Rattle.go_digraph_core.specs.cycle.Cycle.{IsOnCycle}
 use Rattle.go_table_core.specs.Entries.{Entry}
 use Rattle.go_type_core.specs.Built.{direct_keys}
 use Rattle.go_type_core.specs.mirrors.Numbers.{keys_of, number_of}

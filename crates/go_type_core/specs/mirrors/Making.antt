@@ -5,11 +5,11 @@ use Rattle.std.specs.Global.{Global}
 use Rattle.std.specs.declared.sync.Arc.{Arc}
 use Rattle.go_term_core.specs.text_core.Text.{is_blank}
 use Rattle.go_term_core.specs.text_core.declared.rule.Rule.TheVariants as rules
-use Rattle.go_table_core.specs.decl_core.declared.keys.DeclKey.{DeclKey}
-use Rattle.go_table_core.specs.decl_core.declared.keys.DeclRef.{DeclRef}
-use Rattle.go_table_core.specs.decl_core.declared.places.DeclKind.TheVariants as decl_kinds
-use Rattle.go_table_core.specs.settle_core.declared.kind.Kind.{Kind}
-use Rattle.go_table_core.specs.settle_core.Settled.{kind_of_term, is_among_names}
+use Rattle.go_term_core.specs.decl_core.declared.keys.DeclKey.{DeclKey}
+use Rattle.go_term_core.specs.decl_core.declared.keys.DeclRef.{DeclRef}
+use Rattle.go_term_core.specs.decl_core.declared.places.DeclKind.TheVariants as decl_kinds
+use Rattle.go_term_core.specs.declared.settling.kind.Kind.{Kind}
+use Rattle.go_term_core.specs.settling.Settled.{kind_of_term, is_among_names}
 use Rattle.go_term_core.specs.Terms.{Term, NoType}
 use Rattle.go_table_core.specs.Entries.{Entry, EntryLook, Member, find_entry}
 use Rattle.go_table_core.specs.Methods.{has_field_before}

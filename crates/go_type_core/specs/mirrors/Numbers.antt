@@ -1,10 +1,10 @@
 -- The numbers of a package's types, and lists that are made item by item.
 use Rattle.std.specs.Prelude.{◌≡◌, ℕ, suc, ◌<◌, true, List, [], ◌∷◌, Option, Some, None, option_map, map, length, slice_get, slice_index_or, if◌then◌else◌}
-use Rattle.go_table_core.specs.decl_core.declared.keys.DeclKey.{DeclKey}
-use Rattle.go_table_core.specs.decl_core.declared.keys.DeclRef.{DeclRef}
+use Rattle.go_term_core.specs.decl_core.declared.keys.DeclKey.{DeclKey}
+use Rattle.go_term_core.specs.decl_core.declared.keys.DeclRef.{DeclRef}
 use Rattle.go_term_core.specs.Terms.{Term}
 use Rattle.go_table_core.specs.Entries.{Entry, same_key, term_in}
-use Rattle.go_table_core.specs.decl_core.Order.{is_ref_before}
+use Rattle.go_term_core.specs.decl_core.Order.{is_ref_before}
 
 -- the keys of entries
 abbrev pub keys_of : List Entry → List DeclKey

@@ -1,26 +1,26 @@
 -- What names that denote something name where a type is written.
 use Rattle.std.specs.Prelude.{◌≡◌, ℕ, Bool, true, false, List, Option, Some, None}
-use Rattle.go_text_core.specs.declared.rule.Rule.{Rule}
-use Rattle.go_text_core.specs.declared.rule.Rule.TheVariants.{N1, N6}
+use Rattle.go_path_core.specs.text_core.declared.rule.Rule.{Rule}
+use Rattle.go_path_core.specs.text_core.declared.rule.Rule.TheVariants.{N1, N6}
 use Rattle.go_tree_nodes.specs.declared.usage.Usage.TheVariants as usages
 use Rattle.go_universe_core.specs.declared.Predeclared.{Predeclared}
-use Rattle.go_decl_core.specs.declared.keys.DeclRef.{DeclRef}
-use Rattle.go_decl_core.specs.declared.places.DeclKind.{DeclKind}
-use Rattle.go_decl_core.specs.declared.places.DeclKind.TheVariants as kinds
-use Rattle.go_query_core.specs.scope_core.Scopes.{Denoted, Universe, Package, File, Local}
+use Rattle.go_term_core.specs.decl_core.declared.keys.DeclRef.{DeclRef}
+use Rattle.go_term_core.specs.decl_core.declared.places.DeclKind.{DeclKind}
+use Rattle.go_term_core.specs.decl_core.declared.places.DeclKind.TheVariants as kinds
+use Rattle.go_names_core.specs.scope_core.Scopes.{Denoted, Universe, Package, File, Local}
 use Rattle.go_term_core.specs.Terms.{Term}
-use Rattle.go_member_core.specs.denote_core.declared.things.Denoted.TheVariants as denotes
-use Rattle.go_member_core.specs.denote_core.declared.things.Stand.TheVariants as stands
-use Rattle.go_member_core.specs.denote_core.Answers.{found_answer}
-use Rattle.go_member_core.specs.denote_core.Selectors.{exported_answer}
-use Rattle.go_query_core.specs.face_core.declared.face.Face.TheVariants as faces
-use Rattle.go_query_core.specs.face_core.declared.shown.ShownFace.{ShownFace}
-use Rattle.go_query_core.specs.face_core.Faces.{TheFace}
-use Rattle.go_member_core.specs.handle_core.Declarations.{Declaration}
-use Rattle.go_query_core.specs.face_core.Written.{WrittenOf, position_of}
-use Rattle.go_query_core.specs.env_core.Found.{exported_face, exported_shown, face_at, found_type, found_universe, own_face}
-use Rattle.go_query_core.specs.part_core.Inputs.{path_in}
-use Rattle.go_query_core.specs.part_core.Parts.{PartModel, seen_by}
+use Rattle.go_expr_core.specs.denote_core.declared.things.Denoted.TheVariants as denotes
+use Rattle.go_expr_core.specs.denote_core.declared.things.Stand.TheVariants as stands
+use Rattle.go_expr_core.specs.denote_core.Answers.{found_answer}
+use Rattle.go_expr_core.specs.denote_core.Selectors.{exported_answer}
+use Rattle.go_summary_core.specs.declared_core.declared.face.Face.TheVariants as faces
+use Rattle.go_summary_core.specs.declared_core.declared.shown.ShownFace.{ShownFace}
+use Rattle.go_summary_core.specs.declared_core.Faces.{TheFace}
+use Rattle.go_summary_core.specs.handle_core.Declarations.{Declaration}
+use Rattle.go_summary_core.specs.declared_core.Written.{WrittenOf, position_of}
+use Rattle.go_package_core.specs.env_core.Found.{exported_face, exported_shown, face_at, found_type, found_universe, own_face}
+use Rattle.go_package_core.specs.package_part.Inputs.{path_in}
+use Rattle.go_package_core.specs.package_part.Parts.{PartModel, seen_by}
 use Rattle.go_type_doc_core.specs.Naming.{fresh_stand, types_seen}
 use Rattle.go_type_doc_core.specs.Names.{BreaksRule, NamesType, TheAnswer}
 

@@ -2,12 +2,12 @@
 use Rattle.std.specs.Prelude.{◌≡◌, ◌⊎◌, ℕ, List, [], ◌∷◌, Some, map, slice_get}
 use Rattle.std.specs.Borrow.{Bor}
 use Rattle.go_doc_core.specs.DocComments.{IsDocComment}
-use Rattle.go_decl_core.specs.Shown.{decl_shown}
-use Rattle.go_decl_core.specs.TopDecls.{TopDeclTree}
-use Rattle.go_decl_core.specs.declared.anchoring.Anchor.{Anchor}
-use Rattle.go_query_core.specs.symbol_core.mirrors.Docs.{AreDocsOf, DocsOf, HasNumber}
-use Rattle.go_query_core.specs.part_core.Parts.{PartModel}
-use Rattle.go_query_core.specs.snap_core.Snapshots.{IsPartAt, SnapshotModel}
+use Rattle.go_term_core.specs.decl_core.Shown.{decl_shown}
+use Rattle.go_term_core.specs.decl_core.TopDecls.{TopDeclTree}
+use Rattle.go_term_core.specs.decl_core.declared.anchoring.Anchor.{Anchor}
+use Rattle.go_doc_core.specs.symbol.mirrors.Docs.{AreDocsOf, DocsOf, HasNumber}
+use Rattle.go_package_core.specs.package_part.Parts.{PartModel}
+use Rattle.go_snap_core.specs.Snapshots.{IsPartAt, SnapshotModel}
 use Rattle.go_type_doc_core.specs.declared.reading.FileDocs.{FileDocs}
 
 abbrev pub read_shown : FileDocs → DocsOf

@@ -1,15 +1,15 @@
 -- What parts of the answer are.
 use Rattle.std.specs.Prelude.{◌⊎◌, ℕ, List, Option, option_map}
-use Rattle.go_text_core.specs.declared.rule.Rule.{Rule}
-use Rattle.go_decl_core.specs.declared.keys.DeclRef.{DeclRef}
-use Rattle.go_query_core.specs.graph_core.declared.imports.ImportOutcome.TheVariants.{Refused}
-use Rattle.go_query_core.specs.list_core.Importing.{IsJudgedAt}
+use Rattle.go_path_core.specs.text_core.declared.rule.Rule.{Rule}
+use Rattle.go_term_core.specs.decl_core.declared.keys.DeclRef.{DeclRef}
+use Rattle.go_graph_core.specs.declared.imports.ImportOutcome.TheVariants.{Refused}
+use Rattle.go_import_core.specs.list.Importing.{IsJudgedAt}
 use Rattle.go_term_core.specs.Terms.{Term}
-use Rattle.go_query_core.specs.part_core.Inputs.{path_in}
-use Rattle.go_query_core.specs.part_core.Parts.{PartModel}
-use Rattle.go_query_core.specs.snap_core.Snapshots.{SnapshotModel}
-use Rattle.go_member_core.specs.declared.listing.MethodPlace.{MethodPlace}
-use Rattle.go_member_core.specs.Members.{place_shown}
+use Rattle.go_package_core.specs.package_part.Inputs.{path_in}
+use Rattle.go_package_core.specs.package_part.Parts.{PartModel}
+use Rattle.go_snap_core.specs.Snapshots.{SnapshotModel}
+use Rattle.go_type_doc_core.specs.declared.members.listing.MethodPlace.{MethodPlace}
+use Rattle.go_type_doc_core.specs.members.Members.{place_shown}
 use Rattle.go_query_core.specs.Documenting.{IsImportedPart}
 use Rattle.go_type_doc_core.specs.Naming.{IsOtherRefusal, IsOtherType, IsOwnType}
 use Rattle.go_type_doc_core.specs.TypeDocs.{IsDocOfType, TypeDocOf}

@@ -1,19 +1,19 @@
 -- What one name of a specification stands for, by its own expression alone.
 use Rattle.std.specs.Prelude.{ℕ, Bool, true, false, List, [], ◌∷◌, ◌==◌, length, nat_lt, slice_index_or, Option, Some, None, if◌then◌else◌}
-use Rattle.go_text_core.specs.declared.span.Span.{Span}
+use Rattle.go_constant_core.specs.text_core.declared.span.Span.{Span}
 use Rattle.go_tree_nodes.specs.declared.decls.ValueKind.{ValueKind}
 use Rattle.go_tree_nodes.specs.declared.decls.ValueKind.TheVariants as kinds
 use Rattle.go_tree_nodes.specs.Trees.{Separated, One, Then, ExprTree, ValueSpecTree}
-use Rattle.go_env_core.specs.operand_core.declared.types.Operand.{Operand}
-use Rattle.go_env_core.specs.operand_core.TypeRules.{TypeRules}
-use Rattle.go_env_core.specs.denote_core.declared.things.Stand.TheVariants as stands
-use Rattle.go_env_core.specs.denote_core.declared.things.Argument.{Argument}
-use Rattle.go_env_core.specs.denote_core.declared.things.Argument.TheVariants as arguments
-use Rattle.go_env_core.specs.denote_core.Arguments.{argument_of, arguments_of}
-use Rattle.go_env_core.specs.statement_core.Declarations.{given_type, initial_argument}
-use Rattle.go_env_core.specs.expr_core.Looks.{Looks, look_of_place}
-use Rattle.go_env_core.specs.expr_core.Places.{start}
-use Rattle.go_env_core.specs.expr_core.Denoting.{denoted}
+use Rattle.go_stmt_core.specs.operand_core.declared.types.Operand.{Operand}
+use Rattle.go_stmt_core.specs.operand_core.TypeRules.{TypeRules}
+use Rattle.go_stmt_core.specs.denote_core.declared.things.Stand.TheVariants as stands
+use Rattle.go_stmt_core.specs.denote_core.declared.things.Argument.{Argument}
+use Rattle.go_stmt_core.specs.denote_core.declared.things.Argument.TheVariants as arguments
+use Rattle.go_stmt_core.specs.denote_core.Arguments.{argument_of, arguments_of}
+use Rattle.go_stmt_core.specs.statement.Declarations.{given_type, initial_argument}
+use Rattle.go_stmt_core.specs.expr_core.Looks.{Looks, look_of_place}
+use Rattle.go_stmt_core.specs.expr_core.Places.{start}
+use Rattle.go_stmt_core.specs.expr_core.Denoting.{denoted}
 use Rattle.go_value_core.specs.Initial.{spec_name_count, some_written_type, variable, constant_value, expr_of}
 
 -- the i-th of n values: refused where there are not as many

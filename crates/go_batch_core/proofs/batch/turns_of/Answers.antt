@@ -1,8 +1,8 @@
 use Rattle.std.proofs.Common.{ℕ, Vec, Global, length, map, sym, ap, subst, ◌∙◌}
 use Rattle.std.specs.Arc.{arc_value}
 use Rattle.std.proofs.lemmas.List.{length-map}
-use Rattle.go_snap_core.specs.graph_core.Plans.{AreImporters}
-use Rattle.go_turn_core.specs.Turns.{TurnsModel}
+use Rattle.go_block_core.specs.graph_core.Plans.{AreImporters}
+use Rattle.go_digraph_core.specs.ready_queue.Turns.{TurnsModel}
 use Rattle.go_batch_core.specs.mirrors.Keeping.{mark_of}
 use Rattle.go_batch_core.proofs.Beginning.{fresh_marks, nodes_of}
 use Rattle.go_batch_core.proofs.batch.turns_of.Goals as goal

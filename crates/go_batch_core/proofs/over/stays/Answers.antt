@@ -1,6 +1,6 @@
 use Rattle.std.proofs.Common.{◌≡◌, ◌+◌, Bool, List, length, sym, ap, ◌∙◌, subst}
 use Rattle.std.proofs.lemmas.List.{length_push}
-use Rattle.go_snap_core.specs.graph_core.Workspaces.{PackageModel}
+use Rattle.go_block_core.specs.graph_core.Workspaces.{PackageModel}
 use Rattle.go_batch_core.specs.Steadiness.{AreSameAt}
 use Rattle.go_batch_core.specs.mirrors.Rows.{Stays}
 use Rattle.go_batch_core.proofs.Samely.{marks_push, stays_same}

@@ -1,6 +1,6 @@
 use Rattle.std.proofs.Common.{List, Option, subst}
-use Rattle.go_snap_core.specs.graph_core.Workspaces.{IsWorkspace}
-use Rattle.go_snap_core.specs.part_core.Parts.{PartModel}
+use Rattle.go_block_core.specs.graph_core.Workspaces.{IsWorkspace}
+use Rattle.go_package_core.specs.package_part.Parts.{PartModel}
 use Rattle.go_batch_core.specs.Steadiness.{WasAt}
 use Rattle.go_batch_core.proofs.Slots.{if_some_of}
 use Rattle.go_batch_core.proofs.Steadied.{read_in}

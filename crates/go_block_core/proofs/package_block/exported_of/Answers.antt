@@ -3,7 +3,7 @@ use Rattle.std.specs.Prelude.{string_bytes}
 use Rattle.std.specs.Global.{Global}
 use Rattle.std.specs.Str.{chars}
 use Rattle.std.proofs.lemmas.List.{drop_all}
-use Rattle.go_open_core.specs.text_core.Text.{exported}
+use Rattle.go_tree_nodes.specs.text_core.Text.{exported}
 use Rattle.go_block_core.specs.Exports.{name_and_decl, exported_names}
 use Rattle.go_block_core.specs.declared.exports.NamedDecl.{NamedDecl}
 use Rattle.go_block_core.proofs.TableLemmas.{all_listed, entry_of, exported_kept, exported_left_out, left_at}

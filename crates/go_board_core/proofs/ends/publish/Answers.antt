@@ -1,6 +1,6 @@
 use Rattle.std.proofs.Common.{◌≡◌, List, [], ◌∷◌, ◌++◌, sym, ap, ◌∙◌, subst, fold, drop}
-use Rattle.go_draft_core.specs.submit_core.Published.{BeginsWith}
-use Rattle.go_draft_core.specs.submit_core.declared.published.PublishedBatch.{PublishedBatch}
+use Rattle.go_submit_core.specs.Published.{BeginsWith}
+use Rattle.go_submit_core.specs.declared.published.PublishedBatch.{PublishedBatch}
 use Rattle.go_board_core.proofs.Grows.{grows, fold-last}
 use Rattle.go_board_core.proofs.ends.publish.Goals as goal
 

@@ -1,5 +1,5 @@
 use Rattle.std.proofs.Common.{length, subst, sym}
-use Rattle.go_cycle_core.specs.Cycle.{InRange}
+use Rattle.go_digraph_core.specs.cycle.Cycle.{InRange}
 use Rattle.go_cause_core.proofs.resolving.add_circles.Goals as goal
 
 pub rank_and_order-requires : goal.rank_and_order-requires

@@ -1,5 +1,5 @@
 use Rattle.std.proofs.Common.{length}
-use Rattle.go_cycle_core.specs.Cycle.{InRange}
+use Rattle.go_digraph_core.specs.cycle.Cycle.{InRange}
 use Rattle.go_cause_core.proofs.resolving.add_links.Given as goal
 
 abbrev pub invariant-loop-number : goal.invariant-loop-number

@@ -1,5 +1,5 @@
 use Rattle.std.proofs.Common.{subst, sym}
-use Rattle.go_chain_core.specs.Chains.{AllInside}
+use Rattle.go_digraph_core.specs.chain.Chains.{AllInside}
 use Rattle.go_cause_core.proofs.resolving.ends_of.Goals as goal
 
 pub chain_ends-requires : goal.chain_ends-requires

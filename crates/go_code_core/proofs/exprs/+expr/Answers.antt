@@ -1,7 +1,7 @@
 use Rattle.std.proofs.Common.{◌++◌, ◌-◌, sym, ap, ◌∙◌}
 use Rattle.std.proofs.lemmas.Result.{on_ok_weaker}
 use Rattle.go_tree_nodes.specs.Shapes.{shape, shape_call}
-use Rattle.go_fragment_core.specs.Names.{frame_of}
+use Rattle.go_code_core.specs.fragments.Names.{frame_of}
 use Rattle.go_code_core.specs.Code.{binary_code, expr_code, receiver_code}
 use Rattle.go_code_core.specs.mirrors.Written.{applied}
 use Rattle.go_tree_nodes.proofs.ShapeLemmas.{call_form, literal_form, struct_form}

@@ -1,7 +1,7 @@
 use Rattle.std.proofs.Common.{◌++◌, ◌∙◌, ap, sym}
 use Rattle.std.proofs.lemmas.Result.{on_ok_weaker}
 use Rattle.go_code_core.specs.Code.{call_end}
-use Rattle.go_fragment_core.specs.Names.{frame_of}
+use Rattle.go_code_core.specs.fragments.Names.{frame_of}
 use Rattle.go_tree_nodes.specs.Shapes.{items_of}
 use Rattle.go_code_core.proofs.Loops.{called_function, called_method}
 use Rattle.go_code_core.proofs.exprs.end_call.Goals as goal

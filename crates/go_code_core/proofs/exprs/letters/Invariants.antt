@@ -1,7 +1,7 @@
 use Rattle.std.proofs.Common.{◌≡◌, ◌++◌, drop}
 use Rattle.go_tree_nodes.specs.Shapes.{items_of}
 use Rattle.go_code_core.specs.Code.{letters}
-use Rattle.go_fragment_core.specs.Names.{frame_of}
+use Rattle.go_code_core.specs.fragments.Names.{frame_of}
 use Rattle.go_code_core.proofs.exprs.letters.Given as goal
 
 abbrev pub invariant-loop-item : goal.invariant-loop-item

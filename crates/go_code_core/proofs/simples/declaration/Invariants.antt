@@ -1,7 +1,7 @@
 use Rattle.std.proofs.Common.{◌≡◌, ◌++◌, drop, map}
 use Rattle.go_tree_nodes.specs.Shapes.{shape_value_line}
 use Rattle.go_code_core.specs.Code.{value_lines_code}
-use Rattle.go_fragment_core.specs.Names.{frame_of}
+use Rattle.go_code_core.specs.fragments.Names.{frame_of}
 use Rattle.go_code_core.proofs.simples.declaration.Given as goal
 
 abbrev pub invariant-loop-at : goal.invariant-loop-at

@@ -1,8 +1,8 @@
 use Rattle.std.proofs.Common.{◌++◌, sym, ap}
 use Rattle.go_tree_nodes.specs.TypeShapes.{idents_from}
 use Rattle.go_code_core.specs.Code.{declared_code}
-use Rattle.go_fragment_core.specs.Names.{frame_of}
-use Rattle.go_fragment_core.proofs.Loops.{is_more}
+use Rattle.go_code_core.specs.fragments.Names.{frame_of}
+use Rattle.go_code_core.proofs.FragmentsLoops.{is_more}
 use Rattle.go_code_core.proofs.simples.store_declared.Goals as goal
 
 pub returns-in_default : goal.returns-in_default

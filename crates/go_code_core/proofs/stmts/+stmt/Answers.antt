@@ -2,7 +2,7 @@ use Rattle.std.proofs.Common.{◌++◌, ◌-◌, length, sym, ap, ◌∙◌}
 use Rattle.std.proofs.lemmas.Result.{on_ok_weaker}
 use Rattle.go_tree_nodes.specs.Shapes.{lines_of}
 use Rattle.go_code_core.specs.Code.{lines_code, stmt_code}
-use Rattle.go_fragment_core.specs.Names.{frame_of}
+use Rattle.go_code_core.specs.fragments.Names.{frame_of}
 use Rattle.go_code_core.specs.mirrors.Written.{else_code, exits_at}
 use Rattle.go_tree_nodes.proofs.ShapeLemmas.{block_form, else_form}
 use Rattle.go_code_core.proofs.Looping.{branch_made, loop_made, over_else}

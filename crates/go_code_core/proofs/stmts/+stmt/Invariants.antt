@@ -1,7 +1,7 @@
 use Rattle.std.proofs.Common.{◌≡◌, ◌++◌, drop, length}
 use Rattle.go_tree_nodes.specs.Shapes.{lines_of}
 use Rattle.go_code_core.specs.Code.{lines_code}
-use Rattle.go_fragment_core.specs.Names.{frame_of}
+use Rattle.go_code_core.specs.fragments.Names.{frame_of}
 use Rattle.go_code_core.specs.mirrors.Written.{exits_at}
 use Rattle.go_code_core.proofs.stmts.+stmt.Given as goal
 

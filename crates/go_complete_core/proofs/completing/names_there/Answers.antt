@@ -3,15 +3,15 @@ use Rattle.std.specs.Option.{option_map}
 use Rattle.std.proofs.lemmas.Result.{IfOk-weaker}
 use Rattle.go_tree_nodes.specs.Shapes.{file_of}
 use Rattle.go_tree_nodes.specs.declared.names.Ident.{Ident}
-use Rattle.go_fitting_core.specs.block_core.Blocks.{BlocksModel}
-use Rattle.go_fitting_core.specs.context_core.Alone.{HasLocals}
-use Rattle.go_fitting_core.specs.summary_core.Summaries.{SummaryModel}
-use Rattle.go_fitting_core.specs.summary_core.Views.{faces_told}
-use Rattle.go_place_core.specs.part_core.Inputs.{InputModel}
-use Rattle.go_place_core.specs.part_core.Parts.{ContentOf}
-use Rattle.go_place_core.specs.spot_core.Shown.{idents_shown, spot_shown}
-use Rattle.go_place_core.specs.spot_core.Spots.{spot_seen}
-use Rattle.go_place_core.specs.Completions.{texts_of}
+use Rattle.go_names_core.specs.block_core.Blocks.{BlocksModel}
+use Rattle.go_candidate_core.specs.context.Alone.{HasLocals}
+use Rattle.go_package_core.specs.summary_core.Summaries.{SummaryModel}
+use Rattle.go_package_core.specs.summary_core.Views.{faces_told}
+use Rattle.go_package_core.specs.package_part.Inputs.{InputModel}
+use Rattle.go_package_core.specs.package_part.Parts.{ContentOf}
+use Rattle.go_cursor_core.specs.Shown.{idents_shown, spot_shown}
+use Rattle.go_cursor_core.specs.Spots.{spot_seen}
+use Rattle.go_complete_core.specs.place.Completions.{texts_of}
 use Rattle.go_complete_core.specs.mirrors.Answering.{AreAnswered}
 use Rattle.go_complete_core.proofs.Answered.{completes}
 use Rattle.go_complete_core.proofs.completing.names_there.Goals as goal

@@ -1,7 +1,7 @@
 use Rattle.std.proofs.Common.{◌++◌, not, ◌&&◌, ◌||◌, ap, ◌∙◌}
 use Rattle.std.proofs.lemmas.Result.{on_ok_weaker}
-use Rattle.go_term_core.specs.text_core.Text.{is_blank}
-use Rattle.go_term_core.specs.text_core.declared.rule.Rule.TheVariants as rules
+use Rattle.go_collections_core.specs.text_core.Text.{is_blank}
+use Rattle.go_collections_core.specs.text_core.declared.rule.Rule.TheVariants as rules
 use Rattle.go_type_core.specs.table_core.Methods.{has_field_before}
 use Rattle.go_type_core.specs.table_core.Shown.{member_shown}
 use Rattle.go_embed_core.specs.Faults.{member_fault_if}

@@ -1,7 +1,7 @@
 use Rattle.std.proofs.Common.{◌++◌, not, ◌&&◌, ap, ◌∙◌}
 use Rattle.std.proofs.lemmas.Result.{on_ok_weaker}
-use Rattle.go_term_core.specs.text_core.Text.{is_blank}
-use Rattle.go_term_core.specs.text_core.declared.rule.Rule.TheVariants as rules
+use Rattle.go_collections_core.specs.text_core.Text.{is_blank}
+use Rattle.go_collections_core.specs.text_core.declared.rule.Rule.TheVariants as rules
 use Rattle.go_embed_core.specs.Faults.{member_fault_if}
 use Rattle.go_embed_core.proofs.Noting.{both_notes}
 use Rattle.go_embed_core.proofs.faults.check_field.Goals as goal

@@ -2,7 +2,7 @@ use Rattle.std.proofs.Common.{[], false, not, ◌&&◌, sym, ap, ◌∙◌}
 use Rattle.go_term_core.specs.Terms.{NoType}
 use Rattle.go_term_core.specs.Shapes.{Line, line_shape, line_with}
 use Rattle.go_term_core.proofs.SameLists.{found, missing}
-use Rattle.go_type_core.specs.settle_core.Settled.{can_be_embedded}
+use Rattle.go_term_core.specs.settling.Settled.{can_be_embedded}
 use Rattle.go_embed_core.proofs.faults.is_refused.Goals as goal
 
 pub returns-in-Some : goal.returns-in-Some

@@ -1,6 +1,6 @@
 use Rattle.std.proofs.Common.{not, ap, ◌∙◌}
 use Rattle.std.proofs.Math.Bool.{not-not}
-use Rattle.go_type_core.specs.settle_core.Settled.{is_among_names}
+use Rattle.go_term_core.specs.settling.Settled.{is_among_names}
 use Rattle.go_embed_core.proofs.faults.meet.Goals as goal
 
 pub returns-clause-before : goal.returns-clause-before

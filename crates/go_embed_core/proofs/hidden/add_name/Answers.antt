@@ -1,4 +1,4 @@
-use Rattle.go_type_core.specs.settle_core.Names.{put_among}
+use Rattle.go_term_core.proofs.SettlingNames.{put_among}
 use Rattle.go_embed_core.proofs.hidden.add_name.Goals as goal
 
 pub returns-in-Ok : goal.returns-in-Ok

@@ -1,5 +1,5 @@
 use Rattle.std.proofs.Common.{◌∙◌}
-use Rattle.go_type_core.specs.settle_core.Names.{any_named}
+use Rattle.go_term_core.proofs.SettlingNames.{any_named}
 use Rattle.go_embed_core.proofs.hidden.has_name.Goals as goal
 
 pub returns : goal.returns

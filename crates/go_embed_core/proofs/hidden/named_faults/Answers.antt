@@ -1,7 +1,7 @@
 use Rattle.std.proofs.Common.{map, refl, ap, ◌∙◌, ◌++◌}
-use Rattle.go_term_core.specs.text_core.declared.rule.Rule.TheVariants as rules
+use Rattle.go_collections_core.specs.text_core.declared.rule.Rule.TheVariants as rules
 use Rattle.go_term_core.specs.Shapes.{fields_in}
-use Rattle.go_type_core.specs.settle_core.Settled.{is_among_names}
+use Rattle.go_term_core.specs.settling.Settled.{is_among_names}
 use Rattle.go_embed_core.specs.Faults.{member_fault_if, named_faults}
 use Rattle.go_embed_core.proofs.Naming.{named_step}
 use Rattle.go_embed_core.proofs.Noting.{notes_end}

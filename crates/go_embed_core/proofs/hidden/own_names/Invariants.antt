@@ -1,5 +1,5 @@
 use Rattle.std.proofs.Common.{◌≡◌, ◌||◌, ℕ, List, drop, map}
-use Rattle.go_type_core.specs.settle_core.Settled.{is_among_names}
+use Rattle.go_term_core.specs.settling.Settled.{is_among_names}
 use Rattle.go_type_core.specs.table_core.Shown.{member_shown}
 use Rattle.go_embed_core.specs.Faults.{own_names}
 use Rattle.go_embed_core.proofs.hidden.own_names.Given as goal

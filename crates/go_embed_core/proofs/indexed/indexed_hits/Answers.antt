@@ -1,7 +1,7 @@
 use Rattle.std.proofs.Common.{map, ap, sym, subst, ◌∙◌}
 use Rattle.go_term_core.specs.Shapes.{line_shapes, shape}
 use Rattle.go_term_core.proofs.TermShapes.{shape_struct, shape_interface}
-use Rattle.go_index_core.specs.Spelled.{AreSpelled, places_of}
+use Rattle.go_collections_core.specs.spelling_index.Spelled.{AreSpelled, places_of}
 use Rattle.go_type_core.specs.table_core.MemberNames.{term_names}
 use Rattle.go_type_core.specs.table_core.Listing.{fields_are, methods_are}
 use Rattle.go_embed_core.specs.Owners.{term_found, nobody}

@@ -1,6 +1,6 @@
 use Rattle.std.proofs.Common.{◌∙◌}
 use Rattle.go_term_core.specs.Shapes.{sign_of}
-use Rattle.go_index_core.specs.Spelled.{places_of}
+use Rattle.go_collections_core.specs.spelling_index.Spelled.{places_of}
 use Rattle.go_embed_core.specs.declared.indexed.Place.TheVariants as places
 use Rattle.go_embed_core.specs.Owners.{AnInterfaces}
 use Rattle.go_embed_core.proofs.Placing.{placed}

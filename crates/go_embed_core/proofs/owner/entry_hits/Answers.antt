@@ -1,6 +1,6 @@
 use Rattle.std.proofs.Common.{ap, map, sym, subst, ◌∙◌}
-use Rattle.go_type_core.specs.decl_core.declared.keys.DeclKey.{DeclKey}
-use Rattle.go_index_core.specs.Spelled.{AreSpelled, places_of}
+use Rattle.go_term_core.specs.decl_core.declared.keys.DeclKey.{DeclKey}
+use Rattle.go_collections_core.specs.spelling_index.Spelled.{AreSpelled, places_of}
 use Rattle.go_type_core.specs.table_core.Shown.{member_shown}
 use Rattle.go_type_core.specs.table_core.Listing.{members_are}
 use Rattle.go_embed_core.specs.Owners.{declared_found}

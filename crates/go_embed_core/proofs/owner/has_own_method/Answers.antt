@@ -1,6 +1,6 @@
 use Rattle.std.proofs.Common.{◌&&◌, is_some, ap, map, ◌∙◌}
-use Rattle.go_type_core.specs.decl_core.declared.keys.DeclKey.{DeclKey}
-use Rattle.go_index_core.specs.Spelled.{places_of, spelled_in}
+use Rattle.go_term_core.specs.decl_core.declared.keys.DeclKey.{DeclKey}
+use Rattle.go_collections_core.specs.spelling_index.Spelled.{places_of, spelled_in}
 use Rattle.go_type_core.specs.table_core.Entries.{has_method, same_id}
 use Rattle.go_type_core.specs.table_core.Shown.{member_shown}
 use Rattle.go_embed_core.proofs.Placing.{had_named}

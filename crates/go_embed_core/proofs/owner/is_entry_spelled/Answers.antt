@@ -1,5 +1,5 @@
 use Rattle.std.proofs.Common.{ap, ◌∙◌}
-use Rattle.go_index_core.specs.Spelled.{places_of}
+use Rattle.go_collections_core.specs.spelling_index.Spelled.{places_of}
 use Rattle.go_embed_core.specs.Owners.{declared_found, is_spelled_in}
 use Rattle.go_embed_core.proofs.Counting.{methods_spelled}
 use Rattle.go_embed_core.proofs.Placing.{declared_named}

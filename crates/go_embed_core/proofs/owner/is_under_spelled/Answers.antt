@@ -1,5 +1,5 @@
 use Rattle.std.proofs.Common.{ap, ◌∙◌}
-use Rattle.go_index_core.specs.Spelled.{places_of}
+use Rattle.go_collections_core.specs.spelling_index.Spelled.{places_of}
 use Rattle.go_embed_core.specs.Owners.{term_found, is_spelled_in, nobody}
 use Rattle.go_embed_core.proofs.Placing.{term_named}
 use Rattle.go_embed_core.proofs.owner.is_under_spelled.Goals as goal

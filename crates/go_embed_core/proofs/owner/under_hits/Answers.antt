@@ -1,5 +1,5 @@
 use Rattle.std.proofs.Common.{ap, sym, subst, ◌∙◌}
-use Rattle.go_index_core.specs.Spelled.{AreSpelled, places_of}
+use Rattle.go_collections_core.specs.spelling_index.Spelled.{AreSpelled, places_of}
 use Rattle.go_type_core.specs.table_core.MemberNames.{term_names}
 use Rattle.go_embed_core.specs.Owners.{term_found, nobody}
 use Rattle.go_embed_core.specs.mirrors.Tallies.{tallies, tally_of}

@@ -2,7 +2,7 @@ use Rattle.std.proofs.Common.{◌≡◌, ◌++◌, drop, map}
 use Rattle.go_term_core.specs.decl_core.Shown.{decl_shown}
 use Rattle.go_object_core.specs.Objects.{function_shown}
 use Rattle.go_emit_core.specs.Emitted.{uses_before, functions_of}
-use Rattle.go_meaning_core.specs.lookup_core.mirrors.Naming.{file_looks}
+use Rattle.go_emit_core.specs.lookup.mirrors.Naming.{file_looks}
 use Rattle.go_emit_core.proofs.functions.add_functions.Given as goal
 
 abbrev pub invariant-loop-decl : goal.invariant-loop-decl

@@ -1,5 +1,5 @@
 use Rattle.std.proofs.Common.{◌≡◌, ◌++◌, drop, map}
-use Rattle.go_meaning_core.specs.block_core.Naming.{imported_in}
+use Rattle.go_declared_core.specs.block_core.Naming.{imported_in}
 use Rattle.go_emit_core.specs.Imports.{all_passing}
 use Rattle.go_emit_core.proofs.imports.passing_of.Given as goal
 

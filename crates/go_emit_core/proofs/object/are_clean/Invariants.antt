@@ -1,5 +1,5 @@
 use Rattle.std.proofs.Common.{◌≡◌, drop, map}
-use Rattle.go_meaning_core.specs.part_core.Parts.{file_shown}
+use Rattle.go_package_core.specs.package_part.Parts.{file_shown}
 use Rattle.go_emit_core.specs.Emitted.{are_clean}
 use Rattle.go_emit_core.proofs.object.are_clean.Given as goal
 

@@ -1,6 +1,6 @@
 use Rattle.std.proofs.Common.{map, sym, ap, ◌∙◌}
 use Rattle.go_object_core.specs.Objects.{object_shown}
-use Rattle.go_meaning_core.specs.part_core.Parts.{ContentOf, file_shown}
+use Rattle.go_package_core.specs.package_part.Parts.{ContentOf, file_shown}
 use Rattle.go_emit_core.specs.Emitted.{are_clean}
 use Rattle.go_emit_core.proofs.Tabled.{clean_object}
 use Rattle.go_emit_core.proofs.object.emit.Goals as goal

@@ -1,8 +1,8 @@
 use Rattle.std.proofs.Common.{◌++◌, map, sym, ap, ◌∙◌, append-nil}
-use Rattle.go_meaning_core.specs.entry_core.Outlines.{outline_shown}
+use Rattle.go_declared_core.specs.typexpr_core.EntryOutlines.{outline_shown}
 use Rattle.go_object_core.specs.Objects.{function_shown}
-use Rattle.go_meaning_core.specs.part_core.Parts.{file_shown}
-use Rattle.go_meaning_core.specs.mirrors.Naming.{code_scene_shown}
+use Rattle.go_package_core.specs.package_part.Parts.{file_shown}
+use Rattle.go_emit_core.specs.meaning.mirrors.Naming.{code_scene_shown}
 use Rattle.go_emit_core.proofs.Ending.{functions_end}
 use Rattle.go_emit_core.proofs.object.functions_of.Goals as goal
 

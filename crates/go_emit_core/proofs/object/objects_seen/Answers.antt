@@ -1,9 +1,9 @@
 use Rattle.std.proofs.Common.{List, ap, ◌∙◌}
-use Rattle.go_meaning_core.specs.summary_core.Summaries.{SummaryModel}
+use Rattle.go_package_core.specs.summary_core.Summaries.{SummaryModel}
 use Rattle.go_emit_core.specs.Emitted.{objects_over}
 use Rattle.go_emit_core.proofs.Tabled.{objects_told}
 use Rattle.go_emit_core.proofs.object.objects_seen.Goals as goal
-use Rattle.go_meaning_core.specs.part_core.Slots.{somes}
+use Rattle.go_package_core.specs.package_part.Slots.{somes}
 
 pub returns : goal.returns
 returns c =

@@ -1,13 +1,13 @@
 use Rattle.std.proofs.Common.{map, ap, ◌∙◌}
-use Rattle.go_meaning_core.specs.entry_core.Outlines.{outline_of, outline_shown}
-use Rattle.go_meaning_core.specs.summary_core.Summaries.{SummaryModel}
-use Rattle.go_meaning_core.specs.graph_core.Packages.{trees_of}
-use Rattle.go_meaning_core.specs.graph_core.Workspaces.{PackageModel}
-use Rattle.go_meaning_core.specs.part_core.Inputs.{InputModel}
-use Rattle.go_meaning_core.specs.part_core.Parts.{ContentOf, file_shown}
+use Rattle.go_declared_core.specs.typexpr_core.EntryOutlines.{outline_of, outline_shown}
+use Rattle.go_package_core.specs.summary_core.Summaries.{SummaryModel}
+use Rattle.go_declared_core.specs.graph_core.Packages.{trees_of}
+use Rattle.go_declared_core.specs.graph_core.Workspaces.{PackageModel}
+use Rattle.go_package_core.specs.package_part.Inputs.{InputModel}
+use Rattle.go_package_core.specs.package_part.Parts.{ContentOf, file_shown}
 use Rattle.go_object_core.specs.Objects.{object_shown}
 use Rattle.go_emit_core.specs.Imports.{all_passing}
-use Rattle.go_meaning_core.specs.mirrors.Naming.{code_scene_shown, scene_with}
+use Rattle.go_emit_core.specs.meaning.mirrors.Naming.{code_scene_shown, scene_with}
 use Rattle.go_emit_core.proofs.Outlined.{functions_made, object_made}
 use Rattle.go_emit_core.proofs.object.whole_object.Goals as goal
 

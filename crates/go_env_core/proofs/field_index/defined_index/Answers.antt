@@ -3,8 +3,8 @@ use Rattle.std.specs.Prelude.{IfSome}
 use Rattle.go_term_core.specs.Shapes.{shape, line_shapes, fields_in}
 use Rattle.go_term_core.specs.Terms.{StructOf}
 use Rattle.go_term_core.proofs.TermShapes.{shape_struct}
-use Rattle.go_index_core.specs.Spelled.{AreSpelled, places_of}
-use Rattle.go_face_core.specs.embed_core.OwnersShown.{entry_owner}
+use Rattle.go_collections_core.specs.spelling_index.Spelled.{AreSpelled, places_of}
+use Rattle.go_select_core.specs.embed_core.OwnersShown.{entry_owner}
 use Rattle.go_env_core.proofs.ByName.{struct_names}
 use Rattle.go_env_core.proofs.field_index.defined_index.Goals as goal
 

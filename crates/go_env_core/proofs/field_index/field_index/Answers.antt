@@ -2,7 +2,7 @@ use Rattle.std.proofs.Common.{◌≡◌, map, subst, arith, rules}
 use Rattle.std.specs.Prelude.{IfSome}
 use Rattle.go_term_core.specs.Shapes.{shape}
 use Rattle.go_term_core.specs.Terms.{Term}
-use Rattle.go_index_core.specs.Spelled.{AreSpelled, places_of}
+use Rattle.go_collections_core.specs.spelling_index.Spelled.{AreSpelled, places_of}
 use Rattle.go_env_core.specs.Scenes.{scene_shown}
 use Rattle.go_env_core.specs.Fields.{TheField, literals_in}
 use Rattle.go_env_core.proofs.field_index.field_index.Goals as goal

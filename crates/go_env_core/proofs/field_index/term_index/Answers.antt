@@ -1,11 +1,11 @@
 use Rattle.std.proofs.Common.{◌≡◌, map, ap, sym, subst, ◌∙◌}
 use Rattle.std.specs.Prelude.{IfSome, Some, option_map}
 use Rattle.go_term_core.specs.Shapes.{shape}
-use Rattle.go_index_core.specs.Spelled.{AreSpelled, places_of}
-use Rattle.go_face_core.specs.table_core.Entries.{find_entry}
-use Rattle.go_face_core.specs.table_core.Tables.{IsPlaceOf}
-use Rattle.go_face_core.specs.embed_core.Owners.{OwnerModel, owner_in}
-use Rattle.go_face_core.specs.embed_core.OwnersShown.{entry_owner}
+use Rattle.go_collections_core.specs.spelling_index.Spelled.{AreSpelled, places_of}
+use Rattle.go_table_core.specs.Entries.{find_entry}
+use Rattle.go_table_core.specs.Tables.{IsPlaceOf}
+use Rattle.go_select_core.specs.embed_core.Owners.{OwnerModel, owner_in}
+use Rattle.go_select_core.specs.embed_core.OwnersShown.{entry_owner}
 use Rattle.go_env_core.specs.Fields.{TheField, owner_seen}
 use Rattle.go_env_core.proofs.ByName.{found_owner}
 use Rattle.go_env_core.proofs.field_index.term_index.Goals as goal

@@ -1,7 +1,7 @@
 use Rattle.std.proofs.Common.{ap, ◌∙◌}
-use Rattle.go_face_core.specs.embed_core.OwnersShown.{entry_owner}
+use Rattle.go_select_core.specs.embed_core.OwnersShown.{entry_owner}
 use Rattle.go_env_core.specs.Fields.{term_seen}
-use Rattle.go_face_core.specs.embed_core.Owners.{nobody}
+use Rattle.go_select_core.specs.embed_core.Owners.{nobody}
 use Rattle.go_env_core.proofs.Seeing.{none_kept}
 use Rattle.go_env_core.proofs.fields.defined_fields.Goals as goal
 

@@ -1,7 +1,7 @@
 use Rattle.std.proofs.Common.{◌≡◌, List, map, ap, subst, ◌∙◌}
 use Rattle.std.specs.Prelude.{IfOk}
-use Rattle.go_index_core.specs.Spelled.{places_of}
-use Rattle.go_top_core.specs.literal_core.Marks.{field_number}
+use Rattle.go_collections_core.specs.spelling_index.Spelled.{places_of}
+use Rattle.go_expr_core.specs.denote_core.CompositeMarks.{field_number}
 use Rattle.go_env_core.specs.Scenes.{scene_shown}
 use Rattle.go_env_core.specs.Fields.{TheField, literals_in}
 use Rattle.go_env_core.proofs.ByName.{numbered_first}

@@ -1,5 +1,5 @@
 use Rattle.std.proofs.Common.{ap, ◌∙◌}
-use Rattle.go_top_core.specs.literal_core.Marks.{name_number_from}
+use Rattle.go_expr_core.specs.denote_core.CompositeMarks.{name_number_from}
 use Rattle.go_env_core.proofs.fields.searched_number.Goals as goal
 
 pub returns : goal.returns

@@ -1,6 +1,6 @@
 use Rattle.std.proofs.Common.{ap, ◌∙◌}
-use Rattle.go_literal_core.specs.denote_core.Look.{look_of}
-use Rattle.go_literal_core.specs.denote_core.Arguments as arguments
+use Rattle.go_denote_core.specs.Look.{look_of}
+use Rattle.go_denote_core.specs.Arguments as arguments
 use Rattle.go_expr_core.proofs.Steps.{called_as}
 use Rattle.go_expr_core.proofs.elements.answer_call.Goals as goal
 

@@ -1,6 +1,6 @@
 use Rattle.std.proofs.Common.{map, ap, ◌∙◌}
 use Rattle.go_tree_nodes.specs.Shapes.{items_of}
-use Rattle.go_literal_core.specs.Marks.{type_fields, key_marks}
+use Rattle.go_denote_core.specs.composite.Marks.{type_fields, key_marks}
 use Rattle.go_expr_core.specs.mirrors.Marked.{spread}
 use Rattle.go_expr_core.proofs.Marks.{literal_marks}
 use Rattle.go_expr_core.proofs.Steps.{keys_marked}

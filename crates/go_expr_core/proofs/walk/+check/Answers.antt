@@ -2,7 +2,7 @@ use Rattle.std.proofs.Common.{rules, ◌≡◌, ◌++◌, [], ◌∷◌, ◌<◌
 use Rattle.std.proofs.lemmas.List.{map-append}
 use Rattle.go_tree_nodes.specs.declared.exprs.«Item» as declared_item
 use Rattle.go_tree_nodes.specs.Shapes.{shape, items_of, shape_key}
-use Rattle.go_literal_core.specs.denote_core.declared.things.Stand.TheVariants as stands
+use Rattle.go_denote_core.specs.declared.things.Stand.TheVariants as stands
 use Rattle.go_expr_core.specs.Places.{start}
 use Rattle.go_expr_core.specs.Looks.{everywhere}
 use Rattle.go_tree_nodes.specs.TypeShapes.{shape_type}
@@ -10,8 +10,8 @@ use Rattle.go_expr_core.specs.Denoting.{named_type, written_type, denoted, denot
 use Rattle.go_expr_core.specs.TypeUses.{type_uses}
 use Rattle.go_expr_core.specs.Uses.{use_of, uses, spots, args_spots, args_uses, type_name_uses, elements_uses}
 use Rattle.go_expr_core.specs.Faults.{args_faults, member_faults, literal_faults}
-use Rattle.go_literal_core.specs.Literals.{literal_denotes}
-use Rattle.go_literal_core.specs.Marks.{type_fields}
+use Rattle.go_denote_core.specs.composite.Literals.{literal_denotes}
+use Rattle.go_denote_core.specs.composite.Marks.{type_fields}
 use Rattle.go_expr_core.proofs.Marks.{mark_there}
 use Rattle.go_expr_core.proofs.Steps.{element_noted, elements_noted, ok_adds, ok_both, ok_is, ok_any}
 use Rattle.go_expr_core.proofs.Arms.{answered_denoted, call_noted, call_denoted, call_has_uses, call_has_faults, literal_denoted, literal_has_uses, literal_has_faults, struct_denoted, struct_has_uses, struct_has_faults}

@@ -1,5 +1,5 @@
 use Rattle.std.proofs.Common.{refl, sym, ◌≡◌, ◌∙◌, ap, Err, []}
-use Rattle.go_path_core.specs.text_core.declared.rule.Rule.TheVariants.{K4}
+use Rattle.go_collections_core.specs.text_core.declared.rule.Rule.TheVariants.{K4}
 use Rattle.go_graph_core.specs.Sources.{source}
 use Rattle.go_graph_core.specs.mirrors.Clauses.{place_in}
 use Rattle.go_graph_core.specs.mirrors.Flaws.{has_flaw, is_flawed}

@@ -1,6 +1,6 @@
 use Rattle.std.proofs.Common.{◌∙◌, ◌++◌, sym, ap, List}
 use Rattle.std.proofs.lemmas.List.{take_all}
-use Rattle.go_reach_core.specs.cycle_core.declared.edge.Edge.{Edge}
+use Rattle.go_digraph_core.specs.declared.cycle.edge.Edge.{Edge}
 use Rattle.go_graph_core.specs.mirrors.Targets.{edges_from, package_edges}
 use Rattle.go_graph_core.proofs.PlanEdges.{edges_more}
 use Rattle.go_graph_core.proofs.planning.edges.Goals as goal

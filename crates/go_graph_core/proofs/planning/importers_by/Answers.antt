@@ -1,7 +1,7 @@
 use Rattle.std.proofs.Common.{◌≡◌, ◌∙◌, List, [], length, map, sym, subst}
-use Rattle.go_reach_core.specs.cycle_core.declared.edge.Edge.{Edge}
-use Rattle.go_reach_core.specs.cycle_core.Cycle.{InRange}
-use Rattle.go_reach_core.specs.Reach.{AreStarts}
+use Rattle.go_digraph_core.specs.declared.cycle.edge.Edge.{Edge}
+use Rattle.go_digraph_core.specs.cycle.Cycle.{InRange}
+use Rattle.go_digraph_core.specs.reach.Reach.{AreStarts}
 use Rattle.go_graph_core.specs.Plans.{AreImporters, outcomes_shown, plan_of}
 use Rattle.go_graph_core.specs.mirrors.Targets.{edges_from}
 use Rattle.go_graph_core.proofs.PlanReach.{are_importers, ok_weaker}

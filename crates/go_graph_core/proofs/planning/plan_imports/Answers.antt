@@ -1,7 +1,7 @@
 use Rattle.std.proofs.Common.{◌≡◌, ℕ, length, map, sym, subst}
 use Rattle.std.proofs.lemmas.List.{length-map}
 use Rattle.std.specs.Arc.{arc_value}
-use Rattle.go_reach_core.specs.cycle_core.Cycle.{InRange}
+use Rattle.go_digraph_core.specs.cycle.Cycle.{InRange}
 use Rattle.go_graph_core.specs.Plans.{PlanModel, IsOrderly, outcomes_shown, plan_of, plan_with}
 use Rattle.go_graph_core.proofs.PlanReach.{orderly, edges_range}
 use Rattle.go_graph_core.proofs.planning.plan_imports.Goals as goal

@@ -1,8 +1,8 @@
 use Rattle.std.proofs.Common.{◌≡◌, ◌<◌, ◌∙◌, All, List, ℕ, length, map, sym, subst}
 use Rattle.std.proofs.lemmas.List.{length-map}
-use Rattle.go_reach_core.specs.cycle_core.declared.edge.Edge.{Edge}
-use Rattle.go_reach_core.specs.cycle_core.Cycle.{InRange}
-use Rattle.go_reach_core.specs.Reach.{EndsStandBefore, AreReachSets}
+use Rattle.go_digraph_core.specs.declared.cycle.edge.Edge.{Edge}
+use Rattle.go_digraph_core.specs.cycle.Cycle.{InRange}
+use Rattle.go_digraph_core.specs.reach.Reach.{EndsStandBefore, AreReachSets}
 use Rattle.go_graph_core.specs.Plans.{AreReached, outcomes_shown, plan_of}
 use Rattle.go_graph_core.specs.mirrors.Targets.{edges_from}
 use Rattle.go_graph_core.proofs.PlanReach.{passing_range, passing_before, are_reached, ok_weaker}

@@ -1,5 +1,5 @@
 use Rattle.std.proofs.Common.{◌≡◌, ◌∙◌, sym, subst, refl, inl, inr, true, false}
-use Rattle.go_path_core.specs.text_core.declared.rule.Rule.TheVariants.{I4}
+use Rattle.go_collections_core.specs.text_core.declared.rule.Rule.TheVariants.{I4}
 use Rattle.go_graph_core.specs.declared.imports.ImportOutcome.{ImportOutcome}
 use Rattle.go_graph_core.specs.declared.imports.ImportOutcome.TheVariants.{Package, Refused}
 use Rattle.go_graph_core.specs.mirrors.Targets.{IsSettled}

@@ -1,8 +1,8 @@
 use Rattle.std.proofs.Common.{ap, ◌∙◌, sym}
 use Rattle.go_term_core.specs.Shapes.{shape}
 use Rattle.go_term_core.specs.Identity.{Identical, IdenticalButForTags}
-use Rattle.go_decide_core.specs.Identity.{identical_by, identical_of, identical_but_for_tags_of}
-use Rattle.go_decide_core.proofs.Alike.{identity_decided}
+use Rattle.go_handle_core.specs.deciding.Identity.{identical_by, identical_of, identical_but_for_tags_of}
+use Rattle.go_handle_core.proofs.DecidingAlike.{identity_decided}
 use Rattle.go_handle_core.proofs.Starred.{same_test}
 use Rattle.go_handle_core.proofs.identity.same_terms.Goals as goal
 

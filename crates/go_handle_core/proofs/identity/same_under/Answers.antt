@@ -1,8 +1,8 @@
 use Rattle.std.proofs.Common.{true, false, ap, ◌∙◌, sym}
 use Rattle.go_term_core.specs.Shapes.{shape}
-use Rattle.go_decide_core.specs.table_core.Underlying.{IdenticalUnder}
-use Rattle.go_decide_core.specs.Identity.{identical_under_of}
-use Rattle.go_decide_core.proofs.Alike.{identity_decided}
+use Rattle.go_table_core.specs.Underlying.{IdenticalUnder}
+use Rattle.go_handle_core.specs.deciding.Identity.{identical_under_of}
+use Rattle.go_handle_core.proofs.DecidingAlike.{identity_decided}
 use Rattle.go_handle_core.proofs.Starred.{same_test}
 use Rattle.go_handle_core.proofs.identity.same_under.Goals as goal
 

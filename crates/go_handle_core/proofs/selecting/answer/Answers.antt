@@ -1,8 +1,8 @@
 use Rattle.std.proofs.Common.{sym, ◌∙◌}
-use Rattle.go_text_core.specs.declared.rule.Rule.TheVariants.{S6}
+use Rattle.go_denote_core.specs.text_core.declared.rule.Rule.TheVariants.{S6}
 use Rattle.go_term_core.specs.Shapes.{shape}
-use Rattle.go_decide_core.specs.table_core.Entries.{find_entry}
-use Rattle.go_decide_core.specs.level_core.Answering.{answers_refused}
+use Rattle.go_table_core.specs.Entries.{find_entry}
+use Rattle.go_mset_core.specs.select_core.LevelsAnswering.{answers_refused}
 use Rattle.go_handle_core.proofs.Telling.{two_stars, no_member}
 use Rattle.go_handle_core.proofs.selecting.answer.Goals as goal
 

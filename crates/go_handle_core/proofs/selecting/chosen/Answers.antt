@@ -1,6 +1,6 @@
 use Rattle.std.proofs.Common.{◌≡◌, true, false, sym, ap, ◌∙◌, subst}
-use Rattle.go_decide_core.specs.table_core.Entries.{find_entry}
-use Rattle.go_decide_core.specs.level_core.Selectors.{IsSelectorAnswer}
+use Rattle.go_table_core.specs.Entries.{find_entry}
+use Rattle.go_mset_core.specs.select_core.LevelsSelectors.{IsSelectorAnswer}
 use Rattle.go_handle_core.specs.Names.{shown_choice}
 use Rattle.go_handle_core.proofs.Telling.{told_member, told_rule}
 use Rattle.go_handle_core.proofs.selecting.chosen.Goals as goal

@@ -1,7 +1,7 @@
 use Rattle.std.proofs.Common.{◌≡◌}
 use Rattle.std.proofs.lemmas.Result.{IfOk-weaker}
 use Rattle.go_tree_nodes.specs.Shapes.{func_of}
-use Rattle.go_entry_core.specs.written_core.Written.{in_file}
+use Rattle.go_typexpr_core.specs.written.Written.{in_file}
 use Rattle.go_names_core.specs.Scope.{beyond_in}
 use Rattle.go_inline_core.specs.Functions.{scoped_outside, AreInlines}
 use Rattle.go_inline_core.proofs.Found.{noted_inlines}

@@ -1,6 +1,6 @@
 use Rattle.std.proofs.Common.{◌≡◌, map}
 use Rattle.std.proofs.lemmas.Result.{IfOk-weaker}
-use Rattle.go_embed_core.specs.decl_core.Shown.{decl_shown}
+use Rattle.go_term_core.specs.decl_core.Shown.{decl_shown}
 use Rattle.go_inline_core.specs.Trees.{outline_types}
 use Rattle.go_inline_core.specs.Inline.{inlines}
 use Rattle.go_inline_core.specs.Functions.{kinds_in_ground, file_in, top_in}

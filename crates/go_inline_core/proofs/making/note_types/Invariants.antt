@@ -1,6 +1,6 @@
 use Rattle.std.proofs.Common.{◌≡◌, ◌++◌, map, take}
 use Rattle.go_tree_nodes.specs.TypeShapes.{shape_type}
-use Rattle.go_entry_core.specs.written_core.Written.{in_file}
+use Rattle.go_typexpr_core.specs.written.Written.{in_file}
 use Rattle.go_inline_core.specs.Inline.{inlines}
 use Rattle.go_inline_core.proofs.making.note_types.Given as goal
 

@@ -1,5 +1,5 @@
 use Rattle.std.proofs.Common.{◌++◌, ap, ◌∙◌}
-use Rattle.go_expr_core.specs.Looks.{everywhere}
+use Rattle.go_stmt_core.specs.expr_core.Looks.{everywhere}
 use Rattle.go_judge_core.specs.Breaking.{faults_of, uses_of}
 use Rattle.go_judge_core.proofs.Noted.{noted_there}
 use Rattle.go_judge_core.proofs.breaking.is_broken.Goals as goal

@@ -1,6 +1,6 @@
 use Rattle.std.proofs.Common.{ap, ◌∙◌}
-use Rattle.go_text_core.specs.declared.rule.Rule.{Rule}
-use Rattle.go_denote_core.specs.declared.things.Outcome.TheVariants as outcomes
+use Rattle.go_tree_nodes.specs.text_core.declared.rule.Rule.{Rule}
+use Rattle.go_stmt_core.specs.denote_core.declared.things.Outcome.TheVariants as outcomes
 use Rattle.go_judge_core.proofs.breaking.is_refused.Goals as goal
 
 pub returns-in-Refused : goal.returns-in-Refused

@@ -1,6 +1,6 @@
 use Rattle.std.proofs.Common.{◌≡◌, map, take}
 use Rattle.std.specs.Option.{option_map}
-use Rattle.go_func_core.specs.face_core.Faces.{face_shown}
+use Rattle.go_env_core.specs.declared_core.Faces.{face_shown}
 use Rattle.go_judge_core.proofs.checked.lend_all.Given as goal
 
 abbrev pub invariant-loop-face : goal.invariant-loop-face

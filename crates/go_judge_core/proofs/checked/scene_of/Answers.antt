@@ -1,5 +1,5 @@
 use Rattle.std.proofs.Common.{ap}
-use Rattle.go_snap_core.specs.part_core.Parts.{ContentOf}
+use Rattle.go_complete_core.specs.package_core.PackagePartParts.{ContentOf}
 use Rattle.go_judge_core.specs.Places.{scene_with}
 use Rattle.go_judge_core.proofs.checked.scene_of.Goals as goal
 

@@ -1,5 +1,5 @@
 use Rattle.std.proofs.Common.{map, ◌∙◌}
-use Rattle.go_decide_core.specs.Rules.{term_rules}
+use Rattle.go_env_core.specs.handle_core.DecidingRules.{term_rules}
 use Rattle.go_judge_core.specs.Misfits.{given_shown, wanted_shown}
 use Rattle.go_judge_core.proofs.Each.{misfit_alike}
 use Rattle.go_judge_core.proofs.fitting.misfit_among.Goals as goal

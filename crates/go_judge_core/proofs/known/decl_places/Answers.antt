@@ -1,6 +1,6 @@
 use Rattle.std.proofs.Common.{map, ap, ◌∙◌}
-use Rattle.go_snap_core.specs.entry_core.Outlines.{outline_shown}
-use Rattle.go_snap_core.specs.ready_core.Made.{all_outlines}
+use Rattle.go_typexpr_core.specs.entry.Outlines.{outline_shown}
+use Rattle.go_complete_core.specs.package_core.PrepareMade.{all_outlines}
 use Rattle.go_judge_core.proofs.known.decl_places.Goals as goal
 
 pub written_faces-requires : goal.written_faces-requires

@@ -2,9 +2,9 @@
 use Rattle.std.proofs.Common.{◌≡◌, List, sym, ap, ◌∙◌, subst, rules, to_z-of_z, w64}
 use Rattle.std.specs.Prelude.{IfOk}
 use mir.Val.{SFits}
-use Rattle.go_instruction_core.specs.declared.instruction.Instruction.{Instruction}
-use Rattle.go_instruction_core.specs.declared.instruction.Instruction.TheVariants as instructions
-use Rattle.go_instruction_core.specs.declared.letters.Word.{Word}
+use Rattle.go_object_core.specs.declared.instructions.instruction.Instruction.{Instruction}
+use Rattle.go_object_core.specs.declared.instructions.instruction.Instruction.TheVariants as instructions
+use Rattle.go_object_core.specs.declared.instructions.letters.Word.{Word}
 use Rattle.go_machine_core.specs.mirrors.Shown.{after, acted}
 use Rattle.go_machine_core.proofs.steps.apply.Goals as goal
 

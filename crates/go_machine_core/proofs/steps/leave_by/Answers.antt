@@ -1,6 +1,6 @@
 use Rattle.std.proofs.Common.{◌≡◌, sym, subst, Bool}
 use Rattle.std.specs.Prelude.{IfOk}
-use Rattle.go_instruction_core.specs.declared.instruction.Instruction.TheVariants as instructions
+use Rattle.go_object_core.specs.declared.instructions.instruction.Instruction.TheVariants as instructions
 use Rattle.go_machine_core.specs.mirrors.Shown.{after, acted}
 use Rattle.go_machine_core.proofs.steps.leave_by.Goals as goal
 

@@ -1,5 +1,5 @@
 use Rattle.std.proofs.Common.{◌≡◌, map, take}
-use Rattle.go_walk_core.specs.open_core.Blocks.{is_short_new}
+use Rattle.go_local_core.specs.scope_stack.Blocks.{is_short_new}
 use Rattle.go_names_core.proofs.declaring.news.Given as goal
 
 abbrev pub invariant-loop-short : goal.invariant-loop-short

@@ -1,4 +1,4 @@
-use Rattle.go_walk_core.specs.open_core.Blocks.{innermost}
+use Rattle.go_local_core.specs.scope_stack.Blocks.{innermost}
 use Rattle.go_names_core.proofs.ShortLemmas.{short_step}
 use Rattle.go_names_core.proofs.declaring.short_names.Goals as goal
 

@@ -1,6 +1,6 @@
 use Rattle.std.proofs.Common.{◌≡◌, [], map, take}
-use Rattle.go_walk_core.specs.open_core.Blocks.{innermost, short_names, list_names}
-use Rattle.go_walk_core.specs.local_core.Faults.{spellings}
+use Rattle.go_local_core.specs.scope_stack.Blocks.{innermost, short_names, list_names}
+use Rattle.go_local_core.specs.Faults.{spellings}
 use Rattle.go_names_core.proofs.declaring.short_names.Given as goal
 
 abbrev pub invariant-loop-ident : goal.invariant-loop-ident

@@ -1,6 +1,6 @@
 use Rattle.std.proofs.Common.{◌≡◌}
 use Rattle.go_tree_nodes.specs.Shapes.{func_of}
-use Rattle.go_walk_core.specs.local_core.Tables.{walked}
+use Rattle.go_local_core.specs.Tables.{walked}
 use Rattle.go_names_core.specs.Scope.{beyond_in}
 use Rattle.go_names_core.specs.mirrors.Run.{noted}
 use Rattle.go_names_core.specs.mirrors.States.{state}

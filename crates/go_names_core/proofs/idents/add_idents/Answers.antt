@@ -3,7 +3,7 @@ use Rattle.std.proofs.lemmas.List.{take_all}
 use Rattle.go_tree_nodes.specs.declared.names.Ident.{Ident}
 use Rattle.go_tree_nodes.specs.declared.names.NextIdent.{NextIdent}
 use Rattle.go_tree_nodes.specs.TypeShapes.{idents_from}
-use Rattle.go_walk_core.specs.local_core.Outline.{idents}
+use Rattle.go_local_core.specs.Outline.{idents}
 use Rattle.go_names_core.proofs.idents.add_idents.Goals as goal
 
 listed : (x : Ident) (ns : List NextIdent) → x ∷ map (λ n. n.ident) ns ≡ idents (idents_from x ns)

@@ -1,6 +1,6 @@
 use Rattle.std.proofs.Common.{◌≡◌, ◌++◌, map, drop}
 use Rattle.go_tree_nodes.specs.TypeShapes.{params_of}
-use Rattle.go_walk_core.specs.local_core.Outline.{param_idents}
+use Rattle.go_local_core.specs.Outline.{param_idents}
 use Rattle.go_names_core.proofs.idents.add_params.Given as goal
 
 abbrev pub invariant-loop-param : goal.invariant-loop-param

@@ -3,7 +3,7 @@ use Rattle.std.specs.Result.{OnOk}
 use Rattle.go_tree_nodes.specs.declared.names.Ident.{Ident}
 use Rattle.go_tree_nodes.specs.TypeShapes.{shape_results}
 use Rattle.go_tree_nodes.proofs.TypeShapes.{listed_parts}
-use Rattle.go_walk_core.specs.local_core.Outline.{result_idents}
+use Rattle.go_local_core.specs.Outline.{result_idents}
 use Rattle.go_names_core.proofs.idents.add_results.Goals as goal
 
 pub returns-in-Listed : goal.returns-in-Listed

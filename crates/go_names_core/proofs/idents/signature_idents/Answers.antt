@@ -4,7 +4,7 @@ use Rattle.go_tree_nodes.specs.declared.types.Signature.{out-Signature}
 use Rattle.go_tree_nodes.specs.declared.types.Params.{out-Params}
 use Rattle.go_tree_nodes.specs.TypeShapes.{shape_results, params_of}
 use Rattle.go_tree_nodes.proofs.TypeShapes.{signature_parts}
-use Rattle.go_walk_core.specs.local_core.Outline.{signature_idents, param_idents, result_idents}
+use Rattle.go_local_core.specs.Outline.{signature_idents, param_idents, result_idents}
 use Rattle.go_names_core.proofs.idents.signature_idents.Goals as goal
 
 pub returns : goal.returns

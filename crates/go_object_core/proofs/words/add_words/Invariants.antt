@@ -1,6 +1,6 @@
 use Rattle.std.proofs.Common.{◌≡◌, ◌++◌, drop}
 use Rattle.std.specs.Prelude.{string_bytes}
-use Rattle.go_instruction_core.specs.Writing.{letters_of}
+use Rattle.go_object_core.specs.instructions.Writing.{letters_of}
 use Rattle.go_object_core.proofs.words.add_words.Given as goal
 
 abbrev pub invariant-loop-word : goal.invariant-loop-word

@@ -4,13 +4,13 @@ use Rattle.std.specs.List.{AllZip, enumerate_from}
 use Rattle.std.proofs.lemmas.List.{length-map, take_all}
 use Rattle.std.proofs.lemmas.List.FromFn.{length-enumerate_from}
 use Rattle.go_tree_nodes.specs.Shapes.{file_of}
-use Rattle.go_ready_core.specs.graph_core.Packages.{trees_of, tree_shown}
+use Rattle.go_block_core.specs.graph_core.Packages.{trees_of, tree_shown}
 use Rattle.go_term_core.specs.decl_core.Shown.{decl_shown}
-use Rattle.go_ready_core.specs.entry_core.Outlines.{outline_shown}
-use Rattle.go_ready_core.specs.face_core.Laws.{package_decls}
-use Rattle.go_ready_core.specs.env_core.Scenes.{scene_shown}
-use Rattle.go_ready_core.specs.Inlines.{AreOutlinedTypes, types_stand}
-use Rattle.go_ready_core.specs.Packages.{outlines_in, package_in_shown}
+use Rattle.go_body_core.specs.typexpr_core.EntryOutlines.{outline_shown}
+use Rattle.go_report_core.specs.declared_core.Laws.{package_decls}
+use Rattle.go_body_core.specs.env_core.Scenes.{scene_shown}
+use Rattle.go_package_core.specs.prepare.Inlines.{AreOutlinedTypes, types_stand}
+use Rattle.go_package_core.specs.prepare.Packages.{outlines_in, package_in_shown}
 use Rattle.go_package_core.specs.Checked.{IsFileChecked, answers_shown}
 use Rattle.go_package_core.proofs.Numbered.{zip_length}
 use Rattle.go_package_core.proofs.Stages.{initial_many}

@@ -1,8 +1,8 @@
 use Rattle.std.proofs.Common.{◌≡◌, map, length, take}
 use Rattle.std.specs.List.{AllZip, enumerate_from}
-use Rattle.go_ready_core.specs.entry_core.Outlines.{outline_shown}
-use Rattle.go_ready_core.specs.face_core.Laws.{package_decls}
-use Rattle.go_ready_core.specs.Packages.{package_in_shown}
+use Rattle.go_body_core.specs.typexpr_core.EntryOutlines.{outline_shown}
+use Rattle.go_report_core.specs.declared_core.Laws.{package_decls}
+use Rattle.go_package_core.specs.prepare.Packages.{package_in_shown}
 use Rattle.go_package_core.specs.Checked.{IsFileChecked, answers_shown}
 use Rattle.go_package_core.proofs.files.check_files.Given as goal
 

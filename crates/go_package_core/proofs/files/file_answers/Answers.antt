@@ -1,8 +1,8 @@
 use Rattle.std.proofs.Common.{◌++◌, ap, sym, ◌∙◌}
 use Rattle.go_term_core.specs.decl_core.Shown.{decl_shown}
 use Rattle.go_tree_nodes.specs.Shapes.{file_of}
-use Rattle.go_ready_core.specs.file_core.Files.{file_faults}
-use Rattle.go_ready_core.specs.file_core.Stands.{stand_of}
+use Rattle.go_body_core.specs.file.Files.{file_faults}
+use Rattle.go_body_core.specs.file.Stands.{stand_of}
 use Rattle.go_package_core.proofs.Stages.{settled_of}
 use Rattle.go_package_core.proofs.files.file_answers.Goals as goal
 

@@ -1,4 +1,4 @@
-use Rattle.go_ready_core.specs.Packages.{package_in_shown}
+use Rattle.go_package_core.specs.prepare.Packages.{package_in_shown}
 use Rattle.go_package_core.proofs.Stages.{names_are}
 use Rattle.go_package_core.proofs.package.check_package.Goals as goal
 

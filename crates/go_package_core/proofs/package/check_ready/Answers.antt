@@ -1,14 +1,14 @@
 use Rattle.std.proofs.Common.{map, length, ap, sym, subst, ◌∙◌}
 use Rattle.std.proofs.lemmas.List.{length-map}
-use Rattle.go_ready_core.specs.entry_core.Outlines.{outline_shown}
-use Rattle.go_ready_core.specs.face_core.Written.{decls_of}
-use Rattle.go_ready_core.specs.env_core.Scenes.{scene_shown}
-use Rattle.go_ready_core.specs.value_core.Laws.{AreFaces}
-use Rattle.go_ready_core.specs.value_core.Package.{AreThroughThemselves}
-use Rattle.go_ready_core.specs.answer_core.Shown.{package_shown}
+use Rattle.go_body_core.specs.typexpr_core.EntryOutlines.{outline_shown}
+use Rattle.go_report_core.specs.declared_core.Written.{decls_of}
+use Rattle.go_body_core.specs.env_core.Scenes.{scene_shown}
+use Rattle.go_value_core.specs.Laws.{AreFaces}
+use Rattle.go_value_core.specs.Package.{AreThroughThemselves}
+use Rattle.go_report_core.specs.answer.Shown.{package_shown}
 use Rattle.std.specs.List.{AllZip, enumerate_from}
-use Rattle.go_ready_core.specs.Packages.{package_in_shown, scene_in}
-use Rattle.go_ready_core.proofs.Tables.{looped_written, values_written}
+use Rattle.go_package_core.specs.prepare.Packages.{package_in_shown, scene_in}
+use Rattle.go_package_core.proofs.PrepareTables.{looped_written, values_written}
 use Rattle.go_package_core.specs.Checked.{IsFileChecked, answers_shown}
 use Rattle.go_package_core.specs.mirrors.Stages.{IsReady}
 use Rattle.go_package_core.proofs.Stages.{as_made, checked_is, initial_many, scene_is, written_many}

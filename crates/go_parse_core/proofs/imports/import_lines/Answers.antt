@@ -1,9 +1,9 @@
 use Rattle.std.proofs.lemmas.Result.{err_from_is_err_and}
-use Rattle.go_scan_core.specs.token_core.declared.kind.Operator.TheVariants as operator
+use Rattle.go_tree_nodes.specs.token_core.declared.kind.Operator.TheVariants as operator
 use Rattle.go_tree_nodes.specs.Shapes.{shape_import_line}
-use Rattle.go_parse_stmts.specs.parse_types.CodeLists.{list_more, list_turn_shorter, list_fails, list_end, list_missing, list_last}
-use Rattle.go_parse_stmts.specs.parse_types.CodeSteps.{none_of, some_of}
-use Rattle.go_parse_stmts.specs.parse_types.CodeTypes.{pushed}
+use Rattle.go_parse_reader.proofs.TypesCodeLists.{list_more, list_turn_shorter, list_fails, list_end, list_missing, list_last}
+use Rattle.go_parse_reader.proofs.TypesCodeSteps.{none_of, some_of}
+use Rattle.go_parse_reader.proofs.TypesCodeTypes.{pushed}
 use Rattle.go_parse_core.proofs.CodeImports.{import_spec_shorter}
 use Rattle.go_parse_core.proofs.imports.import_lines.Goals as goal
 

@@ -1,8 +1,8 @@
 use Rattle.std.proofs.Common.{length, map}
-use Rattle.go_scan_core.specs.token_core.declared.kind.Operator.TheVariants as operator
+use Rattle.go_tree_nodes.specs.token_core.declared.kind.Operator.TheVariants as operator
 use Rattle.go_tree_nodes.specs.Shapes.{shape_import_line}
 use Rattle.go_tree_nodes.specs.Trees.{ImportSpecTree}
-use Rattle.go_parse_stmts.specs.parse_types.CodeLists.{ListSoFar}
+use Rattle.go_parse_reader.proofs.TypesCodeLists.{ListSoFar}
 use Rattle.go_parse_core.specs.mirrors.FileReading.{import_spec_at}
 use Rattle.go_parse_core.proofs.imports.import_lines.Given as goal
 

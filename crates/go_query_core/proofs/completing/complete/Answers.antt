@@ -1,9 +1,9 @@
 use Rattle.std.proofs.Common.{subst}
 use Rattle.std.proofs.lemmas.Result.{IfErr-weaker, IfOk-weaker}
-use Rattle.go_list_core.specs.graph_core.Workspaces.{IsWorkspace}
-use Rattle.go_hint_core.specs.part_core.Inputs.{IsInput}
-use Rattle.go_hint_core.specs.place_core.Completions.{texts_of}
-use Rattle.go_hint_core.specs.snap_core.Snapshots.{file_in_shown}
+use Rattle.go_import_core.specs.graph_core.Workspaces.{IsWorkspace}
+use Rattle.go_complete_core.specs.package_core.PackagePartInputs.{IsInput}
+use Rattle.go_complete_core.specs.place.Completions.{texts_of}
+use Rattle.go_complete_core.specs.snap_core.Snapshots.{file_in_shown}
 use Rattle.go_query_core.proofs.Spotted.{exports_shown, has_spots, is_completion, is_unasked, lacks_it}
 use Rattle.go_query_core.proofs.completing.complete.Goals as goal
 

@@ -1,4 +1,4 @@
-use Rattle.go_hint_core.specs.snap_core.Snapshots.{file_in_shown}
+use Rattle.go_complete_core.specs.snap_core.Snapshots.{file_in_shown}
 use Rattle.go_query_core.proofs.Spotted.{unasked_in}
 use Rattle.go_query_core.proofs.completing.complete_in.Goals as goal
 

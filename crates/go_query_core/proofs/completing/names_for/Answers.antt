@@ -4,10 +4,10 @@ use Rattle.std.specs.declared.alloc.Global.{Global}
 use Rattle.std.specs.declared.string.String.{String}
 use Rattle.std.specs.declared.vec.Vec.{Vec}
 use Rattle.std.proofs.lemmas.Result.{IfOk-weaker}
-use Rattle.go_hint_core.specs.spot_core.Spots.{spot_seen}
-use Rattle.go_hint_core.specs.place_core.Completed.{Completes}
-use Rattle.go_hint_core.specs.place_core.Completions.{texts_of}
-use Rattle.go_hint_core.specs.snap_core.Snapshots.{file_in_shown}
+use Rattle.go_cursor_core.specs.Spots.{spot_seen}
+use Rattle.go_complete_core.specs.place.Completed.{Completes}
+use Rattle.go_complete_core.specs.place.Completions.{texts_of}
+use Rattle.go_complete_core.specs.snap_core.Snapshots.{file_in_shown}
 use Rattle.go_query_core.proofs.Completed.{by_names, by_types}
 use Rattle.go_query_core.proofs.completing.names_for.Goals as goal
 

@@ -1,5 +1,5 @@
-use Rattle.go_hint_core.specs.snap_core.Snapshots.{file_in_shown}
-use Rattle.go_hint_core.specs.spot_core.Spots.{spot_seen}
+use Rattle.go_complete_core.specs.snap_core.Snapshots.{file_in_shown}
+use Rattle.go_cursor_core.specs.Spots.{spot_seen}
 use Rattle.go_query_core.proofs.Spotted.{spot_asked, spot_there, spotted}
 use Rattle.go_query_core.proofs.completing.spot_from.Goals as goal
 

@@ -1,6 +1,6 @@
 use Rattle.std.proofs.Common.{◌<◌, Some, length, slice_get, sym, ap, ◌∙◌, subst, arith}
 use Rattle.std.proofs.lemmas.Option.{slice_get-get_or}
-use Rattle.go_hint_core.specs.snap_core.Snapshots.{file_in_shown}
+use Rattle.go_complete_core.specs.snap_core.Snapshots.{file_in_shown}
 use Rattle.go_query_core.proofs.Spotted.{as_many, begun}
 use Rattle.go_query_core.proofs.completing.start_at.Goals as goal
 

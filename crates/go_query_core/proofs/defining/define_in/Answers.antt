@@ -1,5 +1,5 @@
 use Rattle.std.proofs.lemmas.Result.{IfErr-weaker, IfOk-weaker}
-use Rattle.go_hint_core.specs.snap_core.Snapshots.{file_in_shown}
+use Rattle.go_complete_core.specs.snap_core.Snapshots.{file_in_shown}
 use Rattle.go_query_core.proofs.Using.{defined_in, refused_in, unused_in}
 use Rattle.go_query_core.proofs.defining.define_in.Goals as goal
 

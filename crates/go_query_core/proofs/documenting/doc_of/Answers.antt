@@ -1,6 +1,6 @@
 use Rattle.std.proofs.Common.{inl, ◌∙◌}
 use Rattle.std.proofs.lemmas.Result.{IfErr-weaker, IfOk-weaker}
-use Rattle.go_hint_core.specs.part_core.Inputs.{path_in}
+use Rattle.go_complete_core.specs.package_core.PackagePartInputs.{path_in}
 use Rattle.go_query_core.specs.Documenting.{doc_shown}
 use Rattle.go_query_core.proofs.Documented.{is_other, is_refused, other_is, own_is}
 use Rattle.go_query_core.proofs.Listed.{part_in_range}

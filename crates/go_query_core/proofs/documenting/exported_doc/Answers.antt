@@ -1,12 +1,12 @@
 use Rattle.std.proofs.Common.{List, map, sym, ap, ◌∙◌, subst}
-use Rattle.go_list_core.specs.graph_core.Packages.{IsPackageName, trees_of}
-use Rattle.go_list_core.specs.graph_core.Sources.{SourceModel}
-use Rattle.go_list_core.specs.graph_core.Workspaces.{PackageModel}
-use Rattle.go_symbol_core.specs.block_core.Exports.{exported_names}
-use Rattle.go_symbol_core.specs.block_core.Holding.{package_block}
-use Rattle.go_symbol_core.specs.Symbols.{AreSymbols, symbol_shown}
-use Rattle.go_hint_core.specs.part_core.Inputs.{InputModel}
-use Rattle.go_hint_core.specs.summary_core.Summaries.{SummaryModel}
+use Rattle.go_import_core.specs.graph_core.Packages.{IsPackageName, trees_of}
+use Rattle.go_import_core.specs.graph_core.Sources.{SourceModel}
+use Rattle.go_import_core.specs.graph_core.Workspaces.{PackageModel}
+use Rattle.go_declared_core.specs.block_core.Exports.{exported_names}
+use Rattle.go_declared_core.specs.block_core.Holding.{package_block}
+use Rattle.go_doc_core.specs.symbol.Symbols.{AreSymbols, symbol_shown}
+use Rattle.go_complete_core.specs.package_core.PackagePartInputs.{InputModel}
+use Rattle.go_complete_core.specs.summary_core.Summaries.{SummaryModel}
 use Rattle.go_query_core.proofs.Documented.{exported_are, exported_symbols_are}
 use Rattle.go_query_core.proofs.documenting.exported_doc.Goals as goal
 

@@ -1,7 +1,7 @@
 use Rattle.std.proofs.Common.{List, ◌<◌, length, inr, sym, subst}
-use Rattle.go_list_core.specs.graph_core.declared.imports.ImportOutcome.TheVariants.{Package, Refused}
-use Rattle.go_list_core.specs.graph_core.Workspaces.{PackageModel}
-use Rattle.go_list_core.specs.Importing.{IsJudgedAt}
+use Rattle.go_import_core.specs.graph_core.declared.imports.ImportOutcome.TheVariants.{Package, Refused}
+use Rattle.go_import_core.specs.graph_core.Workspaces.{PackageModel}
+use Rattle.go_import_core.specs.list.Importing.{IsJudgedAt}
 use Rattle.go_query_core.proofs.Listed as listed
 use Rattle.go_query_core.proofs.documenting.imported_part.Goals as goal
 

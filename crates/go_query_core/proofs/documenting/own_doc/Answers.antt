@@ -1,12 +1,12 @@
 use Rattle.std.proofs.Common.{ℕ, List, map, sym, ap, ◌∙◌, subst}
-use Rattle.go_decl_core.specs.declared.keys.DeclRef.{DeclRef}
-use Rattle.go_list_core.specs.graph_core.Packages.{IsPackageName, trees_of}
-use Rattle.go_list_core.specs.graph_core.Sources.{SourceModel}
-use Rattle.go_list_core.specs.graph_core.Workspaces.{PackageModel}
-use Rattle.go_symbol_core.specs.block_core.Holding.{package_block}
-use Rattle.go_symbol_core.specs.Symbols.{AreSymbols, symbol_shown}
-use Rattle.go_hint_core.specs.part_core.Inputs.{InputModel}
-use Rattle.go_hint_core.specs.part_core.Parts.{ContentOf}
+use Rattle.go_expr_core.specs.decl_core.declared.keys.DeclRef.{DeclRef}
+use Rattle.go_import_core.specs.graph_core.Packages.{IsPackageName, trees_of}
+use Rattle.go_import_core.specs.graph_core.Sources.{SourceModel}
+use Rattle.go_import_core.specs.graph_core.Workspaces.{PackageModel}
+use Rattle.go_declared_core.specs.block_core.Holding.{package_block}
+use Rattle.go_doc_core.specs.symbol.Symbols.{AreSymbols, symbol_shown}
+use Rattle.go_complete_core.specs.package_core.PackagePartInputs.{InputModel}
+use Rattle.go_complete_core.specs.package_core.PackagePartParts.{ContentOf}
 use Rattle.go_query_core.proofs.Documented.{names_are}
 use Rattle.go_query_core.proofs.documenting.own_doc.Goals as goal
 

@@ -1,6 +1,6 @@
 use Rattle.std.proofs.Common.{List, ◌+◌, take, sym, subst}
 use Rattle.std.specs.List.{AllZip}
-use Rattle.go_list_core.specs.graph_core.Zips.{zip_more_at}
+use Rattle.go_import_core.specs.graph_core.Zips.{zip_more_at}
 use Rattle.go_query_core.specs.Entries.{EntryOf}
 use Rattle.go_query_core.specs.Listing.{IsEntryOf}
 use Rattle.go_query_core.proofs.listing.entries_of.Goals as goal

@@ -2,8 +2,8 @@ use Rattle.std.proofs.Common.{ℕ, List, ◌<◌, length, sym, subst}
 use Rattle.std.specs.Prelude.{◌↔◌, All, Contains}
 use Rattle.std.specs.List.{AllZip}
 use Rattle.std.proofs.lemmas.Result.{IfOk-weaker}
-use Rattle.go_list_core.specs.graph_core.Workspaces.{PackageModel}
-use Rattle.go_list_core.specs.Importing.{IsImportable}
+use Rattle.go_import_core.specs.graph_core.Workspaces.{PackageModel}
+use Rattle.go_import_core.specs.list.Importing.{IsImportable}
 use Rattle.go_query_core.specs.Listing.{IsEntryOf}
 use Rattle.go_query_core.specs.Parts.{HasPart}
 use Rattle.go_query_core.proofs.Listed.{have_parts}

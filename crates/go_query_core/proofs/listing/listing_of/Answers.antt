@@ -1,4 +1,4 @@
-use Rattle.go_hint_core.specs.part_core.Inputs.{path_in}
+use Rattle.go_complete_core.specs.package_core.PackagePartInputs.{path_in}
 use Rattle.go_query_core.proofs.Listed.{is_listing, part_in_range}
 use Rattle.go_query_core.proofs.listing.listing_of.Goals as goal
 

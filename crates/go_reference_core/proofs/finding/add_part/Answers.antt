@@ -1,7 +1,7 @@
 use Rattle.std.proofs.Common.{◌≡◌, ◌<◌, ◌≤◌, length, map, get_or, sym, ap, subst, ◌∙◌, arith}
 use Rattle.std.proofs.lemmas.List.{get_or-map, length-map}
-use Rattle.go_snap_core.specs.handle_core.Declarations.{site_shown}
-use Rattle.go_snap_core.specs.part_core.Parts.{ContentOf, file_shown}
+use Rattle.go_handle_core.specs.Declarations.{site_shown}
+use Rattle.go_query_core.specs.package_core.PackagePartParts.{ContentOf, file_shown}
 use Rattle.go_reference_core.specs.mirrors.Adding.{Adds, IsOfUses}
 use Rattle.go_reference_core.proofs.Found.{files_end, files_start, files_step}
 use Rattle.go_reference_core.proofs.finding.add_part.Goals as goal

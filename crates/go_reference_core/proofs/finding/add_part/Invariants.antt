@@ -1,5 +1,5 @@
 use Rattle.std.proofs.Common.{◌<◌}
-use Rattle.go_snap_core.specs.handle_core.Declarations.{site_shown}
+use Rattle.go_handle_core.specs.Declarations.{site_shown}
 use Rattle.go_reference_core.specs.mirrors.Adding.{Adds, IsOfFiles}
 use Rattle.go_reference_core.proofs.finding.add_part.Given as goal
 

@@ -1,4 +1,4 @@
-use Rattle.go_snap_core.specs.handle_core.Declarations.{site_shown}
+use Rattle.go_handle_core.specs.Declarations.{site_shown}
 use Rattle.go_reference_core.proofs.Found.{is_used, not_used}
 use Rattle.go_reference_core.proofs.finding.add_use.Goals as goal
 

@@ -1,5 +1,5 @@
 use Rattle.std.proofs.Common.{◌<◌, ◌≤◌, length, arith}
-use Rattle.go_snap_core.specs.handle_core.Declarations.{site_shown}
+use Rattle.go_handle_core.specs.Declarations.{site_shown}
 use Rattle.go_reference_core.proofs.Found.{uses_end, uses_start, uses_step}
 use Rattle.go_reference_core.proofs.finding.add_uses.Goals as goal
 

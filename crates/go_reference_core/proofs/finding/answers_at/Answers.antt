@@ -1,6 +1,6 @@
 use Rattle.std.proofs.Common.{◌≡◌, length, map, Some, None, refl, slice_get, ap, subst, ◌∙◌}
 use Rattle.std.proofs.lemmas.Option.{slice_get_past, slice_get_read}
-use Rattle.go_snap_core.specs.part_core.Parts.{ContentOf, file_shown}
+use Rattle.go_query_core.specs.package_core.PackagePartParts.{ContentOf, file_shown}
 use Rattle.go_reference_core.proofs.Found.{mapped_at, mapped_past}
 use Rattle.go_reference_core.proofs.finding.answers_at.Goals as goal
 

@@ -1,5 +1,5 @@
 use Rattle.std.proofs.Common.{◌≡◌, ◌<◌, ◌≤◌, [], length, get_or, sym, ap, subst, arith}
-use Rattle.go_snap_core.specs.handle_core.Declarations.{site_shown}
+use Rattle.go_handle_core.specs.Declarations.{site_shown}
 use Rattle.go_reference_core.specs.References.{IsReference}
 use Rattle.go_reference_core.specs.mirrors.Adding.{Adds}
 use Rattle.go_reference_core.proofs.Found.{all_references, parts_start, parts_step}

@@ -1,6 +1,6 @@
 use Rattle.std.proofs.Common.{map, ap, ◌∙◌}
 use Rattle.std.proofs.lemmas.Result.{on_ok_weaker}
-use Rattle.go_block_core.specs.open_core.Blocks.{list_names}
+use Rattle.go_block_core.specs.scope_stack.Blocks.{list_names}
 use Rattle.go_scope_core.proofs.names.add_listed.Goals as goal
 
 pub returns-in-Ok-clause-ok : goal.returns-in-Ok-clause-ok

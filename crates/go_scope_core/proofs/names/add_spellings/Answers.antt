@@ -1,7 +1,7 @@
 use Rattle.std.proofs.Common.{map, refl, sym, ap, ◌∙◌}
 use Rattle.std.proofs.lemmas.List.{drop_all}
 use Rattle.go_universe_core.specs.Universe.{spelling_of}
-use Rattle.go_block_core.specs.open_core.Blocks.{list_name, list_names}
+use Rattle.go_block_core.specs.scope_stack.Blocks.{list_name, list_names}
 use Rattle.go_scope_core.proofs.Listed.{spelling_step}
 use Rattle.go_scope_core.proofs.names.add_spellings.Goals as goal
 

@@ -2,7 +2,7 @@ use Rattle.std.proofs.Common.{◌≡◌, [], map, ap, ◌∙◌}
 use Rattle.std.proofs.lemmas.Result.{IfOk-at_ok, IfOk-weaker}
 use Rattle.go_block_core.specs.Tables.{names_in}
 use Rattle.go_block_core.specs.Blocks.{held_in}
-use Rattle.go_block_core.specs.open_core.Blocks.{all_names, list_names}
+use Rattle.go_block_core.specs.scope_stack.Blocks.{all_names, list_names}
 use Rattle.go_scope_core.specs.Scopes.{universe}
 use Rattle.go_scope_core.proofs.names.listed_names.Goals as goal
 

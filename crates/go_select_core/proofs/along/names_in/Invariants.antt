@@ -1,5 +1,5 @@
 use Rattle.std.proofs.Common.{◌≡◌, ◌++◌, drop, map}
-use Rattle.go_level_core.specs.table_core.Entries.{find_entry}
+use Rattle.go_embed_core.specs.table_core.Entries.{find_entry}
 use Rattle.go_term_core.specs.Shapes.{shape, shape_found}
 use Rattle.go_select_core.specs.PathNames.{names_along}
 use Rattle.go_select_core.proofs.along.names_in.Given as goal

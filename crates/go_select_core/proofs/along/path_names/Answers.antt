@@ -1,6 +1,6 @@
 use Rattle.std.proofs.Common.{◌≡◌, map, subst}
 use Rattle.std.specs.Prelude.{IfOk}
-use Rattle.go_level_core.specs.table_core.Entries.{find_entry}
+use Rattle.go_embed_core.specs.table_core.Entries.{find_entry}
 use Rattle.go_term_core.specs.Shapes.{shape}
 use Rattle.go_select_core.specs.PathNames.{names_along}
 use Rattle.go_select_core.proofs.along.path_names.Goals as goal

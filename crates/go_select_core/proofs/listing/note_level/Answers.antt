@@ -1,10 +1,10 @@
 use Rattle.std.proofs.Common.{length, map, ap, ◌∙◌, arith}
 use Rattle.std.proofs.lemmas.List.{length-map}
-use Rattle.go_level_core.specs.table_core.Entries.{find_entry}
-use Rattle.go_level_core.specs.embed_core.Owners.{members_of}
-use Rattle.go_level_core.specs.embed_core.OwnersShown.{owner_shown, named_shown}
+use Rattle.go_embed_core.specs.table_core.Entries.{find_entry}
+use Rattle.go_embed_core.specs.Owners.{members_of}
+use Rattle.go_embed_core.specs.OwnersShown.{owner_shown, named_shown}
 use Rattle.go_select_core.specs.mirrors.Names.{names_of}
-use Rattle.go_level_core.proofs.ListLemmas.{at_read}
+use Rattle.go_select_core.proofs.LevelsListLemmas.{at_read}
 use Rattle.go_select_core.proofs.Naming.{are_noted_start, are_noted_more, are_named_more, are_noted_row, are_noted_end, member_at}
 use Rattle.go_select_core.proofs.listing.note_level.Goals as goal
 

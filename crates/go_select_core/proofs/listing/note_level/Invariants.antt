@@ -1,4 +1,4 @@
-use Rattle.go_level_core.specs.table_core.Entries.{find_entry}
+use Rattle.go_embed_core.specs.table_core.Entries.{find_entry}
 use Rattle.go_select_core.specs.mirrors.Names.{names_of, AreNamed}
 use Rattle.go_select_core.proofs.Naming.{AreNotedTo}
 use Rattle.go_select_core.proofs.listing.note_level.Given as goal

@@ -1,9 +1,9 @@
 use Rattle.std.proofs.Common.{true, false, sym, ap, ◌∙◌}
 use Rattle.std.proofs.lemmas.Result.{IfOk-weaker}
 use Rattle.go_term_core.specs.Shapes.{shape}
-use Rattle.go_level_core.specs.table_core.Entries.{find_entry}
+use Rattle.go_embed_core.specs.table_core.Entries.{find_entry}
 use Rattle.go_select_core.specs.Selections.{AreSelections}
-use Rattle.go_level_core.specs.mirrors.Operands.{operand_shown}
+use Rattle.go_select_core.specs.levels.mirrors.Operands.{operand_shown}
 use Rattle.go_select_core.specs.mirrors.Listings.{AreSelectionsIn}
 use Rattle.go_select_core.proofs.ListedNames.{selections_in_type, selections_of_fields, selections_of_none}
 use Rattle.go_select_core.proofs.listing.selections.Goals as goal

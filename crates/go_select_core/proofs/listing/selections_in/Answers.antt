@@ -1,5 +1,5 @@
 use Rattle.go_term_core.specs.Shapes.{shape}
-use Rattle.go_level_core.specs.table_core.Entries.{find_entry}
+use Rattle.go_embed_core.specs.table_core.Entries.{find_entry}
 use Rattle.go_select_core.proofs.ListedNames.{are_within, listing_in}
 use Rattle.go_select_core.proofs.listing.selections_in.Goals as goal
 

@@ -1,6 +1,6 @@
 use Rattle.go_term_core.specs.Shapes.{shape}
-use Rattle.go_level_core.specs.mirrors.Ways.{ways}
-use Rattle.go_level_core.specs.mirrors.Levels.{height}
+use Rattle.go_select_core.specs.levels.mirrors.Ways.{ways}
+use Rattle.go_select_core.specs.levels.mirrors.Levels.{height}
 use Rattle.go_select_core.specs.mirrors.Names.{names_of}
 use Rattle.go_select_core.proofs.Surveying.{NamesTo}
 use Rattle.go_select_core.proofs.listing.survey_from.Given as goal

@@ -1,6 +1,6 @@
 use Rattle.std.proofs.Common.{rules}
 use Rattle.std.proofs.lemmas.Fn.{always_returns_same}
-use Rattle.go_answer_core.specs.graph_core.Workspaces.{by_bytes}
+use Rattle.go_graph_core.specs.Workspaces.{by_bytes}
 use Rattle.go_site_core.proofs.Finding.{package_found}
 use Rattle.go_site_core.proofs.search.number_of.Goals as goal
 

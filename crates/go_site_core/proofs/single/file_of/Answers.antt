@@ -1,6 +1,6 @@
 use Rattle.std.proofs.Common.{◌≡◌, length, Some, slice_get, refl, sym, ap, subst, ◌∙◌}
 use Rattle.std.proofs.lemmas.Option.{same_Some, slice_get_read}
-use Rattle.go_answer_core.specs.graph_core.Workspaces.{PackageModel, files_at}
+use Rattle.go_graph_core.specs.Workspaces.{PackageModel, files_at}
 use Rattle.go_site_core.specs.Sites.{file_in}
 use Rattle.go_site_core.proofs.single.file_of.Goals as goal
 

@@ -1,6 +1,6 @@
 use Rattle.std.proofs.Common.{◌≡◌, length, Some, slice_get, refl, ap, ◌∙◌}
 use Rattle.std.proofs.lemmas.Option.{slice_get_read}
-use Rattle.go_answer_core.specs.graph_core.Sources.{SourceModel}
+use Rattle.go_graph_core.specs.Sources.{SourceModel}
 use Rattle.go_site_core.specs.Sites.{held_items, offset_among, offsets_in}
 use Rattle.go_site_core.proofs.Locating.{located_there, paired}
 use Rattle.go_site_core.proofs.spelling.locate.Goals as goal

@@ -1,6 +1,6 @@
 use Rattle.std.proofs.Common.{◌≡◌, ◌++◌, ◌<◌, length, map, get_or, sym, ap, ◌∙◌, arith}
 use Rattle.std.proofs.lemmas.List.{get_or-map, length-map}
-use Rattle.go_make_core.specs.part_core.Parts.{ContentOf, file_shown}
+use Rattle.go_emit_core.specs.package_core.PackagePartParts.{ContentOf, file_shown}
 use Rattle.go_snap_core.specs.mirrors.Reports.{placed}
 use Rattle.go_snap_core.proofs.Adding.{part_more}
 use Rattle.go_snap_core.proofs.fault.add_part.Goals as goal

@@ -1,5 +1,5 @@
 use Rattle.std.proofs.Common.{◌≡◌, ◌++◌, ◌<◌, length, sym, ap, ◌∙◌, arith, append-nil}
-use Rattle.go_make_core.specs.graph_core.Sources.{content_shown}
+use Rattle.go_graph_core.specs.Sources.{content_shown}
 use Rattle.go_snap_core.specs.mirrors.Reports.{text_fault}
 use Rattle.go_snap_core.proofs.Adding.{text_more}
 use Rattle.go_snap_core.proofs.fault.add_texts.Goals as goal

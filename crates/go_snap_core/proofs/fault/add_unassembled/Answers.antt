@@ -1,7 +1,7 @@
 use Rattle.std.proofs.Common.{◌≡◌, ◌++◌, [], ◌∷◌, Err, refl, sym, ap, subst, ◌∙◌, append_assoc}
 use Rattle.std.proofs.lemmas.Result.{on_ok_weaker}
-use Rattle.go_make_core.specs.graph_core.Packages.{IsAssembly}
-use Rattle.go_make_core.specs.graph_core.Workspaces.{PackageModel}
+use Rattle.go_graph_core.specs.Packages.{IsAssembly}
+use Rattle.go_graph_core.specs.Workspaces.{PackageModel}
 use Rattle.go_snap_core.specs.mirrors.Reports.{AddsUnassembled, assembly_fault, text_faults}
 use Rattle.go_snap_core.proofs.fault.add_unassembled.Goals as goal
 

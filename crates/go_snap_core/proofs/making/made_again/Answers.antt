@@ -1,5 +1,5 @@
 use Rattle.std.proofs.Common.{sym, subst}
-use Rattle.go_make_core.specs.whole_core.Inputs.{AreParts}
+use Rattle.go_snap_core.specs.whole_workspace.Inputs.{AreParts}
 use Rattle.go_snap_core.proofs.making.made_again.Goals as goal
 
 pub parts_again-requires : goal.parts_again-requires

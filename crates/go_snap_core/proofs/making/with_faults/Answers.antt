@@ -1,5 +1,5 @@
 use Rattle.std.proofs.Common.{subst}
-use Rattle.go_make_core.specs.whole_core.PartsWhole.{parts_are_whole}
+use Rattle.go_snap_core.proofs.WholeWorkspacePartsWhole.{parts_are_whole}
 use Rattle.go_snap_core.specs.Snapshots.{contents_of}
 use Rattle.go_snap_core.specs.Faults.{AreFaults}
 use Rattle.go_snap_core.proofs.making.with_faults.Goals as goal

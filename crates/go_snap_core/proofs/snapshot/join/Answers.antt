@@ -2,9 +2,9 @@ use Rattle.std.proofs.Common.{◌≡◌, ◌≤◌, length, sym, ap, subst, ◌�
 use Rattle.std.specs.Prelude.{vec_capacity}
 use Rattle.std.specs.List.Sorted.{IsPermutation}
 use Rattle.std.proofs.lemmas.List.Sorted.{length_permutation}
-use Rattle.go_make_core.specs.whole_core.Inputs.{AreParts}
+use Rattle.go_snap_core.specs.whole_workspace.Inputs.{AreParts}
 use Rattle.go_snap_core.proofs.snapshot.join.Goals as goal
-use Rattle.go_make_core.specs.part_core.Slots.{somes}
+use Rattle.go_emit_core.specs.package_core.PackagePartSlots.{somes}
 
 pub join_parts-requires : goal.join_parts-requires
 join_parts-requires c = subst (λ l. AreParts l c.put_parts.new.slots) c.packages-2.ensures.packages c.put_parts.ensures.parts

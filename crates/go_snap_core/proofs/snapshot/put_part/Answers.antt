@@ -2,9 +2,9 @@ use Rattle.std.proofs.Common.{Some, length, sym, ap, subst, ◌∙◌, arith}
 use Rattle.std.specs.Prelude.{List, ℕ, slice_set}
 use Rattle.std.proofs.lemmas.List.{length-set}
 use Rattle.std.proofs.lemmas.Option.{slice_get_within}
-use Rattle.go_make_core.specs.graph_core.Imports.{IsNumbered}
-use Rattle.go_make_core.specs.graph_core.Workspaces.{PackageModel}
-use Rattle.go_make_core.proofs.Searching.{one_key}
+use Rattle.go_graph_core.specs.Imports.{IsNumbered}
+use Rattle.go_graph_core.specs.Workspaces.{PackageModel}
+use Rattle.go_snap_core.proofs.MakeSearching.{one_key}
 use Rattle.go_snap_core.proofs.snapshot.put_part.Goals as goal
 
 pub put-requires : goal.put-requires

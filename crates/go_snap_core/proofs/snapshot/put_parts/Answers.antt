@@ -2,11 +2,11 @@ use Rattle.std.proofs.Common.{◌≡◌, [], Option, length, None, ap, subst, �
 use Rattle.std.specs.List.Sorted.{IsPermutation}
 use Rattle.std.proofs.lemmas.List.{length-replicate}
 use Rattle.std.proofs.lemmas.List.Sorted.{IsPermutation-sym}
-use Rattle.go_make_core.specs.part_core.Parts.{PartModel}
-use Rattle.go_make_core.specs.whole_core.Inputs.{AreParts}
+use Rattle.go_emit_core.specs.package_core.PackagePartParts.{PartModel}
+use Rattle.go_snap_core.specs.whole_workspace.Inputs.{AreParts}
 use Rattle.go_snap_core.proofs.Putting.{IsPut, all_put, put_next, put_none}
 use Rattle.go_snap_core.proofs.snapshot.put_parts.Goals as goal
-use Rattle.go_make_core.specs.part_core.Slots.{somes}
+use Rattle.go_emit_core.specs.package_core.PackagePartSlots.{somes}
 
 pub loop-part-init : goal.loop-part-init
 loop-part-init c = (

@@ -1,11 +1,11 @@
 use Rattle.std.proofs.Common.{◌≡◌, ◌≤◌, List, Option, length}
 use Rattle.std.specs.Prelude.{vec_capacity}
 use Rattle.std.specs.List.Sorted.{IsPermutation}
-use Rattle.go_make_core.specs.part_core.Parts.{PartModel}
-use Rattle.go_make_core.specs.whole_core.Inputs.{AreParts}
+use Rattle.go_emit_core.specs.package_core.PackagePartParts.{PartModel}
+use Rattle.go_snap_core.specs.whole_workspace.Inputs.{AreParts}
 use Rattle.go_snap_core.proofs.Putting.{IsPut}
 use Rattle.go_snap_core.proofs.snapshot.put_parts.Given as goal
-use Rattle.go_make_core.specs.part_core.Slots.{somes}
+use Rattle.go_emit_core.specs.package_core.PackagePartSlots.{somes}
 
 abbrev pub invariant-loop-part : goal.invariant-loop-part
 invariant-loop-part l =

@@ -1,6 +1,6 @@
 use Rattle.std.proofs.Common.{sym, subst}
-use Rattle.go_snap_core.specs.graph_core.Workspaces.{AreAllRead, IsWorkspace}
-use Rattle.go_snap_core.specs.part_core.Parts.{PartModel}
+use Rattle.go_graph_core.specs.Workspaces.{AreAllRead, IsWorkspace}
+use Rattle.go_package_core.specs.package_part.Parts.{PartModel}
 use Rattle.go_snap_core.specs.Snapshots.{IsPartAt, SnapshotModel}
 use Rattle.go_submit_core.proofs.Sounds.{part_is_read}
 use Rattle.go_submit_core.proofs.batches.part_in.Goals as goal

@@ -1,5 +1,5 @@
 use Rattle.std.proofs.Common.{List, sym, ◌∙◌, subst}
-use Rattle.go_snap_core.specs.graph_core.Workspaces.{PackageModel}
+use Rattle.go_graph_core.specs.Workspaces.{PackageModel}
 use Rattle.go_snap_core.specs.Snapshots.{IsSnapshot, snapshot_with}
 use Rattle.go_submit_core.proofs.laws.one_worker.Goals as goal
 

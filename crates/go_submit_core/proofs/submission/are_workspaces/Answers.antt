@@ -1,7 +1,7 @@
 use Rattle.std.proofs.Common.{subst}
 use Rattle.std.proofs.lemmas.List.{take_all}
 use Rattle.std.proofs.lemmas.List.Elements.{All-more}
-use Rattle.go_snap_core.specs.graph_core.Workspaces.{IsWorkspace}
+use Rattle.go_graph_core.specs.Workspaces.{IsWorkspace}
 use Rattle.go_submit_core.specs.declared.submission.Submission.{Submission}
 use Rattle.go_submit_core.specs.Submitted.{AreWorkspaces}
 use Rattle.go_submit_core.proofs.submission.are_workspaces.Goals as goal

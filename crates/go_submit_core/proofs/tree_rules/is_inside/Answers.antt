@@ -1,7 +1,7 @@
 use Rattle.std.proofs.Common.{subst}
 use Rattle.std.specs.Bool.{IsTrue}
 use Rattle.go_path_core.specs.Path.{elements, IsPrefix}
-use Rattle.go_snap_core.specs.graph_core.Keeping.{tests_inside}
+use Rattle.go_graph_core.proofs.Keeping.{tests_inside}
 use Rattle.go_submit_core.proofs.tree_rules.is_inside.Goals as goal
 
 pub returns : goal.returns

@@ -1,5 +1,5 @@
 use Rattle.std.proofs.Common.{ap, ◌∙◌}
-use Rattle.go_alike_core.specs.entry_core.Showing.{with_shown}
+use Rattle.go_declared_core.specs.typexpr_core.EntryShowing.{with_shown}
 use Rattle.go_summary_core.proofs.Viewed.{exports_more}
 use Rattle.go_summary_core.proofs.view.shown_of.Goals as goal
 

@@ -1,5 +1,5 @@
 use Rattle.std.proofs.Common.{sym, subst}
-use Rattle.go_alike_core.specs.table_core.Tables.{AreOthers}
+use Rattle.go_table_core.specs.Tables.{AreOthers}
 use Rattle.go_summary_core.specs.Summaries.{path_of}
 use Rattle.go_summary_core.proofs.Viewed.{before, of_one_more, types_apart, types_more}
 use Rattle.go_summary_core.proofs.view.types_of.Goals as goal

@@ -1,5 +1,5 @@
 use Rattle.std.proofs.Common.{map, ap, subst, ◌∙◌}
-use Rattle.go_index_core.specs.Spelled.{AreSpelled, places_of}
+use Rattle.go_collections_core.specs.spelling_index.Spelled.{AreSpelled, places_of}
 use Rattle.go_table_core.proofs.indexed.field_index.Goals as goal
 
 pub returns : goal.returns

@@ -2,7 +2,7 @@ use Rattle.std.proofs.Common.{map, ap, sym, subst, ◌∙◌}
 use Rattle.std.specs.Prelude.{IfOk, IfSome}
 use Rattle.go_term_core.specs.Shapes.{shape, line_shapes}
 use Rattle.go_term_core.proofs.TermShapes.{shape_struct, shape_interface}
-use Rattle.go_index_core.specs.Spelled.{AreSpelled, places_of}
+use Rattle.go_collections_core.specs.spelling_index.Spelled.{AreSpelled, places_of}
 use Rattle.go_table_core.specs.MemberNames.{term_names}
 use Rattle.go_table_core.proofs.Listing.{fields_are, methods_are}
 use Rattle.go_table_core.proofs.indexed.term_index.Goals as goal

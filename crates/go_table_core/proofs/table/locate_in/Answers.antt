@@ -1,6 +1,6 @@
 use Rattle.std.proofs.Common.{◌≡◌, sym, ap, ◌∙◌, rules}
 use Rattle.std.proofs.lemmas.Fn.{always_returns_same}
-use Rattle.go_settle_core.specs.decl_core.Order.{place_cmp}
+use Rattle.go_term_core.specs.decl_core.Order.{place_cmp}
 use Rattle.go_table_core.proofs.Searching.{answer_none, answer_some, answer_other, same_decl-is, same_decl-apart}
 use Rattle.go_table_core.proofs.table.locate_in.Goals as goal
 

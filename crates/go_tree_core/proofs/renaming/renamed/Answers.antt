@@ -3,7 +3,7 @@ use Rattle.std.specs.Prelude.{IfOk}
 use Rattle.std.proofs.lemmas.Result.{IfOk-weaker}
 use Rattle.go_tree_nodes.specs.Shapes.{file_of}
 use Rattle.go_tree_nodes.specs.Spelling.{IsPlaced}
-use Rattle.go_tree_copies.specs.Respelled.{respelled_file}
+use Rattle.go_tree_core.specs.copies.Respelled.{respelled_file}
 use Rattle.go_tree_core.proofs.Respelling.{placed_anew}
 use Rattle.go_tree_core.proofs.renaming.renamed.Goals as goal
 

@@ -1,7 +1,7 @@
 use Rattle.std.proofs.Common.{rules, refl, get_or}
 use Rattle.std.proofs.lemmas.List.{get_or_default}
 use Rattle.std.proofs.lemmas.List.Elements.{Contains-get_or}
-use Rattle.go_cycle_core.specs.declared.edge.Edge.{Edge}
+use Rattle.go_digraph_core.specs.declared.cycle.edge.Edge.{Edge}
 use Rattle.go_type_core.proofs.Looping.{marks_none, marks_more, marks_all}
 use Rattle.go_type_core.proofs.looped.mark_loops.Goals as goal
 

@@ -1,7 +1,7 @@
 use Rattle.std.proofs.Common.{ℕ, Option, Vec}
 use Rattle.std.specs.Global.{Global}
 use Rattle.std.proofs.lemmas.Result.{IfOk-weaker}
-use Rattle.go_chain_core.specs.Chains.{AreEnds}
+use Rattle.go_digraph_core.specs.chain.Chains.{AreEnds}
 use Rattle.go_type_core.specs.mirrors.Chained.{AreRootEnds}
 use Rattle.go_type_core.proofs.Joining.{shown, named_inside, roots_of}
 use Rattle.go_type_core.proofs.roots.root_ends.Goals as goal

@@ -1,7 +1,7 @@
 use Rattle.std.proofs.Common.{List, ◌<◌, length, inr, sym, subst}
-use Rattle.go_query_core.specs.graph_core.declared.imports.ImportOutcome.TheVariants.{Package, Refused}
-use Rattle.go_query_core.specs.graph_core.Workspaces.{PackageModel}
-use Rattle.go_query_core.specs.list_core.Importing.{IsJudgedAt}
+use Rattle.go_graph_core.specs.declared.imports.ImportOutcome.TheVariants.{Package, Refused}
+use Rattle.go_graph_core.specs.Workspaces.{PackageModel}
+use Rattle.go_import_core.specs.list.Importing.{IsJudgedAt}
 use Rattle.go_query_core.proofs.Listed as listed
 use Rattle.go_type_doc_core.proofs.finding.imported_part.Goals as goal
 

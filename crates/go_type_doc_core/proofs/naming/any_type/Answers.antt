@@ -3,7 +3,7 @@ use Rattle.go_universe_core.specs.declared.Predeclared.TheVariants as universe
 use Rattle.go_term_core.specs.Shapes.{method_shapes}
 use Rattle.go_term_core.specs.Terms.{InterfaceOf, NoMethod}
 use Rattle.go_term_core.proofs.TermShapes.{shape_interface}
-use Rattle.go_query_core.specs.env_core.Found.{found_type}
+use Rattle.go_package_core.specs.env_core.Found.{found_type}
 use Rattle.go_type_doc_core.proofs.naming.any_type.Goals as goal
 
 pub returns-in-Ok-clause-ok : goal.returns-in-Ok-clause-ok

@@ -1,8 +1,8 @@
 use Rattle.std.proofs.Common.{length, sym, ap, ◌∙◌, subst}
-use Rattle.go_query_core.specs.graph_core.Packages.{AllHaveTrees}
-use Rattle.go_query_core.specs.graph_core.Workspaces.{PackageModel}
-use Rattle.go_query_core.specs.part_core.Inputs.{InputModel}
-use Rattle.go_query_core.specs.part_core.Parts.{ContentOf}
+use Rattle.go_graph_core.specs.Packages.{AllHaveTrees}
+use Rattle.go_graph_core.specs.Workspaces.{PackageModel}
+use Rattle.go_package_core.specs.package_part.Inputs.{InputModel}
+use Rattle.go_package_core.specs.package_part.Parts.{ContentOf}
 use Rattle.go_type_doc_core.proofs.Answered.{scope_is}
 use Rattle.go_type_doc_core.proofs.naming.denoted.Goals as goal
 

@@ -1,9 +1,9 @@
 use Rattle.std.proofs.Common.{map, ap, ◌∙◌}
 use Rattle.std.specs.Prelude.{option_map}
 use Rattle.std.proofs.lemmas.Result.{IfErr-weaker, IfOk-weaker}
-use Rattle.go_query_core.specs.face_core.Faces.{face_shown}
-use Rattle.go_query_core.specs.part_core.Parts.{ContentOf}
-use Rattle.go_query_core.specs.scope_core.Scopes.{denoted_of}
+use Rattle.go_summary_core.specs.declared_core.Faces.{face_shown}
+use Rattle.go_package_core.specs.package_part.Parts.{ContentOf}
+use Rattle.go_names_core.specs.scope_core.Scopes.{denoted_of}
 use Rattle.go_term_core.specs.Shapes.{shape}
 use Rattle.go_type_doc_core.proofs.Answered.{refused_own, typed_own}
 use Rattle.go_type_doc_core.proofs.naming.found_type.Goals as goal

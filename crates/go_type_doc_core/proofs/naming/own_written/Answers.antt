@@ -1,12 +1,12 @@
 use Rattle.std.proofs.Common.{List, map, ap, ◌∙◌}
-use Rattle.go_query_core.specs.entry_core.Meanings.{declared_alone}
-use Rattle.go_query_core.specs.entry_core.Outlines.{FileOutline, outline_of, outline_shown}
-use Rattle.go_query_core.specs.entry_core.Showing.{shown_in}
-use Rattle.go_query_core.specs.face_core.Written.{WrittenOf, package_written, position_of}
-use Rattle.go_query_core.specs.part_core.Inputs.{InputModel}
-use Rattle.go_query_core.specs.part_core.Parts.{package_seen, seen_by}
-use Rattle.go_query_core.specs.ready_core.Made.{all_outlines}
-use Rattle.go_query_core.specs.ready_core.Packages.{PackageIn, shows_in, trees_in}
+use Rattle.go_typexpr_core.specs.entry.Meanings.{declared_alone}
+use Rattle.go_typexpr_core.specs.entry.Outlines.{FileOutline, outline_of, outline_shown}
+use Rattle.go_typexpr_core.specs.entry.Showing.{shown_in}
+use Rattle.go_summary_core.specs.declared_core.Written.{WrittenOf, package_written, position_of}
+use Rattle.go_package_core.specs.package_part.Inputs.{InputModel}
+use Rattle.go_package_core.specs.package_part.Parts.{package_seen, seen_by}
+use Rattle.go_package_core.proofs.PrepareMade.{all_outlines}
+use Rattle.go_package_core.specs.prepare.Packages.{PackageIn, shows_in, trees_in}
 use Rattle.go_type_doc_core.specs.Naming.{types_seen}
 use Rattle.go_type_doc_core.proofs.Placed.{written_alike}
 use Rattle.go_type_doc_core.proofs.naming.own_written.Goals as goal

@@ -1,7 +1,7 @@
 use Rattle.std.proofs.Common.{ap, ◌∙◌}
 use Rattle.std.specs.Prelude.{option_map}
 use Rattle.std.proofs.lemmas.Result.{IfErr-weaker, IfOk-weaker}
-use Rattle.go_query_core.specs.summary_core.Summaries.{SummaryModel}
+use Rattle.go_summary_core.specs.Summaries.{SummaryModel}
 use Rattle.go_term_core.specs.Shapes.{shape}
 use Rattle.go_type_doc_core.proofs.Behind.{plain_none, plain_shown}
 use Rattle.go_type_doc_core.proofs.naming.plain_shown_type.Goals as goal

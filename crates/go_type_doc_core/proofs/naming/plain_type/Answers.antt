@@ -1,7 +1,7 @@
 use Rattle.std.proofs.Common.{sym, inr}
 use Rattle.std.specs.Prelude.{option_map}
 use Rattle.std.proofs.lemmas.Result.{IfErr-weaker, IfOk-weaker}
-use Rattle.go_query_core.specs.scope_core.Scopes.{denoted_of}
+use Rattle.go_names_core.specs.scope_core.Scopes.{denoted_of}
 use Rattle.go_term_core.specs.Shapes.{shape}
 use Rattle.go_type_doc_core.proofs.Answered.{refused_in, typed_in, undeclared}
 use Rattle.go_type_doc_core.proofs.naming.plain_type.Goals as goal

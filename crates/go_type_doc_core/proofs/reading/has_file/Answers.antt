@@ -1,6 +1,6 @@
 use Rattle.std.proofs.Common.{length, nat_lt, ap, ◌∙◌}
-use Rattle.go_query_core.specs.graph_core.Workspaces.{PackageModel}
-use Rattle.go_query_core.specs.part_core.Inputs.{InputModel}
+use Rattle.go_graph_core.specs.Workspaces.{PackageModel}
+use Rattle.go_package_core.specs.package_part.Inputs.{InputModel}
 use Rattle.go_type_doc_core.proofs.reading.has_file.Goals as goal
 
 pub returns : goal.returns

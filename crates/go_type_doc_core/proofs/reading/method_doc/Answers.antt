@@ -1,6 +1,6 @@
 use Rattle.std.proofs.Common.{ℕ, List, refl, inl, inr, sym, ◌∙◌, subst}
 use Rattle.std.proofs.lemmas.Result.{IfOk-weaker, on_ok_weaker}
-use Rattle.go_query_core.specs.snap_core.Snapshots.{IsPartAt}
+use Rattle.go_snap_core.specs.Snapshots.{IsPartAt}
 use Rattle.go_type_doc_core.specs.Comments.{IsMethodDoc}
 use Rattle.go_type_doc_core.proofs.Kept.{path_at}
 use Rattle.go_type_doc_core.proofs.reading.method_doc.Goals as goal

@@ -1,7 +1,7 @@
 use Rattle.std.proofs.Common.{List, ◌<◌, length, sym, ap, ◌∙◌, subst}
-use Rattle.go_query_core.specs.graph_core.Sources.{SourceModel}
-use Rattle.go_query_core.specs.graph_core.Workspaces.{PackageModel}
-use Rattle.go_query_core.specs.part_core.Inputs.{InputModel}
+use Rattle.go_graph_core.specs.Sources.{SourceModel}
+use Rattle.go_graph_core.specs.Workspaces.{PackageModel}
+use Rattle.go_package_core.specs.package_part.Inputs.{InputModel}
 use Rattle.go_type_doc_core.specs.mirrors.Read.{AreRead, read_shown}
 use Rattle.go_type_doc_core.proofs.Kept.{just_read, part_doc_of, read_put}
 use Rattle.go_type_doc_core.proofs.reading.read_doc.Goals as goal

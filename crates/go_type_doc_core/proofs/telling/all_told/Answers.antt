@@ -1,7 +1,7 @@
 use Rattle.std.proofs.Common.{map, sym, ap, ◌∙◌}
 use Rattle.std.proofs.lemmas.List.{map-append}
 use Rattle.std.specs.Vec.Iter.{into_iter_items}
-use Rattle.go_member_core.specs.Members.{type_member_shown}
+use Rattle.go_type_doc_core.specs.members.Members.{type_member_shown}
 use Rattle.go_type_doc_core.specs.TypeDocs.{member_shown}
 use Rattle.go_type_doc_core.proofs.Zipped.{ended, nothing_left, one_more}
 use Rattle.go_type_doc_core.proofs.telling.all_told.Goals as goal

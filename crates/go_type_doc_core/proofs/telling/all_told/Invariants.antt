@@ -1,6 +1,6 @@
 use Rattle.std.proofs.Common.{map}
 use Rattle.std.specs.Vec.Iter.{into_iter_items}
-use Rattle.go_member_core.specs.Members.{type_member_shown}
+use Rattle.go_type_doc_core.specs.members.Members.{type_member_shown}
 use Rattle.go_type_doc_core.specs.TypeDocs.{member_shown}
 use Rattle.go_type_doc_core.specs.mirrors.Read.{AreRead}
 use Rattle.go_type_doc_core.proofs.Zipped.{SoFar}

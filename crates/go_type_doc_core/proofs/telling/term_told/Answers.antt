@@ -1,6 +1,6 @@
 use Rattle.std.proofs.Common.{map}
 use Rattle.std.proofs.lemmas.Result.{IfOk-weaker}
-use Rattle.go_member_core.specs.Members.{type_member_shown}
+use Rattle.go_type_doc_core.specs.members.Members.{type_member_shown}
 use Rattle.go_type_doc_core.proofs.telling.term_told.Goals as goal
 
 pub returns : goal.returns

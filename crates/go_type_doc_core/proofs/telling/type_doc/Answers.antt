@@ -1,11 +1,11 @@
 use Rattle.std.proofs.Common.{List, map, ap, ◌∙◌, subst}
 use Rattle.std.specs.Prelude.{option_map}
-use Rattle.go_query_core.specs.graph_core.Packages.{IsPackageName, trees_of}
-use Rattle.go_query_core.specs.graph_core.Sources.{SourceModel}
-use Rattle.go_query_core.specs.graph_core.Workspaces.{PackageModel}
+use Rattle.go_graph_core.specs.Packages.{IsPackageName, trees_of}
+use Rattle.go_graph_core.specs.Sources.{SourceModel}
+use Rattle.go_graph_core.specs.Workspaces.{PackageModel}
 use Rattle.go_term_core.specs.Shapes.{shape}
-use Rattle.go_member_core.specs.table_core.Entries.{Entry}
-use Rattle.go_query_core.specs.part_core.Inputs.{InputModel}
+use Rattle.go_summary_core.specs.table_core.Entries.{Entry}
+use Rattle.go_package_core.specs.package_part.Inputs.{InputModel}
 use Rattle.go_type_doc_core.specs.TypeDocs.{AreTold, member_shown}
 use Rattle.go_type_doc_core.proofs.telling.type_doc.Goals as goal
 

@@ -1,6 +1,6 @@
 use Rattle.std.proofs.Common.{◌∙◌}
 use Rattle.std.proofs.lemmas.Result.{IfErr-weaker, IfOk-weaker}
-use Rattle.go_query_core.specs.part_core.Inputs.{path_in}
+use Rattle.go_package_core.specs.package_part.Inputs.{path_in}
 use Rattle.go_query_core.proofs.Documented.{is_other}
 use Rattle.go_query_core.proofs.Listed.{part_in_range}
 use Rattle.go_type_doc_core.specs.TypeDocs.{type_doc_shown}

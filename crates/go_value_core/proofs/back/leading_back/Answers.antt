@@ -1,9 +1,9 @@
 use Rattle.std.proofs.Common.{◌≡◌, ◌<◌, ℕ, List, ◌∙◌, sym, ap, length, get_or, subst, arith, All}
-use Rattle.go_cycle_core.specs.declared.edge.Edge.{Edge}
-use Rattle.go_cycle_core.specs.Cycle.{InRange, IsRanking}
-use Rattle.go_needs_core.specs.Needs.{rows_of, needed, edges_from}
-use Rattle.go_needs_core.proofs.Reading.{rows_count, row_read}
-use Rattle.go_needs_core.proofs.Edges.{edges_inside, row_inside}
+use Rattle.go_digraph_core.specs.declared.cycle.edge.Edge.{Edge}
+use Rattle.go_digraph_core.specs.cycle.Cycle.{InRange, IsRanking}
+use Rattle.go_digraph_core.specs.needs.Needs.{rows_of, needed, edges_from}
+use Rattle.go_digraph_core.proofs.NeedsReading.{rows_count, row_read}
+use Rattle.go_digraph_core.proofs.NeedsEdges.{edges_inside, row_inside}
 use Rattle.go_value_core.proofs.Backward.{flagged_from}
 use Rattle.go_value_core.proofs.back.leading_back.Goals as goal
 

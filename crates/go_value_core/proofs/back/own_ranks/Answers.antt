@@ -1,7 +1,7 @@
 use Rattle.std.proofs.Common.{◌≡◌, ◌<◌, ℕ, List, All, length, ◌∙◌, sym, ap, subst}
-use Rattle.go_needs_core.specs.Needs.{rows_of, needed}
-use Rattle.go_needs_core.proofs.Reading.{rows_count, row_read}
-use Rattle.go_needs_core.proofs.Edges.{row_inside}
+use Rattle.go_digraph_core.specs.needs.Needs.{rows_of, needed}
+use Rattle.go_digraph_core.proofs.NeedsReading.{rows_count, row_read}
+use Rattle.go_digraph_core.proofs.NeedsEdges.{row_inside}
 use Rattle.go_value_core.proofs.back.own_ranks.Goals as goal
 
 pub has_own_rank-requires-clause-row : goal.has_own_rank-requires-clause-row

@@ -1,5 +1,5 @@
 use Rattle.std.proofs.Common.{◌≡◌, ◌++◌, drop}
-use Rattle.go_needs_core.specs.Needs.{rows_of}
+use Rattle.go_digraph_core.specs.needs.Needs.{rows_of}
 use Rattle.go_value_core.specs.mirrors.Flags.{flags_from}
 use Rattle.go_value_core.proofs.back.own_ranks.Given as goal
 

@@ -1,8 +1,8 @@
 use Rattle.std.proofs.Common.{ap, sym, ◌∙◌, map}
 use Rattle.go_tree_nodes.specs.declared.exprs.CallExpr.{out-CallExpr}
 use Rattle.go_tree_nodes.specs.Shapes.{shape, items_of}
-use Rattle.go_env_core.specs.expr_core.Needed.{needed_idents, needed_by_args}
-use Rattle.go_env_core.specs.expr_core.Steps.{ok_adds, ok_both}
+use Rattle.go_stmt_core.specs.expr_core.Needed.{needed_idents, needed_by_args}
+use Rattle.go_stmt_core.specs.expr_core.Steps.{ok_adds, ok_both}
 use Rattle.go_value_core.proofs.Walking.{call_has, literal_has, struct_has}
 use Rattle.go_value_core.proofs.idents.+exprs.Goals as goal
 

@@ -1,6 +1,6 @@
 use Rattle.std.proofs.Common.{◌≡◌, [], ◌∷◌, ◌++◌, ap, ◌∙◌}
-use Rattle.go_env_core.specs.denote_core.Arguments.{arguments_of}
-use Rattle.go_env_core.specs.denote_core.Look.{look_of}
+use Rattle.go_stmt_core.specs.denote_core.Arguments.{arguments_of}
+use Rattle.go_stmt_core.specs.denote_core.Look.{look_of}
 use Rattle.go_value_core.specs.mirrors.Own.{one_of}
 use Rattle.go_value_core.proofs.initial.given_alone.Goals as goal
 

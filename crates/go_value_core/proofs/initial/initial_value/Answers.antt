@@ -1,6 +1,6 @@
 use Rattle.std.proofs.Common.{◌≡◌, ◌<◌, ◌≤◌, ap, sym, ◌∙◌, arith}
 use Rattle.go_tree_nodes.specs.Shapes.{shape_value_spec}
-use Rattle.go_env_core.specs.expr_core.Looks.{everywhere}
+use Rattle.go_stmt_core.specs.expr_core.Looks.{everywhere}
 use Rattle.go_value_core.specs.Initial.{spec_name_count}
 use Rattle.go_value_core.proofs.Owning.{initial_from, initial_past}
 use Rattle.go_value_core.proofs.initial.initial_value.Goals as goal

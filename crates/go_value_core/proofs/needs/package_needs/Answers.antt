@@ -1,6 +1,6 @@
 use Rattle.std.proofs.Common.{◌≡◌, [], ◌∷◌, ◌++◌, map, refl, ap, ◌∙◌}
-use Rattle.go_needs_core.specs.Needs.{rows_of}
-use Rattle.go_env_core.specs.expr_core.TypeTurns.{step}
+use Rattle.go_digraph_core.specs.needs.Needs.{rows_of}
+use Rattle.go_stmt_core.specs.expr_core.TypeTurns.{step}
 use Rattle.go_env_core.specs.Scenes.{scene_shown}
 use Rattle.go_value_core.specs.declared.placed.PlacedDecl.{PlacedDecl}
 use Rattle.go_value_core.specs.Package.{decl_needs, package_needs, placed_shown}

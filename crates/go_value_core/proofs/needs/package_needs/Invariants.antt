@@ -1,5 +1,5 @@
 use Rattle.std.proofs.Common.{◌≡◌, ◌++◌, map, drop}
-use Rattle.go_needs_core.specs.Needs.{rows_of}
+use Rattle.go_digraph_core.specs.needs.Needs.{rows_of}
 use Rattle.go_env_core.specs.Scenes.{scene_shown}
 use Rattle.go_value_core.specs.Package.{package_needs, placed_shown}
 use Rattle.go_value_core.proofs.needs.package_needs.Given as goal

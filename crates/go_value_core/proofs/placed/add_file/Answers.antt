@@ -1,8 +1,8 @@
 use Rattle.std.proofs.Common.{◌≡◌, [], ◌∷◌, map, refl, ap, ◌∙◌}
 use Rattle.std.proofs.lemmas.List.{map-append}
-use Rattle.go_env_core.specs.decl_core.declared.tops.TopDecl.{TopDecl}
-use Rattle.go_env_core.specs.decl_core.Shown.{decl_shown}
-use Rattle.go_env_core.specs.expr_core.TypeTurns.{step}
+use Rattle.go_term_core.specs.decl_core.declared.tops.TopDecl.{TopDecl}
+use Rattle.go_term_core.specs.decl_core.Shown.{decl_shown}
+use Rattle.go_stmt_core.specs.expr_core.TypeTurns.{step}
 use Rattle.go_value_core.specs.Package.{placed, placed_shown}
 use Rattle.go_value_core.proofs.placed.add_file.Goals as goal
 

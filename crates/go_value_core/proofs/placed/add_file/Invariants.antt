@@ -1,5 +1,5 @@
 use Rattle.std.proofs.Common.{◌≡◌, ◌++◌, map, drop}
-use Rattle.go_env_core.specs.decl_core.Shown.{decl_shown}
+use Rattle.go_term_core.specs.decl_core.Shown.{decl_shown}
 use Rattle.go_value_core.specs.Package.{placed, placed_shown}
 use Rattle.go_value_core.proofs.placed.add_file.Given as goal
 

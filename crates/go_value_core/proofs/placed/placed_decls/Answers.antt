@@ -1,6 +1,6 @@
 use Rattle.std.proofs.Common.{◌≡◌, ◌++◌, ◌<◌, [], length, map, ap, ◌∙◌, arith}
 use Rattle.std.proofs.lemmas.List.{get_or_default}
-use Rattle.go_env_core.specs.decl_core.Shown.{decl_shown}
+use Rattle.go_term_core.specs.decl_core.Shown.{decl_shown}
 use Rattle.go_value_core.specs.Package.{placed, placed_shown}
 use Rattle.go_value_core.proofs.Placing.{files_step}
 use Rattle.go_value_core.proofs.placed.placed_decls.Goals as goal

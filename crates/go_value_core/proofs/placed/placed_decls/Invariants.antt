@@ -1,5 +1,5 @@
 use Rattle.std.proofs.Common.{◌≡◌, map, take}
-use Rattle.go_env_core.specs.entry_core.Outlines.{outline_shown}
+use Rattle.go_typexpr_core.specs.entry.Outlines.{outline_shown}
 use Rattle.go_value_core.specs.Package.{placed_shown, placed_decls}
 use Rattle.go_value_core.proofs.placed.placed_decls.Given as goal
 

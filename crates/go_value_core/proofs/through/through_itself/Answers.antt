@@ -1,8 +1,8 @@
 use Rattle.std.proofs.Common.{◌≡◌, map, length, ap, sym, ◌∙◌, subst}
 use Rattle.std.proofs.lemmas.List.{length-map}
-use Rattle.go_needs_core.specs.Needs.{NeedsAreInside, rows_of}
+use Rattle.go_digraph_core.specs.needs.Needs.{NeedsAreInside, rows_of}
 use Rattle.go_env_core.specs.Scenes.{scene_shown}
-use Rattle.go_env_core.specs.entry_core.Outlines.{outline_shown}
+use Rattle.go_typexpr_core.specs.entry.Outlines.{outline_shown}
 use Rattle.go_value_core.specs.Package.{placed_decls, placed_shown, package_needs}
 use Rattle.std.specs.Prelude.{IfOk}
 use Rattle.go_value_core.specs.mirrors.Kept.{constant_flags}

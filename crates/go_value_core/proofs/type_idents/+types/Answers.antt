@@ -7,7 +7,7 @@ use Rattle.go_tree_nodes.specs.declared.types.«Param» as declared_param
 use Rattle.go_tree_nodes.specs.declared.types.Params.{out-Params}
 use Rattle.go_tree_nodes.proofs.TypeShapes.{shape_struct, shape_interface}
 use Rattle.go_tree_nodes.proofs.IdentLemmas.{signature_has, listed_has}
-use Rattle.go_env_core.specs.expr_core.Steps.{ok_adds, ok_both}
+use Rattle.go_stmt_core.specs.expr_core.Steps.{ok_adds, ok_both}
 use Rattle.go_value_core.proofs.Walking.{lines_more, methods_more, params_more}
 use Rattle.go_value_core.proofs.type_idents.+types.Goals as goal
 use Rattle.go_tree_nodes.specs.Idents.{type_idents, fields_idents, methods_idents, signature_type_idents, params_idents, result_type_idents}

@@ -1,6 +1,6 @@
 use Rattle.std.proofs.Common.{◌≡◌, ◌++◌, refl}
 use Rattle.std.specs.Prelude.{codes, string_bytes}
-use Rattle.go_text_core.specs.Rules.{rule_number}
+use Rattle.go_path_core.specs.text_core.Rules.{rule_number}
 use Rattle.go_explain_core.specs.Meanings.{rule_meaning}
 use Rattle.go_explain_core.proofs.LineLemmas.{begun, ended, more}
 use Rattle.govisd_disk.specs.Notes.{told_name}

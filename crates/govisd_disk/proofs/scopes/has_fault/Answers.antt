@@ -1,6 +1,6 @@
 use Rattle.std.proofs.Common.{◌∙◌, ℕ, List, Option, false, ap, sym}
 use Rattle.std.specs.Option.{option_map_or}
-use Rattle.go_snap_core.specs.graph_core.Sources.{SourceModel}
+use Rattle.go_graph_core.specs.Sources.{SourceModel}
 use Rattle.govisd_disk.specs.Scopes.{ScopeModel, has_file}
 use Rattle.govisd_disk.proofs.ScopeLemmas.{none_from, some_from}
 use Rattle.govisd_disk.proofs.scopes.has_fault.Goals as goal

@@ -1,7 +1,7 @@
 use Rattle.std.proofs.Common.{◌++◌, ◌≡◌, refl}
 use Rattle.std.specs.Prelude.{codes, decimal, string_bytes}
 use Rattle.go_explain_core.proofs.LineLemmas.{begun, ended, more}
-use Rattle.go_text_core.specs.Rules.{rule_number}
+use Rattle.go_path_core.specs.text_core.Rules.{rule_number}
 use Rattle.govisd_folders.specs.Telling.{level_text}
 use Rattle.govisd_folders.proofs.lines.push_command.Goals as goal
 

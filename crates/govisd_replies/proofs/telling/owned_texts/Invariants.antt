@@ -1,5 +1,5 @@
 use Rattle.std.proofs.Common.{◌≡◌, take}
-use Rattle.go_look_core.specs.shown_core.Shown.{texts}
+use Rattle.go_summary_core.specs.shown.Shown.{texts}
 use Rattle.govisd_replies.proofs.telling.owned_texts.Given as goal
 
 abbrev pub invariant-loop-text : goal.invariant-loop-text

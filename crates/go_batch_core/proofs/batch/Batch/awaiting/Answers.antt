@@ -1,9 +1,9 @@
 use Rattle.std.proofs.Common.{◌≡◌, ℕ, Option, Some, true, false, sym, ap, ◌∙◌, subst, arith}
 use Rattle.std.specs.Prelude.{MatchOption}
 use Rattle.std.proofs.lemmas.Option.{slice_get-get_or}
-use Rattle.go_snap_core.specs.graph_core.Workspaces.{AreAllRead}
-use Rattle.go_snap_core.specs.part_core.Inputs.{InputModel}
-use Rattle.go_snap_core.specs.part_core.Parts.{PartModel}
+use Rattle.go_block_core.specs.graph_core.Workspaces.{AreAllRead}
+use Rattle.go_package_core.specs.package_part.Inputs.{InputModel}
+use Rattle.go_package_core.specs.package_part.Parts.{PartModel}
 use Rattle.go_batch_core.specs.declared.slot.Slot.TheVariants.{Taken}
 use Rattle.go_batch_core.specs.Batches.{Awaits, BatchModel, IsForeign}
 use Rattle.go_batch_core.proofs.Steps.{foreign_none, foreign_other, place_within, read_slot}

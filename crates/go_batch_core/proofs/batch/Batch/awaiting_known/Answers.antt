@@ -1,8 +1,8 @@
 use Rattle.std.proofs.Common.{◌≡◌, ℕ, Option, Some, sym, ap, ◌∙◌, subst, arith}
 use Rattle.std.specs.Prelude.{MatchOption, slice_get}
 use Rattle.std.proofs.lemmas.Option.{slice_get-get_or}
-use Rattle.go_snap_core.specs.part_core.Inputs.{InputModel}
-use Rattle.go_snap_core.specs.part_core.Parts.{PartModel}
+use Rattle.go_package_core.specs.package_part.Inputs.{InputModel}
+use Rattle.go_package_core.specs.package_part.Parts.{PartModel}
 use Rattle.go_batch_core.specs.declared.slot.Slot.{Slot}
 use Rattle.go_batch_core.specs.declared.slot.Slot.TheVariants.{Taken}
 use Rattle.go_batch_core.specs.Batches.{Awaits, BatchModel, IsForeign, IsKnown}

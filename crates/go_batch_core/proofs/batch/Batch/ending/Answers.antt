@@ -1,5 +1,5 @@
 use Rattle.std.proofs.Common.{◌≡◌, sym, ap, ◌∙◌, subst}
-use Rattle.go_snap_core.specs.part_core.Parts.{PartModel}
+use Rattle.go_package_core.specs.package_part.Parts.{PartModel}
 use Rattle.go_batch_core.specs.Batches.{Awaits, tell}
 use Rattle.go_batch_core.proofs.batch.Batch.ending.Goals as goal
 

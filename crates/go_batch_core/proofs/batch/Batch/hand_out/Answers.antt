@@ -1,7 +1,7 @@
 use Rattle.std.proofs.Common.{sym, subst, arith}
 use Rattle.std.specs.Prelude.{vec_capacity}
 use Rattle.std.proofs.lemmas.Option.{slice_get_within}
-use Rattle.go_snap_core.specs.whole_core.Inputs.{IsInputAt}
+use Rattle.go_snap_core.specs.whole_workspace.Inputs.{IsInputAt}
 use Rattle.go_batch_core.specs.declared.slot.Slot.TheVariants.{Untaken}
 use Rattle.go_batch_core.specs.Batches.{BatchModel, IsReady}
 use Rattle.go_batch_core.proofs.Steps.{kept_taken, turns_from_ready}

@@ -1,5 +1,5 @@
 use Rattle.std.proofs.Common.{sym, subst}
-use Rattle.go_snap_core.specs.whole_core.Inputs.{HasReached}
+use Rattle.go_snap_core.specs.whole_workspace.Inputs.{HasReached}
 use Rattle.go_batch_core.specs.Batches.{BatchModel, IsReady}
 use Rattle.go_batch_core.proofs.Steps.{has_reached}
 use Rattle.go_batch_core.proofs.batch.Batch.has_reached.Goals as goal

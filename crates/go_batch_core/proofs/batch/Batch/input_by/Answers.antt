@@ -1,8 +1,8 @@
 use Rattle.std.proofs.Common.{List, Option, length, sym, ap, ◌∙◌, subst}
-use Rattle.go_snap_core.specs.part_core.Parts.{PartModel}
-use Rattle.go_snap_core.specs.whole_core.Inputs.{HasReached, IsInputAt}
+use Rattle.go_package_core.specs.package_part.Parts.{PartModel}
+use Rattle.go_snap_core.specs.whole_workspace.Inputs.{HasReached, IsInputAt}
 use Rattle.go_batch_core.specs.Batches.{BatchModel, IsReady}
-use Rattle.go_snap_core.specs.graph_core.Plans.{AreReached, IsPlan, PlanModel}
+use Rattle.go_block_core.specs.graph_core.Plans.{AreReached, IsPlan, PlanModel}
 use Rattle.go_batch_core.proofs.Steps.{assembled_at, has_reached}
 use Rattle.go_batch_core.proofs.batch.Batch.input_by.Goals as goal
 

@@ -1,16 +1,23 @@
 use Rattle.std.proofs.Common.{List, sym, ap, ◌∙◌, subst}
 use Rattle.std.specs.Prelude.{slice_get}
-use Rattle.go_snap_core.specs.graph_core.Workspaces.{PackageModel}
-use Rattle.go_snap_core.specs.whole_core.Inputs.{IsInputAt}
+use Rattle.go_block_core.specs.graph_core.Workspaces.{PackageModel}
+use Rattle.go_snap_core.specs.whole_workspace.Inputs.{IsInputAt}
 use Rattle.go_batch_core.specs.Batches.{BatchModel}
+use Rattle.go_batch_core.proofs.Once.{local_at}
 use Rattle.go_batch_core.proofs.Steps.{read_at}
 use Rattle.go_batch_core.proofs.batch.Batch.next_with.Goals as goal
 
-pub new-requires : goal.new-requires
-new-requires c =
+pub new-requires-clause-read : goal.new-requires-clause-read
+new-requires-clause-read c =
     let i = c.self.inside in
     let at = ap (λ (l : List PackageModel). slice_get l c.args.place) (ap (λ (b : BatchModel). b.sources) c.self.view_is) ∙ c.requires.input.numbered in
     read_at i.sources c.args.place c.args.input.source c.self.invariant.plans.well at
+
+pub new-requires-clause-local : goal.new-requires-clause-local
+new-requires-clause-local c =
+    let i = c.self.inside in
+    let at = subst (λ (b : BatchModel). IsInputAt b.sources b.parts c.args.place c.args.input) (sym c.self.view_is) c.requires.input in
+    local_at i.sources i.slots.items i.parts c.self.invariant.plans.well c.self.invariant.right c.inputs_are_local.ensures i.plan c.self.invariant.plans.planned c.args.place c.args.input at
 
 pub returns-clause-next : goal.returns-clause-next
 returns-clause-next c = record {

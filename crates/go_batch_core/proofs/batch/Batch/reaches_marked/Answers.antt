@@ -1,7 +1,7 @@
 use Rattle.std.proofs.Common.{ℕ, List, sym, ap, ◌∙◌, subst}
 use Rattle.std.specs.Prelude.{Contains, slice_get}
-use Rattle.go_snap_core.specs.graph_core.Workspaces.{PackageModel}
-use Rattle.go_snap_core.specs.whole_core.Inputs.{ReachesPackage}
+use Rattle.go_block_core.specs.graph_core.Workspaces.{PackageModel}
+use Rattle.go_snap_core.specs.whole_workspace.Inputs.{ReachesPackage}
 use Rattle.go_batch_core.specs.Batches.{BatchModel}
 use Rattle.go_batch_core.proofs.Reaching.{in_reached}
 use Rattle.go_batch_core.proofs.batch.Batch.reaches_marked.Goals as goal

@@ -1,7 +1,7 @@
 use Rattle.std.proofs.Common.{◌≡◌, List, Option, sym, ap, ◌∙◌, subst}
-use Rattle.go_snap_core.specs.graph_core.Workspaces.{PackageModel}
-use Rattle.go_snap_core.specs.part_core.Parts.{PartModel}
-use Rattle.go_snap_core.specs.whole_core.Inputs.{AreParts}
+use Rattle.go_block_core.specs.graph_core.Workspaces.{PackageModel}
+use Rattle.go_package_core.specs.package_part.Parts.{PartModel}
+use Rattle.go_snap_core.specs.whole_workspace.Inputs.{AreParts}
 use Rattle.go_batch_core.specs.Batches.{actions_left, unfinished}
 use Rattle.go_batch_core.proofs.Steps.{all_parts}
 use Rattle.go_batch_core.proofs.batch.Batch.snapshot.Goals as goal

@@ -1,11 +1,11 @@
 use Rattle.std.proofs.Common.{◌≡◌, List, Option, Some, set, refl, sym, ap, ◌∙◌, subst, arith}
 use Rattle.std.specs.Prelude.{slice_get}
-use Rattle.go_snap_core.specs.graph_core.Workspaces.{PackageModel}
-use Rattle.go_snap_core.specs.part_core.Parts.{PartModel}
-use Rattle.go_snap_core.specs.whole_core.Inputs.{AreParts}
+use Rattle.go_block_core.specs.graph_core.Workspaces.{PackageModel}
+use Rattle.go_package_core.specs.package_part.Parts.{PartModel}
+use Rattle.go_snap_core.specs.whole_workspace.Inputs.{AreParts}
 use Rattle.go_batch_core.specs.declared.slot.Slot.TheVariants.{Taken, Finished}
 use Rattle.go_batch_core.specs.Batches.{Awaits, BatchModel, actions_left, unfinished}
-use Rattle.go_snap_core.specs.part_core.Parts.{IsPart}
+use Rattle.go_package_core.specs.package_part.Parts.{IsPart}
 use Rattle.go_batch_core.proofs.Steps.{all_parts, right_finished, left_less}
 use Rattle.go_batch_core.proofs.batch.Batch.snapshot_with.Goals as goal
 

@@ -1,5 +1,5 @@
 use Rattle.std.proofs.Common.{length, sym, ap, ◌∙◌, subst}
-use Rattle.go_snap_core.specs.graph_core.Plans.{AreReached, IsPlan, PlanModel}
+use Rattle.go_block_core.specs.graph_core.Plans.{AreReached, IsPlan, PlanModel}
 use Rattle.go_batch_core.proofs.planned.Planned.of.Goals as goal
 
 pub returns : goal.returns

@@ -1,5 +1,5 @@
 use Rattle.std.proofs.Common.{sym, ap, ◌∙◌, subst}
-use Rattle.go_snap_core.specs.graph_core.Workspaces.{IsWorkspace}
+use Rattle.go_block_core.specs.graph_core.Workspaces.{IsWorkspace}
 use Rattle.go_snap_core.specs.Staying.{StaysWhere}
 use Rattle.go_batch_core.specs.Steadiness.{SteadyModel}
 use Rattle.go_batch_core.proofs.Leaving.{left_stays}

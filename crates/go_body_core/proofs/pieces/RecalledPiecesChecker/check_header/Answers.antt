@@ -1,6 +1,6 @@
 use Rattle.std.proofs.Common.{map}
-use Rattle.go_env_core.specs.names_core.Body.{func_idents, func_header}
-use Rattle.go_env_core.specs.piece_core.Pieces.{piece_values}
+use Rattle.go_names_core.specs.Body.{func_idents, func_header}
+use Rattle.go_stmt_core.specs.piece.Pieces.{piece_values}
 use Rattle.go_body_core.specs.mirrors.Noted.{looks_at}
 use Rattle.go_body_core.proofs.Standing.{by_rules, if_ok}
 use Rattle.go_body_core.proofs.Meaning.{lent, means_by}

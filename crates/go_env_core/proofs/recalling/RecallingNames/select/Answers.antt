@@ -1,6 +1,6 @@
 use Rattle.std.proofs.Common.{List, sym, subst}
-use Rattle.go_level_core.specs.Selectors.{IsSelectorAnswer}
-use Rattle.go_face_core.specs.table_core.Entries.{Entry, find_entry}
+use Rattle.go_select_core.specs.levels.Selectors.{IsSelectorAnswer}
+use Rattle.go_table_core.specs.Entries.{Entry, find_entry}
 use Rattle.go_env_core.proofs.recalling.RecallingNames.select.Goals as goal
 
 pub returns-in-Some : goal.returns-in-Some

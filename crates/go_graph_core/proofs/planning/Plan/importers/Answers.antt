@@ -1,6 +1,6 @@
 use Rattle.std.proofs.Common.{◌≡◌, [], length, map, sym, subst}
 use Rattle.std.specs.Arc.{arc_value}
-use Rattle.go_reach_core.specs.cycle_core.Cycle.{InRange}
+use Rattle.go_digraph_core.specs.cycle.Cycle.{InRange}
 use Rattle.go_graph_core.specs.Plans.{AreImporters, outcomes_shown, plan_of}
 use Rattle.go_graph_core.specs.mirrors.Targets.{edges_from}
 use Rattle.go_graph_core.proofs.PlanReach.{passing_range, ok_weaker}

@@ -1,8 +1,8 @@
 use Rattle.std.proofs.Common.{sym, ap, ◌∙◌}
 use Rattle.std.specs.Prelude.{length}
 use Rattle.go_term_core.specs.Shapes.{param_shapes as shown}
-use Rattle.go_decide_core.specs.table_core.Entries.{find_entry}
-use Rattle.go_decide_core.specs.Rules.{param_types_of}
+use Rattle.go_table_core.specs.Entries.{find_entry}
+use Rattle.go_handle_core.specs.deciding.Rules.{param_types_of}
 use Rattle.go_handle_core.proofs.Listed.{typed_length}
 use Rattle.go_handle_core.proofs.signatures.SignatureRef.param_count.Goals as goal
 

@@ -1,8 +1,8 @@
 use Rattle.std.proofs.Common.{sym, ap, ◌∙◌, ◌<◌, subst}
 use Rattle.std.specs.Prelude.{length, slice_get, Some}
 use Rattle.go_term_core.specs.Shapes.{shape_found, param_shapes as shown}
-use Rattle.go_decide_core.specs.table_core.Entries.{find_entry}
-use Rattle.go_decide_core.specs.Rules.{results_of}
+use Rattle.go_table_core.specs.Entries.{find_entry}
+use Rattle.go_handle_core.specs.deciding.Rules.{results_of}
 use Rattle.go_handle_core.proofs.Listed.{typed_length, typed_at}
 use Rattle.go_handle_core.proofs.signatures.SignatureRef.result_at.Goals as goal
 

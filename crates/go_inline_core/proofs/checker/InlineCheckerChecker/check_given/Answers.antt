@@ -1,5 +1,5 @@
 use Rattle.go_names_core.specs.Scope.{open_look}
-use Rattle.go_entry_core.specs.written_core.Written.{in_file}
+use Rattle.go_typexpr_core.specs.written.Written.{in_file}
 use Rattle.go_inline_core.specs.Functions.{inlines_in, scoped_outside}
 use Rattle.go_inline_core.proofs.NoteLemmas.{noted_all}
 use Rattle.go_inline_core.proofs.checker.InlineCheckerChecker.check_given.Goals as goal

@@ -1,7 +1,7 @@
 use Rattle.go_tree_nodes.specs.TypeShapes.{shape_idents}
 use Rattle.go_names_core.specs.local_core.Outline.{idents}
 use Rattle.go_names_core.specs.Scope.{open_look}
-use Rattle.go_entry_core.specs.written_core.Written.{in_file}
+use Rattle.go_typexpr_core.specs.written.Written.{in_file}
 use Rattle.go_inline_core.specs.Functions.{inlines_in, scoped_outside}
 use Rattle.go_inline_core.proofs.LocalLemmas.{means_by}
 use Rattle.go_inline_core.proofs.NoteLemmas.{noted_list, when_ok}

@@ -1,7 +1,7 @@
 use Rattle.std.proofs.Common.{◌≡◌, [], ◌∷◌, ◌++◌, false, refl, subst}
 use Rattle.std.specs.Result.{OnOk}
 use Rattle.go_scope_core.specs.Scopes.{with_open}
-use Rattle.go_walk_core.specs.local_core.Steps.{Declare, EachFirst}
+use Rattle.go_local_core.specs.Steps.{Declare, EachFirst}
 use Rattle.go_names_core.specs.Body.{func_idents, func_header}
 use Rattle.go_names_core.specs.mirrors.States.{state, IsAhead}
 use Rattle.go_names_core.proofs.BodyLemmas.{when_ok}

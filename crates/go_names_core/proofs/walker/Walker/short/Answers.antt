@@ -3,8 +3,8 @@ use Rattle.go_tree_nodes.specs.Shapes.{shape_exprs}
 use Rattle.go_tree_nodes.specs.TypeShapes.{shape_idents}
 use Rattle.go_tree_nodes.specs.Trees.{Define}
 use Rattle.go_tree_nodes.specs.Spelling.{spell_simple}
-use Rattle.go_walk_core.specs.local_core.Steps.{Act}
-use Rattle.go_walk_core.specs.local_core.Outline.{idents, end_of}
+use Rattle.go_local_core.specs.Steps.{Act}
+use Rattle.go_local_core.specs.Outline.{idents, end_of}
 use Rattle.go_names_core.proofs.StateLemmas.{declared_at}
 use Rattle.go_names_core.proofs.walker.Walker.short.Goals as goal
 

@@ -2,8 +2,8 @@ use Rattle.std.proofs.Common.{false}
 use Rattle.go_tree_nodes.specs.Shapes.{shape_value_spec}
 use Rattle.go_tree_nodes.specs.TypeShapes.{shape_idents}
 use Rattle.go_tree_nodes.specs.Spelling.{spell_value_spec}
-use Rattle.go_walk_core.specs.local_core.Steps.{Spec}
-use Rattle.go_walk_core.specs.local_core.Outline.{idents, end_of}
+use Rattle.go_local_core.specs.Steps.{Spec}
+use Rattle.go_local_core.specs.Outline.{idents, end_of}
 use Rattle.go_names_core.proofs.StateLemmas.{declared_at}
 use Rattle.go_names_core.proofs.walker.Walker.spec.Goals as goal
 

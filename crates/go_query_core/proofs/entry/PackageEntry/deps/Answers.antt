@@ -1,7 +1,7 @@
 use Rattle.std.proofs.Common.{ap, subst, ◌∙◌}
 use Rattle.std.proofs.lemmas.Result.{IfOk-weaker}
-use Rattle.go_hint_core.specs.part_core.Inputs.{InputModel}
-use Rattle.go_hint_core.specs.shown_core.Shown.{texts}
+use Rattle.go_complete_core.specs.package_core.PackagePartInputs.{InputModel}
+use Rattle.go_complete_core.specs.summary_core.ShownShown.{texts}
 use Rattle.go_query_core.specs.Entries.{EntryOf, IsEntry}
 use Rattle.go_query_core.proofs.Reaching.{shown_deps}
 use Rattle.go_query_core.proofs.entry.PackageEntry.deps.Goals as goal

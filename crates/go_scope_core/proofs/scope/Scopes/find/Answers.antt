@@ -2,10 +2,10 @@ use Rattle.std.proofs.Common.{◌≡◌, None, Some, refl, sym, ap, ◌∙◌}
 use Rattle.std.specs.Prelude.{option_copied}
 use Rattle.go_block_core.specs.Blocks.{file_binding}
 use Rattle.go_block_core.proofs.HoldingLaws.{never_hidden}
-use Rattle.go_block_core.specs.open_core.Blocks.{found_in, in_block}
+use Rattle.go_block_core.specs.scope_stack.Blocks.{found_in, in_block}
 use Rattle.go_universe_core.specs.Universe.{found}
 use Rattle.go_scope_core.specs.Scopes.{Universe, Package, File, Local, scope_blocks}
-use Rattle.go_block_core.specs.open_core.Innermost.{meanings}
+use Rattle.go_block_core.specs.scope_stack.Innermost.{meanings}
 use Rattle.go_scope_core.proofs.Lookups.{found_by_parts, file_alone}
 use Rattle.go_scope_core.proofs.scope.Scopes.find.Goals as goal
 

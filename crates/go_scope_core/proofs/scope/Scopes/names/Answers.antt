@@ -2,8 +2,8 @@ use Rattle.std.proofs.Common.{[], map, ap, ◌∙◌}
 use Rattle.std.proofs.lemmas.Result.{IfOk-weaker}
 use Rattle.go_block_core.specs.Tables.{names_in}
 use Rattle.go_block_core.specs.Blocks.{held_in}
-use Rattle.go_block_core.specs.open_core.Blocks.{all_names, list_names}
-use Rattle.go_block_core.specs.open_core.Names.{names_found, names_once}
+use Rattle.go_block_core.specs.scope_stack.Blocks.{all_names, list_names}
+use Rattle.go_block_core.specs.scope_stack.Names.{names_found, names_once}
 use Rattle.go_scope_core.specs.Models.{scopes_model}
 use Rattle.go_scope_core.specs.Scopes.{universe, scope_blocks}
 use Rattle.go_scope_core.proofs.Listed.{listed_in_turn}

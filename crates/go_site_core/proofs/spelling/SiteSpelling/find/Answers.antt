@@ -1,7 +1,7 @@
 use Rattle.std.proofs.Common.{◌≡◌, length, map, Some, slice_get, refl, sym, ap, subst, ◌∙◌}
 use Rattle.std.proofs.lemmas.Option.{same_Some, slice_get_read}
-use Rattle.go_answer_core.specs.graph_core.Sources.{SourceModel}
-use Rattle.go_answer_core.specs.graph_core.Workspaces.{PackageModel, files_at}
+use Rattle.go_graph_core.specs.Sources.{SourceModel}
+use Rattle.go_graph_core.specs.Workspaces.{PackageModel, files_at}
 use Rattle.go_site_core.specs.Sites.{held_items, located_in, offsets_in}
 use Rattle.go_site_core.proofs.Locating.{paired}
 use Rattle.go_site_core.proofs.spelling.SiteSpelling.find.Goals as goal

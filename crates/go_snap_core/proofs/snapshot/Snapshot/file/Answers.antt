@@ -1,10 +1,10 @@
 use Rattle.std.proofs.Common.{◌≡◌, ◌<◌, List, length, map, get_or, Some, All, slice_get, sym, ap, subst, ◌∙◌, arith, rules}
 use Rattle.std.proofs.lemmas.List.{length-map}
 use Rattle.std.proofs.lemmas.Option.{slice_get-get_or, slice_get_within}
-use Rattle.go_make_core.specs.graph_core.Sources.{SourceModel}
-use Rattle.go_make_core.specs.graph_core.Workspaces.{PackageModel}
-use Rattle.go_make_core.specs.part_core.Inputs.{InputModel}
-use Rattle.go_make_core.specs.part_core.Parts.{ContentOf, file_shown}
+use Rattle.go_graph_core.specs.Sources.{SourceModel}
+use Rattle.go_graph_core.specs.Workspaces.{PackageModel}
+use Rattle.go_emit_core.specs.package_core.PackagePartInputs.{InputModel}
+use Rattle.go_emit_core.specs.package_core.PackagePartParts.{ContentOf, file_shown}
 use Rattle.go_snap_core.proofs.Filed.{file_is, file_made, no_such_file, none_found}
 use Rattle.go_snap_core.proofs.Finding.{mapped_at}
 use Rattle.go_snap_core.proofs.snapshot.Snapshot.file.Goals as goal

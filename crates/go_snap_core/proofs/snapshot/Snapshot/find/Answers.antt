@@ -1,5 +1,5 @@
 use Rattle.std.proofs.Common.{subst}
-use Rattle.go_make_core.specs.graph_core.Workspaces.{IsWorkspace}
+use Rattle.go_graph_core.specs.Workspaces.{IsWorkspace}
 use Rattle.go_snap_core.proofs.Finding.{part_searched}
 use Rattle.go_snap_core.proofs.snapshot.Snapshot.find.Goals as goal
 

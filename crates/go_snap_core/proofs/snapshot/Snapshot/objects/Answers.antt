@@ -1,9 +1,9 @@
 use Rattle.std.proofs.Common.{sym, ap, subst, ◌∙◌}
-use Rattle.go_make_core.specs.graph_core.Workspaces.{IsWorkspace}
-use Rattle.go_make_core.specs.emit_core.Emitted.{AreOfDifferentPackages, objects_of}
+use Rattle.go_graph_core.specs.Workspaces.{IsWorkspace}
+use Rattle.go_emit_core.specs.Emitted.{AreOfDifferentPackages, objects_of}
 use Rattle.go_snap_core.proofs.Apart.{parts_apart}
 use Rattle.go_snap_core.proofs.snapshot.Snapshot.objects.Goals as goal
-use Rattle.go_make_core.specs.part_core.Slots.{somes}
+use Rattle.go_emit_core.specs.package_core.PackagePartSlots.{somes}
 
 pub emit_all-requires : goal.emit_all-requires
 emit_all-requires c =

@@ -1,10 +1,10 @@
 use Rattle.std.proofs.Common.{◌≡◌, List, length, map, Some, None, All, slice_get, refl, ap, subst, ◌∙◌}
 use Rattle.std.specs.List.Sorted.{IsStrictlySortedBy}
 use Rattle.std.proofs.lemmas.Option.{slice_get_past, slice_get_read}
-use Rattle.go_make_core.specs.graph_core.Sources.{SourceModel}
-use Rattle.go_make_core.specs.graph_core.Workspaces.{PackageModel, by_bytes, names_of_files}
-use Rattle.go_make_core.specs.part_core.Inputs.{InputModel}
-use Rattle.go_make_core.specs.part_core.Parts.{ContentOf, file_shown}
+use Rattle.go_graph_core.specs.Sources.{SourceModel}
+use Rattle.go_graph_core.specs.Workspaces.{PackageModel, by_bytes, names_of_files}
+use Rattle.go_emit_core.specs.package_core.PackagePartInputs.{InputModel}
+use Rattle.go_emit_core.specs.package_core.PackagePartParts.{ContentOf, file_shown}
 use Rattle.go_snap_core.proofs.Finding.{is_answer, looked_up, mapped_at, mapped_past, no_answer, no_file, no_made, none_told}
 use Rattle.go_snap_core.proofs.snapshot.Snapshot.outcome.Goals as goal
 

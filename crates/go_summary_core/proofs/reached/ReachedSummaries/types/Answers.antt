@@ -1,6 +1,6 @@
 use Rattle.std.proofs.Common.{◌≡◌, ◌<◌, ap, Some, slice_get, get_or, length, sym, subst}
 use Rattle.std.proofs.lemmas.Option.{slice_get_within, get_or_from_slice_get}
-use Rattle.go_alike_core.specs.table_core.Tables.{AreOthers}
+use Rattle.go_table_core.specs.Tables.{AreOthers}
 use Rattle.go_summary_core.specs.Summaries.{SummaryModel, path_of}
 use Rattle.go_summary_core.proofs.Viewed.{before, of_one_more, types_apart, types_more}
 use Rattle.go_summary_core.proofs.reached.ReachedSummaries.types.Goals as goal

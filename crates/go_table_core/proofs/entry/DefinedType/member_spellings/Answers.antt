@@ -1,6 +1,6 @@
 use Rattle.std.proofs.Common.{ap, subst, ◌∙◌}
 use Rattle.std.specs.Prelude.{IfSome}
-use Rattle.go_index_core.specs.Spelled.{AreSpelled, places_of}
+use Rattle.go_collections_core.specs.spelling_index.Spelled.{AreSpelled, places_of}
 use Rattle.go_table_core.specs.Entries.{Entry}
 use Rattle.go_table_core.specs.MemberNames.{term_names}
 use Rattle.go_table_core.proofs.entry.DefinedType.member_spellings.Goals as goal

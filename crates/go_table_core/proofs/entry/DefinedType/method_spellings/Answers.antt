@@ -1,7 +1,7 @@
 use Rattle.std.proofs.Common.{map, subst}
 use Rattle.std.specs.Prelude.{Option, IfSome}
-use Rattle.go_index_core.specs.declared.spellings.Spellings.{Spellings}
-use Rattle.go_index_core.specs.Spelled.{AreSpelled, places_of}
+use Rattle.go_collections_core.specs.declared.spelling_index.spellings.Spellings.{Spellings}
+use Rattle.go_collections_core.specs.spelling_index.Spelled.{AreSpelled, places_of}
 use Rattle.go_table_core.specs.Entries.{Entry}
 use Rattle.go_table_core.specs.Shown.{member_shown}
 use Rattle.go_table_core.proofs.entry.DefinedType.method_spellings.Goals as goal

@@ -1,7 +1,7 @@
 use Rattle.std.proofs.Common.{map, sym, ap, subst, ◌∙◌}
 use Rattle.std.specs.Prelude.{IfSome}
 use Rattle.std.specs.Arc.{arc_value}
-use Rattle.go_index_core.specs.Spelled.{AreSpelled, places_of}
+use Rattle.go_collections_core.specs.spelling_index.Spelled.{AreSpelled, places_of}
 use Rattle.go_table_core.specs.Shown.{member_shown}
 use Rattle.go_table_core.specs.mirrors.Spots.{spells_some}
 use Rattle.go_table_core.specs.Methods.{term_fields}

@@ -1,7 +1,7 @@
 use Rattle.std.proofs.Common.{◌≡◌, ◌&&◌, true, false, sym, ap, ◌∙◌}
 use Rattle.std.specs.Str.{chars}
 use Rattle.std.proofs.lemmas.Bool.{true≢false}
-use Rattle.go_settle_core.specs.text_core.Text.{exported}
+use Rattle.go_collections_core.specs.text_core.Text.{exported}
 use Rattle.go_table_core.specs.Methods.{field_spelled, term_fields}
 use Rattle.go_table_core.specs.Shown.{member_shown}
 use Rattle.go_table_core.specs.mirrors.Spots.{named_before, struct_path}

@@ -1,5 +1,5 @@
 use Rattle.std.proofs.Common.{ap, subst, ◌∙◌}
-use Rattle.go_index_core.specs.Spelled.{places_of}
+use Rattle.go_collections_core.specs.spelling_index.Spelled.{places_of}
 use Rattle.go_term_core.specs.Shapes.{shape, line_shapes}
 use Rattle.go_table_core.specs.Methods.{term_fields}
 use Rattle.go_table_core.specs.mirrors.Ordered.{spelled_before, FindsFields, IsFieldIndex}

@@ -1,5 +1,5 @@
 use Rattle.std.proofs.Common.{is_some, ap, subst, ◌∙◌}
-use Rattle.go_index_core.specs.Spelled.{places_of}
+use Rattle.go_collections_core.specs.spelling_index.Spelled.{places_of}
 use Rattle.go_term_core.specs.Shapes.{shape}
 use Rattle.go_table_core.specs.Methods.{field_spelled, term_fields}
 use Rattle.go_table_core.specs.mirrors.Ordered.{FindsFields, IsFieldIndex}

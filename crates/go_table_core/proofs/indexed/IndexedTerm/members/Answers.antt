@@ -1,8 +1,8 @@
 use Rattle.std.proofs.Common.{subst}
 use Rattle.std.specs.Prelude.{Option, IfSome}
 use Rattle.go_term_core.specs.Shapes.{shape}
-use Rattle.go_index_core.specs.declared.spellings.Spellings.{Spellings}
-use Rattle.go_index_core.specs.Spelled.{AreSpelled, places_of}
+use Rattle.go_collections_core.specs.declared.spelling_index.spellings.Spellings.{Spellings}
+use Rattle.go_collections_core.specs.spelling_index.Spelled.{AreSpelled, places_of}
 use Rattle.go_table_core.specs.MemberNames.{term_names}
 use Rattle.go_table_core.proofs.indexed.IndexedTerm.members.Goals as goal
 

@@ -1,10 +1,10 @@
 use Rattle.std.proofs.Common.{List, length, map, refl, ap, subst, inr, arith}
 use Rattle.std.proofs.lemmas.List.{length-map}
-use Rattle.go_decl_core.specs.Shown.{decl_shown}
-use Rattle.go_decl_core.specs.declared.tops.TopDecl.{TopDecl}
-use Rattle.go_query_core.specs.symbol_core.mirrors.Docs.{HasNumber, HasNumberAt}
-use Rattle.go_query_core.specs.symbol_core.Rising.{shown_rising}
-use Rattle.go_query_core.specs.symbol_core.Showing.{anchored}
+use Rattle.go_term_core.specs.decl_core.Shown.{decl_shown}
+use Rattle.go_term_core.specs.decl_core.declared.tops.TopDecl.{TopDecl}
+use Rattle.go_doc_core.specs.symbol.mirrors.Docs.{HasNumber, HasNumberAt}
+use Rattle.go_doc_core.proofs.SymbolRising.{shown_rising}
+use Rattle.go_doc_core.proofs.SymbolShowing.{anchored}
 use Rattle.go_type_doc_core.specs.mirrors.Read.{read_shown}
 use Rattle.go_type_doc_core.proofs.Remarks.{read_at}
 use Rattle.go_type_doc_core.proofs.reading.FileDocs.doc.Goals as goal

@@ -1,4 +1,0 @@
-pub mod Equal
-pub mod EqualLists
-pub mod Listed
-pub mod Records

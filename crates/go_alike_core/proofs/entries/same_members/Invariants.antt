@@ -1,6 +1,0 @@
-use Rattle.std.proofs.Common.{◌≡◌, take, map}
-use Rattle.go_face_core.specs.table_core.Shown.{member_shown}
-use Rattle.go_alike_core.proofs.entries.same_members.Given as goal
-
-abbrev pub invariant-loop-place : goal.invariant-loop-place
-invariant-loop-place l = map member_shown (take l.place l.methods) ≡ map member_shown (take l.place l.others)

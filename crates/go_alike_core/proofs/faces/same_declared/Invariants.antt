@@ -1,6 +1,0 @@
-use Rattle.std.proofs.Common.{◌≡◌, take, map}
-use Rattle.go_face_core.specs.Held.{declared_shown}
-use Rattle.go_alike_core.proofs.faces.same_declared.Given as goal
-
-abbrev pub invariant-loop-place : goal.invariant-loop-place
-invariant-loop-place l = map declared_shown (take l.place l.faces) ≡ map declared_shown (take l.place l.others)

@@ -1,7 +1,0 @@
-use Rattle.std.proofs.Common.{◌≡◌, map, take}
-use Rattle.std.specs.Option.{option_map}
-use Rattle.go_fault_core.specs.face_core.Faces.{face_shown}
-use Rattle.go_answer_core.proofs.faces.held_faces.Given as goal
-
-abbrev pub invariant-loop-face : goal.invariant-loop-face
-invariant-loop-face l = map (option_map face_shown) l.held.items ≡ take l.face-index l.known

@@ -1,7 +1,0 @@
-use Rattle.std.proofs.Common.{◌≡◌, ◌++◌, map, take}
-use Rattle.go_fault_core.specs.decl_core.Shown.{decl_shown}
-use Rattle.go_answer_core.specs.Outer.{looped_decl_faults}
-use Rattle.go_answer_core.proofs.outer.add_looped.Given as goal
-
-abbrev pub invariant-loop-at : goal.invariant-loop-at
-invariant-loop-at l = l.faults.items ≡ l.fn.faults.items ++ looped_decl_faults (take l.at (map decl_shown l.decls)) l.looped

@@ -1,0 +1,31 @@
+mod DeclarationsAnswering
+mod DeclarationsAnswers
+mod DeclarationsBlocks
+mod DeclarationsDecls
+mod DeclarationsFunctions
+mod DeclarationsGrammar
+mod DeclarationsLists
+mod DeclarationsMeanings
+mod DeclarationsPackages
+mod DeclarationsParts
+mod DeclarationsPlacing
+mod DeclarationsSelecting
+mod DeclarationsSites
+mod DeclarationsSpelled
+mod DeclarationsTables
+mod DeclarationsTargets
+mod DeclarationsTerms
+mod DeclarationsUses
+mod DeclarationsWalking
+mod DeclarationsWider
+pub mod DefinitionsTold
+pub mod CompletionsAnew
+pub mod CompletionsBlanks
+pub mod CompletionsBlocks
+pub mod CompletionsFilesAnew
+pub mod CompletionsFitting
+pub mod CompletionsOuters
+pub mod CompletionsOutside
+pub mod CompletionsPutting
+pub mod CompletionsRules
+pub mod CompletionsTreesAnew

@@ -1,0 +1,3 @@
+pub mod declarations
+pub mod definitions
+pub mod completions

@@ -1,6 +1,0 @@
-mod Apart
-mod Cases
-mod Lists
-mod Sounds
-mod Taken
-pub mod Trees

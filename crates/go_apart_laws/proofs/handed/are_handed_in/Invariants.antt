@@ -1,6 +1,0 @@
-use Rattle.std.proofs.Common.{take}
-use Rattle.go_apart_laws.specs.Laws.{AreHandedIn}
-use Rattle.go_apart_laws.proofs.handed.are_handed_in.Given as goal
-
-abbrev pub invariant-loop-event : goal.invariant-loop-event
-invariant-loop-event l = AreHandedIn (take l.event-index l.events)

@@ -1,5 +1,0 @@
-mod Agreeing
-mod Looking
-pub mod Judging
-mod Needing
-mod OtherKeys

@@ -1,7 +1,0 @@
-use Rattle.std.proofs.Common.{◌≡◌, map, take}
-use Rattle.std.specs.Option.{option_map}
-use Rattle.go_func_core.specs.face_core.Faces.{face_shown}
-use Rattle.go_around_core.proofs.naming.lend_all.Given as goal
-
-abbrev pub invariant-loop-face : goal.invariant-loop-face
-invariant-loop-face l = l.lent.items ≡ map (option_map face_shown) (take l.face-index l.declared)

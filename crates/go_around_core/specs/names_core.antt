@@ -1,3 +1,0 @@
--- What the crates above name of go_names_core.
-pub use Rattle.go_func_core.specs.names_core.Body as Body
-pub use Rattle.go_func_core.specs.names_core.Scope as Scope

@@ -1,2 +1,0 @@
--- What the crates above name of go_decide_core.
-pub use Rattle.go_handle_core.specs.decide_core.Rules as Rules

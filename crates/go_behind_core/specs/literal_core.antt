@@ -1,4 +1,0 @@
--- What the crates above name of go_literal_core.
-pub use Rattle.go_expr_core.specs.literal_core.Keys as Keys
-pub use Rattle.go_expr_core.specs.literal_core.Literals as Literals
-pub use Rattle.go_expr_core.specs.literal_core.Look as Look

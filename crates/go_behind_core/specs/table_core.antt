@@ -1,2 +1,0 @@
--- What the crates above name of go_table_core.
-pub use Rattle.go_handle_core.specs.table_core.Entries as Entries

@@ -1,0 +1,6 @@
+pub mod Files
+pub mod Imports
+pub mod Laws
+pub mod Package
+pub mod Stands
+pub mod mirrors

@@ -1,0 +1,20 @@
+-- What the crates above name of go_stmt_core.
+pub use Rattle.go_stmt_core.specs.piece.Headers as PieceHeaders
+pub use Rattle.go_stmt_core.specs.piece.Pieces as PiecePieces
+pub use Rattle.go_stmt_core.specs.piece.Specifications as PieceSpecifications
+pub use Rattle.go_stmt_core.specs.piece.Statements as PieceStatements
+pub use Rattle.go_stmt_core.specs.piece.Targets as PieceTargets
+pub use Rattle.go_stmt_core.specs.piece.Types as PieceTypes
+pub use Rattle.go_stmt_core.specs.piece.Values as PieceValues
+pub use Rattle.go_stmt_core.proofs.StatementAlike as StatementAlike
+pub use Rattle.go_stmt_core.specs.statement.Assignments as StatementAssignments
+pub use Rattle.go_stmt_core.specs.statement.Constants as StatementConstants
+pub use Rattle.go_stmt_core.specs.statement.Declarations as StatementDeclarations
+pub use Rattle.go_stmt_core.specs.statement.Locality as StatementLocality
+pub use Rattle.go_stmt_core.specs.statement.Returns as StatementReturns
+pub use Rattle.go_stmt_core.specs.statement.Statements as StatementStatements
+pub use Rattle.go_stmt_core.specs.statement.Targets as StatementTargets
+pub use Rattle.go_stmt_core.specs.statement.Updates as StatementUpdates
+pub use Rattle.go_stmt_core.specs.toplevel.Initial as ToplevelInitial
+pub use Rattle.go_stmt_core.specs.toplevel.Tops as ToplevelTops
+pub use Rattle.go_stmt_core.specs.declared as declared

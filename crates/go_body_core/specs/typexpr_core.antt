@@ -1,0 +1,23 @@
+-- What the crates above name of go_typexpr_core.
+pub use Rattle.go_typexpr_core.specs.aliases.Aliases as AliasesAliases
+pub use Rattle.go_typexpr_core.proofs.AliasesChains as AliasesChains
+pub use Rattle.go_typexpr_core.proofs.AliasesEnding as AliasesEnding
+pub use Rattle.go_typexpr_core.specs.aliases.Laws as AliasesLaws
+pub use Rattle.go_typexpr_core.proofs.AliasesLooping as AliasesLooping
+pub use Rattle.go_typexpr_core.proofs.AliasesNumbers as AliasesNumbers
+pub use Rattle.go_typexpr_core.specs.aliases.Outlined as AliasesOutlined
+pub use Rattle.go_typexpr_core.proofs.AliasesOutlining as AliasesOutlining
+pub use Rattle.go_typexpr_core.proofs.EntryAmong as EntryAmong
+pub use Rattle.go_typexpr_core.proofs.EntryBelonging as EntryBelonging
+pub use Rattle.go_typexpr_core.specs.entry.Entries as EntryEntries
+pub use Rattle.go_typexpr_core.specs.entry.Laws as EntryLaws
+pub use Rattle.go_typexpr_core.specs.entry.Marks as EntryMarks
+pub use Rattle.go_typexpr_core.specs.entry.Meanings as EntryMeanings
+pub use Rattle.go_typexpr_core.proofs.EntryNumbered as EntryNumbered
+pub use Rattle.go_typexpr_core.proofs.EntryOrdered as EntryOrdered
+pub use Rattle.go_typexpr_core.specs.entry.Outlines as EntryOutlines
+pub use Rattle.go_typexpr_core.specs.entry.Showing as EntryShowing
+pub use Rattle.go_typexpr_core.proofs.EntryShown as EntryShown
+pub use Rattle.go_typexpr_core.proofs.EntryTargeting as EntryTargeting
+pub use Rattle.go_typexpr_core.proofs.WrittenByNames as WrittenByNames
+pub use Rattle.go_typexpr_core.specs.written.Written as WrittenWritten

@@ -1,2 +1,0 @@
--- What the crates above name of go_written_core.
-pub use Rattle.go_env_core.specs.written_core.Written as Written

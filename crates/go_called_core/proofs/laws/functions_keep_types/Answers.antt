@@ -1,5 +1,0 @@
-use Rattle.go_called_core.proofs.Declared.{functions_keep}
-use Rattle.go_called_core.proofs.laws.functions_keep_types.Goals as goal
-
-pub returns : goal.returns
-returns c = functions_keep c.functions_have_one_table.ensures c.locals_are_declarations.ensures c.functions_are_placed.ensures

@@ -1,5 +1,0 @@
-use Rattle.go_called_core.proofs.Starts.{typed_objects_run}
-use Rattle.go_called_core.proofs.laws.typed_objects_run.Goals as goal
-
-pub returns : goal.returns
-returns c = typed_objects_run c.objects_run_as_typed.ensures c.starts_take_nothing.ensures

@@ -1,3 +1,0 @@
--- What the crates above name of go_sources_core.
-pub use Rattle.go_clear_core.specs.sources_core.Laws as Laws
-pub use Rattle.go_clear_core.specs.sources_core.Sources as Sources

@@ -1,2 +1,0 @@
--- What the crates above name of go_universe_core.
-pub use Rattle.go_clear_core.specs.universe_core.declared as declared

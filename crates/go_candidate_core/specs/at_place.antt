@@ -1,0 +1,4 @@
+pub mod Locals
+pub mod Types
+pub mod Arounds
+pub mod mirrors

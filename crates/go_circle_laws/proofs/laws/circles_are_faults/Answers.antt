@@ -1,5 +1,0 @@
-use Rattle.go_circle_laws.proofs.Circles.{circles_are_faults}
-use Rattle.go_circle_laws.proofs.laws.circles_are_faults.Goals as goal
-
-pub returns : goal.returns
-returns c = circles_are_faults c.loops_are_faults.ensures c.check_is_local.ensures c.imports_bind_theirs.ensures

@@ -1,5 +1,0 @@
-use Rattle.go_circle_laws.proofs.Rounds.{circles_are_faults_in_all}
-use Rattle.go_circle_laws.proofs.laws.circles_are_faults_in_all.Goals as goal
-
-pub returns : goal.returns
-returns c = circles_are_faults_in_all c.loops_are_faults.ensures c.check_is_local.ensures c.imports_bind_theirs.ensures

@@ -1,5 +1,0 @@
-use Rattle.go_clear_core.proofs.Clear.{functions_end_well}
-use Rattle.go_clear_core.proofs.laws.functions_end_well.Goals as goal
-
-pub returns : goal.returns
-returns c = functions_end_well c.objects_are_of_faultless.ensures c.bodies_are_between_braces.ensures

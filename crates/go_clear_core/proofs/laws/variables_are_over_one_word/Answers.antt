@@ -1,5 +1,0 @@
-use Rattle.go_clear_core.proofs.Variables.{sources_over_one, variables_over_one}
-use Rattle.go_clear_core.proofs.laws.variables_are_over_one_word.Goals as goal
-
-pub returns : goal.returns
-returns c = record { files = variables_over_one; sources = sources_over_one }

@@ -1,3 +1,0 @@
--- What the crates above name of go_constant_core.
-pub use Rattle.go_constant_core.specs.Values as Values
-pub use Rattle.go_constant_core.specs.declared as declared

@@ -1,5 +1,0 @@
--- What the crates above name of go_table_core.
-pub use Rattle.go_table_core.specs.Entries as Entries
-pub use Rattle.go_table_core.proofs.Finding as Finding
-pub use Rattle.go_table_core.specs.Methods as Methods
-pub use Rattle.go_table_core.specs.Tables as Tables

@@ -1,0 +1,11 @@
+use Rattle.std.proofs.Common.{sym, ap}
+use Rattle.go_tree_nodes.specs.Shapes.{exprs_from}
+use Rattle.go_code_core.specs.fragments.Inside.{one_value}
+use Rattle.go_code_core.specs.fragments.Names.{frame_of}
+use Rattle.go_code_core.proofs.FragmentsLoops.{is_more}
+use Rattle.go_code_core.proofs.fragments.inside.one_value.Goals as goal
+
+pub returns-in_default : goal.returns-in_default
+returns-in_default g c =
+    let more = is_more c.as_slice.result.now c.args.exprs.now.more.items c.as_slice.ensures.value c.in_default.len_at_least in
+    sym (ap (λ l. one_value (frame_of (g.N.CodeNames.looks c.args.frame.now.names.now) c.args.frame.now.slots.now) (exprs_from c.args.exprs.now.first l)) more.is)

@@ -1,5 +1,0 @@
--- What the crates above name of go_part_core.
-pub use Rattle.go_place_core.specs.part_core.Inputs as Inputs
-pub use Rattle.go_place_core.specs.part_core.Laws as Laws
-pub use Rattle.go_place_core.specs.part_core.Parts as Parts
-pub use Rattle.go_place_core.specs.part_core.declared as declared

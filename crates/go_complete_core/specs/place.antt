@@ -1,0 +1,3 @@
+pub mod Completions
+pub mod Laws
+pub mod Completed

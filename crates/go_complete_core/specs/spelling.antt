@@ -1,0 +1,15 @@
+pub mod Contexts
+pub mod Files
+pub mod Functions
+pub mod Laws
+pub mod Outer
+pub mod Package
+pub mod Packages
+pub mod PieceContexts
+pub mod PieceLaws
+pub mod PieceSpots
+pub mod Places
+pub mod Spellings
+pub mod Spots
+pub mod Trees
+pub mod Values

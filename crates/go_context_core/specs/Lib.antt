@@ -1,9 +1,0 @@
-pub mod Alone
-pub mod Laws
-pub mod block_core
-pub mod decl_core
-pub mod denote_core
-pub mod graph_core
-pub mod operand_core
-pub mod scope_core
-pub mod scope_core_lemmas

@@ -1,0 +1,13 @@
+pub mod Blocks
+pub mod Contexts
+pub mod Laws
+pub mod Opened
+pub mod PieceSpots
+pub mod Shown
+pub mod Spots
+pub mod Used
+pub mod Walks
+pub mod mirrors
+pub mod denote_core
+pub mod operand_core
+pub mod scope_stack

@@ -1,6 +1,0 @@
-use Rattle.std.proofs.Common.{◌≡◌, length, take}
-use Rattle.go_cycle_core.specs.mirrors.Certificate.{marks_along}
-use Rattle.go_cycle_core.proofs.certify.marks_along.Given as goal
-
-abbrev pub invariant-loop-place : goal.invariant-loop-place
-invariant-loop-place l = record { marks : l.marks.items ≡ marks_along l.edges l.roots (take l.place-index l.places); len : length l.marks.items ≡ length l.roots }

@@ -1,6 +1,0 @@
-use Rattle.std.proofs.Common.{◌≡◌, length}
-use Rattle.go_cycle_core.proofs.Places.{AreRowsTo}
-use Rattle.go_cycle_core.proofs.rows.rows_of.Given as goal
-
-abbrev pub invariant-loop-place : goal.invariant-loop-place
-invariant-loop-place l = record { len : length l.rows.items ≡ l.count; rows : AreRowsTo l.edges l.place l.rows.items }

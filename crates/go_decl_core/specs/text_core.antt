@@ -1,6 +1,0 @@
--- What the crates above name of go_text_core.
-pub use Rattle.go_path_core.specs.text_core.Each as Each
-pub use Rattle.go_path_core.specs.text_core.Rules as Rules
-pub use Rattle.go_path_core.specs.text_core.Text as Text
-pub use Rattle.go_path_core.specs.text_core.contracts as contracts
-pub use Rattle.go_path_core.specs.text_core.declared as declared

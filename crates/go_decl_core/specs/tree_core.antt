@@ -1,5 +1,0 @@
--- What the crates above name of go_tree_core.
-pub use Rattle.go_tree_core.specs.Names as Names
-pub use Rattle.go_tree_core.specs.Occurrences as Occurrences
-pub use Rattle.go_tree_core.proofs.Telling as Telling
-pub use Rattle.go_tree_core.specs.declared as declared

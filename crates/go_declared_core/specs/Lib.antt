@@ -1,0 +1,16 @@
+pub mod AliasSample
+pub mod Faces
+pub mod Held
+pub mod Here
+pub mod Laws
+pub mod Names
+pub mod Packages
+pub mod Sample
+pub mod Showing
+pub mod Written
+pub mod codes
+pub mod mirrors
+pub mod block_core
+pub mod graph_core
+pub mod handle_core
+pub mod typexpr_core

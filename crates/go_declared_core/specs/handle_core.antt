@@ -1,0 +1,10 @@
+-- What the crates above name of go_handle_core.
+pub use Rattle.go_handle_core.proofs.DecidingChoosing as DecidingChoosing
+pub use Rattle.go_handle_core.specs.deciding.Conversion as DecidingConversion
+pub use Rattle.go_handle_core.specs.deciding.Identity as DecidingIdentity
+pub use Rattle.go_handle_core.proofs.DecidingLocalities as DecidingLocalities
+pub use Rattle.go_handle_core.specs.deciding.Rules as DecidingRules
+pub use Rattle.go_handle_core.specs.deciding.Selecting as DecidingSelecting
+pub use Rattle.go_handle_core.specs.Declarations as Declarations
+pub use Rattle.go_handle_core.specs.Names as Names
+pub use Rattle.go_handle_core.specs.Stars as Stars

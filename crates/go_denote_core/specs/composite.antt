@@ -1,0 +1,10 @@
+pub mod Look
+pub mod Fields
+pub mod Literals
+pub mod Keys
+pub mod Repeats
+pub mod Marks
+pub mod Rules
+pub mod Laws
+pub mod Samples
+pub mod mirrors

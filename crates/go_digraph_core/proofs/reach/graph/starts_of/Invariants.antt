@@ -1,0 +1,7 @@
+use Rattle.std.proofs.Common.{◌≡◌, length, map, take}
+use Rattle.go_digraph_core.specs.cycle.Cycle.{reversed}
+use Rattle.go_digraph_core.specs.reach.mirrors.Filling.{AreEnds}
+use Rattle.go_digraph_core.proofs.reach.graph.starts_of.Given as goal
+
+abbrev pub invariant-loop-edge : goal.invariant-loop-edge
+invariant-loop-edge l = record { len : length l.rows.items ≡ l.count; rows : AreEnds (map reversed (take l.edge-index l.edges)) l.rows.items }

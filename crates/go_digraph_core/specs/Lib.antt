@@ -1,0 +1,5 @@
+pub mod cycle
+pub mod reach
+pub mod chain
+pub mod needs
+pub mod ready_queue

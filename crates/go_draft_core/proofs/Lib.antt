@@ -1,4 +1,0 @@
-pub mod Changes
-pub mod Prefixes
-pub mod Texts
-pub mod Walks

@@ -1,5 +1,0 @@
-use Rattle.go_draft_core.proofs.Prefixes.{inside_is}
-use Rattle.go_draft_core.proofs.places.lies_inside.Goals as goal
-
-pub returns : goal.returns
-returns c = inside_is c.args.own.now c.args.path.now c.contains.result c.contains.ensures

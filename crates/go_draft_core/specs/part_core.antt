@@ -1,2 +1,0 @@
--- What the crates above name of go_part_core.
-pub use Rattle.go_submit_core.specs.part_core.Parts as Parts

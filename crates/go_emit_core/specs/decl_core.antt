@@ -1,2 +1,0 @@
--- What the crates above name of go_decl_core.
-pub use Rattle.go_term_core.specs.decl_core.TopDecls as TopDecls

@@ -1,3 +1,0 @@
--- What the crates above name of go_inline_core.
-pub use Rattle.go_meaning_core.specs.inline_core.Functions as Functions
-pub use Rattle.go_meaning_core.specs.inline_core.Inline as Inline

@@ -1,0 +1,5 @@
+pub mod Words
+pub mod Meanings
+pub mod Scenes
+pub mod Looking
+pub mod mirrors

@@ -1,9 +1,0 @@
--- What the crates above name of go_value_core.
-pub use Rattle.go_meaning_core.specs.value_core.Around as Around
-pub use Rattle.go_meaning_core.specs.value_core.Deciding as Deciding
-pub use Rattle.go_meaning_core.specs.value_core.Initial as Initial
-pub use Rattle.go_meaning_core.specs.value_core.Laws as Laws
-pub use Rattle.go_meaning_core.specs.value_core.Owning as Owning
-pub use Rattle.go_meaning_core.specs.value_core.Package as Package
-pub use Rattle.go_meaning_core.specs.value_core.Seeing as Seeing
-pub use Rattle.go_meaning_core.specs.value_core.mirrors as mirrors

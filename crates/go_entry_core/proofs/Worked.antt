@@ -1,8 +1,0 @@
--- The sample is computed.
-use Rattle.std.proofs.Common.{refl}
-use Rattle.go_universe_core.specs.Universe.{found, spelling_of}
-use Rattle.go_entry_core.specs.Sample.{EntrySampleIsRight}
-
-pub sample_is_right : EntrySampleIsRight
-unfolding found spelling_of
-sample_is_right = refl

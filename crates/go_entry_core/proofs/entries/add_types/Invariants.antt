@@ -1,9 +1,0 @@
-use Rattle.std.proofs.Common.{◌≡◌, ◌++◌, [], map, take}
-use Rattle.go_written_core.specs.decl_core.Shown.{decl_shown}
-use Rattle.go_table_core.specs.Shown.{entry_shown}
-use Rattle.go_written_core.specs.Written.{in_file}
-use Rattle.go_entry_core.specs.Entries.{file_entries_by}
-use Rattle.go_entry_core.proofs.entries.add_types.Given as goal
-
-abbrev pub invariant-loop-decl : goal.invariant-loop-decl
-invariant-loop-decl g l = map entry_shown l.entries.items ≡ map entry_shown l.fn.entries.items ++ file_entries_by l.fn.also (g.N.TypeNames.meaning l.fn.names) (in_file l.fn.at) [] (map decl_shown (take l.decl-index l.decls))

@@ -1,8 +1,0 @@
-use Rattle.std.proofs.Common.{◌≡◌, [], map, take}
-use Rattle.go_table_core.specs.Shown.{entry_shown}
-use Rattle.go_entry_core.specs.Entries.{entries_with, package_meanings}
-use Rattle.go_entry_core.specs.Outlines.{outline_shown}
-use Rattle.go_entry_core.proofs.entries.bare_entries.Given as goal
-
-abbrev pub invariant-loop-file : goal.invariant-loop-file
-invariant-loop-file g l = map entry_shown l.entries.items ≡ entries_with (package_meanings (g.P.ImportedNames.shows l.fn.imported) l.fn.path l.fn.blocks) l.fn.path [] (map outline_shown (take l.file l.outlines))

@@ -1,7 +1,0 @@
-use Rattle.std.proofs.Common.{◌≡◌, map, take}
-use Rattle.go_scope_core.specs.graph_core.Packages.{trees_of}
-use Rattle.go_entry_core.specs.Outlines.{outline_of, outline_shown}
-use Rattle.go_entry_core.proofs.files.outlines.Given as goal
-
-abbrev pub invariant-loop-file : goal.invariant-loop-file
-invariant-loop-file l = map outline_shown l.outlines.items ≡ map (λ t. outline_of t.1) (trees_of (take l.file-index l.files))

@@ -1,5 +1,0 @@
-use Rattle.go_entry_core.proofs.Shown.{keeps_others, shows_its_block}
-use Rattle.go_entry_core.proofs.laws.packages_show_their_blocks.Goals as goal
-
-pub returns : goal.returns
-returns c = record { own = shows_its_block; others = keeps_others }

@@ -1,3 +1,0 @@
--- What the crates above name of go_written_core.
-pub use Rattle.go_written_core.proofs.ByNames as ByNames
-pub use Rattle.go_written_core.specs.Written as Written

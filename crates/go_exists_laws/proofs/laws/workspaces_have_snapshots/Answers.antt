@@ -1,8 +1,0 @@
-use Rattle.go_exists_laws.proofs.Whole.{workspaces_have_parts, workspaces_have_snapshots}
-use Rattle.go_exists_laws.proofs.laws.workspaces_have_snapshots.Goals as goal
-
-pub returns-clause-parts : goal.returns-clause-parts
-returns-clause-parts c = workspaces_have_parts c.values_are_as_written.ensures
-
-pub returns-clause-snapshots : goal.returns-clause-snapshots
-returns-clause-snapshots c = workspaces_have_snapshots c.values_are_as_written.ensures c.check_is_local.ensures c.imports_bind_theirs.ensures

@@ -1,2 +1,0 @@
--- What the crates above name of go_constant_core.
-pub use Rattle.go_literal_core.specs.constant_core.declared as declared

@@ -1,5 +1,0 @@
-use Rattle.go_face_core.proofs.Locality.{written_are_local}
-use Rattle.go_face_core.proofs.laws.written_are_local.Goals as goal
-
-pub returns : goal.returns
-returns c = written_are_local

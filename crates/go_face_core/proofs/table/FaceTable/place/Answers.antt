@@ -1,9 +1,0 @@
-use Rattle.std.proofs.Common.{ap, ◌∙◌}
-use Rattle.go_named_core.specs.Named.{value_at}
-use Rattle.go_face_core.specs.mirrors.Tables.{keyed, place_of}
-use Rattle.go_face_core.proofs.table.FaceTable.place.Goals as goal
-
-pub returns : goal.returns
-returns c =
-    c.copied.ensures
-    ∙ (c.find.ensures ∙ (ap (value_at c.self.inside.places.names) c.as_str.ensures.text ∙ (c.self.invariant c.args.path.now ∙ ap (λ ps. place_of (keyed ps) c.args.path.now) c.self.view_is)))

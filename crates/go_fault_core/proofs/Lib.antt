@@ -1,3 +1,0 @@
-mod Adding
-pub mod Loops
-pub mod Reaching

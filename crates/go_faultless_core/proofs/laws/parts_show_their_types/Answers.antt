@@ -1,5 +1,0 @@
-use Rattle.go_faultless_core.proofs.Shows.{parts_show}
-use Rattle.go_faultless_core.proofs.laws.parts_show_their_types.Goals as goal
-
-pub returns : goal.returns
-returns c = parts_show c.check_is_local.ensures c.imports_bind_theirs.ensures c.parts_are_read.ensures

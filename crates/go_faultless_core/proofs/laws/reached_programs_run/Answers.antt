@@ -1,5 +1,0 @@
-use Rattle.go_faultless_core.proofs.Reaching.{reached_run}
-use Rattle.go_faultless_core.proofs.laws.reached_programs_run.Goals as goal
-
-pub returns : goal.returns
-returns c = reached_run c.fitting_means_something.ensures c.programs_run_as_meant.ensures

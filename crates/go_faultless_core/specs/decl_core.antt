@@ -1,3 +1,0 @@
--- What the crates above name of go_decl_core.
-pub use Rattle.go_called_core.specs.decl_core.TopDecls as TopDecls
-pub use Rattle.go_called_core.specs.decl_core.declared as declared

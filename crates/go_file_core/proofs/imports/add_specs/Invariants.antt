@@ -1,7 +1,0 @@
-use Rattle.std.proofs.Common.{◌≡◌, ◌++◌, map}
-use Rattle.go_file_core.specs.Imports.{imports_uses}
-use Rattle.go_func_core.specs.block_core.mirrors.Shown.{spec_shown}
-use Rattle.go_file_core.proofs.imports.add_specs.Given as goal
-
-abbrev pub invariant-loop-spec : goal.invariant-loop-spec
-invariant-loop-spec l = l.uses.items ++ imports_uses (map spec_shown l.spec-iterator.a.rest.now) l.spec-iterator.b.rest.now ≡ l.fn.uses.items ++ imports_uses (map spec_shown l.specs) l.imported

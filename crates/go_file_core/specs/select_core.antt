@@ -1,3 +1,0 @@
--- What the crates above name of go_select_core.
-pub use Rattle.go_func_core.specs.select_core.Laws as Laws
-pub use Rattle.go_func_core.specs.select_core.Local as Local

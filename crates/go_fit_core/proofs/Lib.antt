@@ -1,9 +1,0 @@
-pub mod Valued
-pub mod Folds
-pub mod Exprs
-pub mod Panics
-pub mod Flows
-pub mod Simples
-pub mod Stmts
-pub mod Functions
-pub mod Reaching

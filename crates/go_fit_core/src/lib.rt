@@ -1,8 +1,0 @@
-//! Programs whose functions have no faults mean something, whatever the bounds, and run as they mean: laws with nothing to run.
-//!
-//! The Go specification, "Declarations and scope", "Operators", "Calls", "Return statements", "Terminating statements".
-#![tactic(auto)]
-
-mod laws;
-
-pub use laws::{fitting_means_something, fitting_programs_run_as_meant};

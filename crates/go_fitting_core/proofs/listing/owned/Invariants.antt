@@ -1,7 +1,0 @@
-use Rattle.std.proofs.Common.{◌≡◌, ◌++◌, drop, map}
-use Rattle.std.specs.Prelude.{string_bytes}
-use Rattle.go_shown_core.specs.Shown.{texts}
-use Rattle.go_fitting_core.proofs.listing.owned.Given as goal
-
-abbrev pub invariant-loop-name : goal.invariant-loop-name
-invariant-loop-name l = map string_bytes l.all.items ++ texts (drop l.name-index l.fn.names) ≡ texts l.fn.names

@@ -1,4 +1,0 @@
-mod Firsts
-mod Forming
-mod Named
-mod Read

@@ -1,8 +1,0 @@
-use Rattle.std.proofs.Common.{sym, ap, ◌∙◌}
-use Rattle.go_tree_nodes.specs.TypeShapes.{shape_results}
-use Rattle.go_tree_nodes.proofs.TypeShapes.{listed_parts}
-use Rattle.go_fragment_core.specs.Inside.{results_inside}
-use Rattle.go_fragment_core.proofs.inside.results_inside.Goals as goal
-
-pub returns-in-Listed : goal.returns-in-Listed
-returns-in-Listed g c = c.listed_result_inside.ensures ∙ ap (results_inside (g.N.CodeNames.looks c.args.names.now)) (sym (ap shape_results c.in-Listed.is ∙ listed_parts c.in-Listed.params))

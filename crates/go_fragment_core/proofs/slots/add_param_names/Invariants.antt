@@ -1,6 +1,0 @@
-use Rattle.std.proofs.Common.{◌≡◌, ◌++◌, drop}
-use Rattle.go_fragment_core.specs.mirrors.Listing.{param_names_more}
-use Rattle.go_fragment_core.proofs.slots.add_param_names.Given as goal
-
-abbrev pub invariant-loop-next : goal.invariant-loop-next
-invariant-loop-next l = l.initial.slots.items ++ param_names_more l.next-items ≡ l.slots.items ++ param_names_more (drop l.next-index l.next-items)

@@ -1,7 +1,0 @@
-use Rattle.std.proofs.Common.{◌≡◌, ◌++◌, drop}
-use Rattle.go_fragment_core.specs.mirrors.Listing.{new_more}
-use Rattle.go_fragment_core.proofs.slots.add_several.Given as goal
-
-abbrev pub invariant-loop-next : goal.invariant-loop-next
-invariant-loop-next g l =
-    l.initial.slots.items ++ new_more (g.N.CodeNames.looks l.names) l.next-items ≡ l.slots.items ++ new_more (g.N.CodeNames.looks l.names) (drop l.next-index l.next-items)

@@ -1,9 +1,0 @@
-pub mod Constants
-pub mod Fragment
-pub mod Inside
-pub mod Names
-pub mod Operators
-pub mod Slots
-pub mod mirrors
-pub mod constant_core
-pub mod instruction_core

@@ -1,5 +1,0 @@
-use Rattle.go_frame_core.proofs.Streams.{passed}
-use Rattle.go_frame_core.proofs.reading.pass_some.Goals as goal
-
-pub returns : goal.returns
-returns c = passed c.args.input.now c.pass.new.self c.args.count c.min-there.result c.count_of.result c.count_of.ensures c.min-there.ensures c.pass.ensures

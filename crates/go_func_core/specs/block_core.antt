@@ -1,6 +1,0 @@
--- What the crates above name of go_block_core.
-pub use Rattle.go_body_core.specs.block_core.Blocks as Blocks
-pub use Rattle.go_body_core.specs.block_core.Exports as Exports
-pub use Rattle.go_body_core.specs.block_core.Naming as Naming
-pub use Rattle.go_body_core.specs.block_core.declared as declared
-pub use Rattle.go_body_core.specs.block_core.mirrors as mirrors

@@ -1,2 +1,0 @@
--- What the crates above name of go_denote_core.
-pub use Rattle.go_body_core.specs.denote_core.declared as declared

@@ -1,2 +1,0 @@
--- What the crates above name of go_handle_core.
-pub use Rattle.go_body_core.specs.handle_core.Declarations as Declarations

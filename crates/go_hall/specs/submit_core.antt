@@ -1,5 +1,0 @@
--- What the crates above name of go_submit_core.
-pub use Rattle.go_hall_core.specs.submit_core.Published as Published
-pub use Rattle.go_hall_core.specs.submit_core.Trees as Trees
-pub use Rattle.go_hall_core.specs.submit_core.contracts as contracts
-pub use Rattle.go_hall_core.specs.submit_core.declared as declared

@@ -1,4 +1,0 @@
-mod Opening
-mod Within
-mod Standing
-mod Giving

@@ -1,7 +1,0 @@
-use Rattle.std.proofs.Common.{◌≡◌, drop, map}
-use Rattle.go_complete_core.specs.package_core.Checked.{local_shown}
-use Rattle.go_hint_core.specs.Kept.{kept_at}
-use Rattle.go_hint_core.proofs.kept.kept_at.Given as goal
-
-abbrev pub invariant-loop-local : goal.invariant-loop-local
-invariant-loop-local l = kept_at (map local_shown (drop l.local-index l.kept)) l.offset ≡ kept_at (map local_shown l.kept) l.offset

@@ -1,8 +1,0 @@
-use Rattle.std.proofs.Common.{◌≡◌, map, take}
-use Rattle.go_complete_core.specs.package_core.Checked.{local_shown}
-use Rattle.go_around_core.specs.Locals as around
-use Rattle.go_hint_core.specs.Kept.{open_by}
-use Rattle.go_hint_core.proofs.kept.open_locals.Given as goal
-
-abbrev pub invariant-loop-ident : goal.invariant-loop-ident
-invariant-loop-ident l = map around.local_shown l.locals.items ≡ open_by (map local_shown l.kept) (map (λ x. x.now) (take l.ident-index l.idents))

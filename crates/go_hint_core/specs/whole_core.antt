@@ -1,7 +1,0 @@
--- What the crates above name of go_whole_core.
-pub use Rattle.go_complete_core.specs.whole_core.Inputs as Inputs
-pub use Rattle.go_complete_core.specs.whole_core.Known as Known
-pub use Rattle.go_complete_core.specs.whole_core.Parts as Parts
-pub use Rattle.go_complete_core.specs.whole_core.PartsWhole as PartsWhole
-pub use Rattle.go_complete_core.specs.whole_core.Theirs as Theirs
-pub use Rattle.go_complete_core.specs.whole_core.mirrors as mirrors

@@ -1,0 +1,16 @@
+pub mod HeadAlike
+pub mod HeadStaying
+pub mod HeadTexts
+pub mod HeadMarking
+pub mod HeadRowByRow
+pub mod HeadReplacing
+pub mod HeadSpanning
+pub mod HeadUnmoved
+pub mod ListAdded
+pub mod ListJudged
+pub mod ListMarking
+pub mod ListNumbering
+pub mod ListPicking
+pub mod ListSearches
+pub mod ListStandings
+pub mod ListVisited

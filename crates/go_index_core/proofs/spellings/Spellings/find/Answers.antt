@@ -1,6 +1,0 @@
-use Rattle.std.proofs.Common.{◌∙◌}
-use Rattle.go_index_core.proofs.Inserting.{in_names}
-use Rattle.go_index_core.proofs.spellings.Spellings.find.Goals as goal
-
-pub returns : goal.returns
-returns c = c.copied.ensures ∙ (c.get.ensures.value ∙ in_names c.args.name.now _)

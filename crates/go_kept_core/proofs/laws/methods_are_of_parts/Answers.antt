@@ -1,5 +1,0 @@
-use Rattle.go_kept_core.proofs.Selecting.{methods_of_parts}
-use Rattle.go_kept_core.proofs.laws.methods_are_of_parts.Goals as goal
-
-pub returns : goal.returns
-returns c = methods_of_parts c.declared_functions_are_own.ensures c.parts_are_among.ensures c.check_is_local.ensures c.imports_bind_theirs.ensures

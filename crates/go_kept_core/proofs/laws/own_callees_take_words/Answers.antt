@@ -1,5 +1,0 @@
-use Rattle.go_kept_core.proofs.Callers.{own_callees}
-use Rattle.go_kept_core.proofs.laws.own_callees_take_words.Goals as goal
-
-pub returns : goal.returns
-returns c = own_callees c.parts_are_among.ensures c.functions_take_words.ensures c.reached_are_inside.ensures c.headers_are_of_signatures.ensures c.own_signatures_are_theirs.ensures

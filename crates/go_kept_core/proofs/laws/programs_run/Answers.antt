@@ -1,7 +1,0 @@
-use Rattle.go_kept_core.proofs.Running.{programs_run as all_run}
-use Rattle.go_kept_core.proofs.laws.programs_run.Goals as goal
-
-pub returns : goal.returns
-returns c =
-    all_run c.reached_are_in_program.ensures c.references_are_kept.ensures c.methods_are_kept.ensures c.functions_are_served.ensures c.calls_are_served.ensures c.functions_fit.ensures c.parts_are_among.ensures c.starts_take_nothing.ensures
-    c.objects_are_code_of_sources.ensures c.reached_programs_run.ensures

@@ -1,5 +1,0 @@
-use Rattle.go_kept_core.proofs.Callees.{reached_take}
-use Rattle.go_kept_core.proofs.laws.reached_take_words.Goals as goal
-
-pub returns : goal.returns
-returns c = reached_take c.references_lead_to_functions.ensures c.functions_take_words.ensures c.reached_are_inside.ensures c.parts_show_their_types.ensures

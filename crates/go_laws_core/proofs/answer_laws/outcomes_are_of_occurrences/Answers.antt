@@ -1,6 +1,0 @@
-use Rattle.go_laws_core.proofs.Answering.{outcomes_are_of_occurrences}
-use Rattle.go_laws_core.proofs.AnswerStanding.{places_are_of_occurrences}
-use Rattle.go_laws_core.proofs.answer_laws.outcomes_are_of_occurrences.Goals as goal
-
-pub returns : goal.returns
-returns c = record { places = places_are_of_occurrences c.part_has_occurrences.ensures; answers = outcomes_are_of_occurrences c.part_has_occurrences.ensures }

@@ -1,5 +1,0 @@
-use Rattle.go_laws_core.proofs.Snapshots.{sound_objects}
-use Rattle.go_laws_core.proofs.code_laws.snapshots_have_sound_objects.Goals as goal
-
-pub returns : goal.returns
-returns c = sound_objects c.objects_are_well_formed.ensures c.functions_refer_to_their_bodies.ensures

@@ -1,5 +1,0 @@
-use Rattle.go_laws_core.proofs.Making.{texts_have}
-use Rattle.go_laws_core.proofs.file_laws.texts_have_snapshots.Goals as goal
-
-pub returns : goal.returns
-returns c = texts_have c.parts_are_whole.ensures

@@ -1,5 +1,0 @@
--- What the crates above name of go_file_core.
-pub use Rattle.govisd_core.specs.file_core.Files as Files
-pub use Rattle.govisd_core.specs.file_core.Imports as Imports
-pub use Rattle.govisd_core.specs.file_core.Laws as Laws
-pub use Rattle.govisd_core.specs.file_core.Stands as Stands

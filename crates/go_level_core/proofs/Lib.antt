@@ -1,9 +1,0 @@
-pub mod ListLemmas
-pub mod Edges
-pub mod Walks
-pub mod WayLemmas
-pub mod Weights
-pub mod Growing
-pub mod Judging
-pub mod Searching
-pub mod Answering

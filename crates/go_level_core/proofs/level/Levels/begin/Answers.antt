@@ -1,6 +1,0 @@
-use Rattle.std.proofs.Common.{refl}
-use Rattle.go_level_core.proofs.WayLemmas.{begins}
-use Rattle.go_level_core.proofs.level.Levels.begin.Goals as goal
-
-pub returns : goal.returns
-returns c = begins _ _ _ c.new-types.result.items _ _ _ c.new.ensures c.new-types.ensures.items c.in_ok-push.ensures.items refl c.in_ok-met.ensures

@@ -1,8 +1,0 @@
-use Rattle.go_level_core.proofs.WayLemmas.{PathTo}
-use Rattle.go_level_core.proofs.trails.Trails.path.Given as goal
-
-abbrev pub invariant-links : goal.invariant-links
-invariant-links l = PathTo l.self-inside.links.items l.number l.at l.steps.items
-
-abbrev pub decreases-links : goal.decreases-links
-decreases-links l = l.at

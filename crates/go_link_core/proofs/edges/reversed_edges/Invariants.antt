@@ -1,6 +1,0 @@
-use Rattle.std.proofs.Common.{◌≡◌, map, take}
-use Rattle.go_cycle_core.specs.Cycle.{reversed}
-use Rattle.go_link_core.proofs.edges.reversed_edges.Given as goal
-
-abbrev pub invariant-loop-edge : goal.invariant-loop-edge
-invariant-loop-edge l = l.back.items ≡ map reversed (take l.edge-index l.edges)

@@ -1,8 +1,0 @@
-use Rattle.std.proofs.Common.{◌≡◌, drop, map}
-use Rattle.go_link_core.specs.Packages.{package_shown}
-use Rattle.go_link_core.specs.Reaching.{lacks_object}
-use Rattle.go_link_core.specs.mirrors.Numbering.{any_marked}
-use Rattle.go_link_core.proofs.reached.marked_lacks.Given as goal
-
-abbrev pub invariant-loop-number : goal.invariant-loop-number
-invariant-loop-number l = any_marked lacks_object (map package_shown l.packages) l.marks ≡ any_marked lacks_object (map package_shown (drop l.number l.packages)) (drop l.number l.marks)

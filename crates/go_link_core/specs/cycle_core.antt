@@ -1,4 +1,0 @@
--- What the crates above name of go_cycle_core.
-pub use Rattle.go_cycle_core.specs.Cycle as Cycle
-pub use Rattle.go_cycle_core.proofs.Marks as Marks
-pub use Rattle.go_cycle_core.specs.declared as declared

@@ -1,4 +1,0 @@
-pub mod Added
-pub mod Importing
-pub mod mirrors
-pub mod graph_core

@@ -1,6 +1,0 @@
-use Rattle.std.proofs.Common.{◌≡◌, map, take}
-use Rattle.go_literal_core.specs.mirrors.Numbers.{mark_by}
-use Rattle.go_literal_core.proofs.marks.mark_each.Given as goal
-
-abbrev pub invariant-loop-name : goal.invariant-loop-name
-invariant-loop-name l = l.all.items ≡ map (mark_by (map (λ n. n.now) l.again.keys) l.numbers.entries) (map (λ n. n.now) (take l.name-index l.names))

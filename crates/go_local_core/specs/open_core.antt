@@ -1,4 +1,0 @@
--- What the crates above name of go_open_core.
-pub use Rattle.go_open_core.specs.Blocks as Blocks
-pub use Rattle.go_open_core.proofs.Names as Names
-pub use Rattle.go_open_core.specs.declared as declared

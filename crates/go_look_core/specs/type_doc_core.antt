@@ -1,2 +1,0 @@
--- What the crates above name of go_type_doc_core.
-pub use Rattle.go_type_doc_core.specs.declared as declared

@@ -1,0 +1,10 @@
+pub mod PositionsLineStarts
+pub mod PositionsSteps
+pub mod PositionsWalks
+pub mod FramesEnds
+pub mod FramesStreams
+pub mod FramesAlone
+pub mod FramesBack
+pub mod EditsChanging
+pub mod EditsEditing
+pub mod EditsKeeping

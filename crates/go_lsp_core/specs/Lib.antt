@@ -1,0 +1,3 @@
+pub mod positions
+pub mod frames
+pub mod edits

@@ -1,5 +1,0 @@
-pub mod Finding
-pub mod Keeping
-pub mod Marking
-pub mod Searching
-pub mod Telling

@@ -1,6 +1,0 @@
-use Rattle.std.proofs.Common.{take}
-use Rattle.go_make_core.specs.mirrors.Marking.{AllMarked}
-use Rattle.go_make_core.proofs.kept.all_marked.Given as goal
-
-abbrev pub invariant-loop-number : goal.invariant-loop-number
-invariant-loop-number l = AllMarked l.marks (take l.number-index l.numbers)

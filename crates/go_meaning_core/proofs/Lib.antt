@@ -1,3 +1,0 @@
-mod Ending
-mod Giving
-mod Outlined

@@ -1,8 +1,0 @@
-use Rattle.std.proofs.Common.{◌≡◌, ◌++◌, drop, map}
-use Rattle.go_meaning_core.specs.Scenes.{methods_spotted}
-use Rattle.go_lookup_core.specs.mirrors.Spotting.{item_shown}
-use Rattle.go_meaning_core.proofs.tables.add_all.Given as goal
-
-abbrev pub invariant-loop-defined : goal.invariant-loop-defined
-invariant-loop-defined l =
-    map item_shown l.fn.items.items ++ methods_spotted l.types l.defined-items ≡ map item_shown l.items.items ++ methods_spotted l.types (drop l.defined-index l.defined-items)

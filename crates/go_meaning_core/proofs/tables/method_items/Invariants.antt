@@ -1,9 +1,0 @@
-use Rattle.std.proofs.Common.{◌≡◌, ◌++◌, drop, map}
-use Rattle.go_part_core.specs.summary_core.Views.{types_told}
-use Rattle.go_meaning_core.specs.Scenes.{methods_spotted}
-use Rattle.go_lookup_core.specs.mirrors.Spotting.{item_shown}
-use Rattle.go_meaning_core.proofs.tables.method_items.Given as goal
-
-abbrev pub invariant-loop-summary : goal.invariant-loop-summary
-invariant-loop-summary l =
-    map item_shown l.items.items ++ methods_spotted l.types (types_told (drop l.summary-index l.told)) ≡ methods_spotted l.types (types_told l.told)

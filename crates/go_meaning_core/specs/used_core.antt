@@ -1,2 +1,0 @@
--- What the crates above name of go_used_core.
-pub use Rattle.go_part_core.specs.used_core.Used as Used

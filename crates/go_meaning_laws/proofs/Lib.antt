@@ -1,0 +1,20 @@
+mod SourceMeaningSteps
+mod SourceMeaningOperators
+mod SourceMeaningVariables
+mod SourceMeaningExprs
+mod SourceMeaningSimples
+mod SourceMeaningStmts
+mod SourceMeaningFunctions
+mod SourceMeaningMeanings
+mod SourceMeaningSampled
+mod ProgramMeaningRunning
+pub mod FittingSourcesValued
+pub mod FittingSourcesFolds
+pub mod FittingSourcesExprs
+pub mod FittingSourcesPanics
+pub mod FittingSourcesFlows
+pub mod FittingSourcesSimples
+pub mod FittingSourcesStmts
+pub mod FittingSourcesFunctions
+pub mod FittingSourcesReaching
+mod ObjectSourcesCoded

@@ -1,0 +1,5 @@
+pub mod Values
+pub mod Meaning
+pub mod Whole
+pub mod Laws
+pub mod Samples

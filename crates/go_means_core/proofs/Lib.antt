@@ -1,9 +1,0 @@
-mod Steps
-mod Operators
-mod Variables
-mod Exprs
-mod Simples
-mod Stmts
-mod Functions
-mod Meanings
-mod Sampled

@@ -1,6 +1,0 @@
-pub mod Values
-pub mod Meaning
-pub mod Whole
-pub mod Laws
-pub mod Samples
-pub mod machine_core

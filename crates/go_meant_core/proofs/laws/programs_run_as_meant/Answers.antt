@@ -1,5 +1,0 @@
-use Rattle.go_meant_core.proofs.Running.{programs_run_as_meant}
-use Rattle.go_meant_core.proofs.laws.programs_run_as_meant.Goals as goal
-
-pub returns : goal.returns
-returns c = programs_run_as_meant c.meant_code_means_the_source.ensures c.answers_are_one.ensures

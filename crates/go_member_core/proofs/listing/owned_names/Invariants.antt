@@ -1,5 +1,0 @@
-use Rattle.std.proofs.Common.{◌≡◌, map, take}
-use Rattle.go_member_core.proofs.listing.owned_names.Given as goal
-
-abbrev pub invariant-loop-text : goal.invariant-loop-text
-invariant-loop-text l = l.names.items ≡ map (λ n. n.now) (take l.text-index l.all)

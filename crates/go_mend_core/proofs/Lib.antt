@@ -1,2 +1,0 @@
-pub mod BracketLemmas
-pub mod MendLemmas

@@ -1,0 +1,2 @@
+-- What the crates above name of go_scope_stack.
+pub use Rattle.go_local_core.specs.scope_stack.Blocks as Blocks

@@ -1,4 +1,0 @@
--- What the crates above name of go_fault_core.
-pub use Rattle.go_emit_core.specs.fault_core.Places as Places
-pub use Rattle.go_emit_core.specs.fault_core.TypeFaults as TypeFaults
-pub use Rattle.go_emit_core.specs.fault_core.declared as declared

@@ -1,5 +1,0 @@
--- What the crates above name of go_table_core.
-pub use Rattle.go_emit_core.specs.table_core.ByRule as ByRule
-pub use Rattle.go_emit_core.specs.table_core.Entries as Entries
-pub use Rattle.go_emit_core.specs.table_core.Methods as Methods
-pub use Rattle.go_emit_core.specs.table_core.Tables as Tables

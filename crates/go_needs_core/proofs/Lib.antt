@@ -1,4 +1,0 @@
-pub mod Needed
-pub mod Edges
-pub mod Filled
-pub mod Reading

@@ -1,6 +1,0 @@
-use Rattle.std.proofs.Common.{◌≡◌, ◌++◌, drop}
-use Rattle.go_needs_core.specs.Needs.{edges_at}
-use Rattle.go_needs_core.proofs.table.add_edges.Given as goal
-
-abbrev pub invariant-loop-to : goal.invariant-loop-to
-invariant-loop-to l = l.edges.items ++ edges_at l.from (drop l.to-index l.row) ≡ l.initial.edges.items ++ edges_at l.from l.row

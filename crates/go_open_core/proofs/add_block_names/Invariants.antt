@@ -1,7 +1,0 @@
-use Rattle.std.proofs.Common.{◌≡◌, drop}
-use Rattle.go_named_core.specs.Named.{entries_named}
-use Rattle.go_open_core.specs.Blocks.{block_of, names_in, list_names}
-use Rattle.go_open_core.proofs.add_block_names.Given as goal
-
-abbrev pub invariant-loop-name : goal.invariant-loop-name
-invariant-loop-name l = list_names l.names (names_in (entries_named (drop l.name-index l.name-items))) ≡ list_names l.fn.names (names_in (block_of l.block))

@@ -1,5 +1,0 @@
-use Rattle.std.proofs.Common.{◌∙◌}
-use Rattle.go_open_core.proofs.find_hashed.Goals as goal
-
-pub returns : goal.returns
-returns c = c.copied.ensures ∙ c.find.ensures

@@ -1,7 +1,0 @@
-use Rattle.std.proofs.Common.{◌≡◌, drop}
-use Rattle.go_named_core.specs.Named.{entries_named}
-use Rattle.go_open_core.specs.Blocks.{in_block}
-use Rattle.go_open_core.proofs.find_listed.Given as goal
-
-abbrev pub invariant-loop-key : goal.invariant-loop-key
-invariant-loop-key l = in_block (entries_named (drop l.key-index l.decls)) l.name ≡ in_block (entries_named l.decls) l.name

@@ -1,4 +1,0 @@
-pub mod Adding
-pub mod Listed
-pub mod Owning
-pub mod Standing

@@ -1,5 +1,0 @@
-use Rattle.go_output_core.proofs.OutputLemmas.{SentFirst}
-use Rattle.go_output_core.proofs.output.write_out.Given as goal
-
-abbrev pub invariant-loop-turn : goal.invariant-loop-turn
-invariant-loop-turn g l = SentFirst (g.W.Write.contents l.fn.writer) (g.W.Write.contents l.writer) l.bytes l.rest

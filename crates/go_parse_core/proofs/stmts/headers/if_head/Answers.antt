@@ -1,0 +1,14 @@
+use Rattle.std.proofs.Common.{sym}
+use Rattle.std.proofs.lemmas.Result.{err_from_is_err_and}
+use Rattle.go_parse_reader.proofs.TypesCodeSteps.{none_of}
+use Rattle.go_parse_core.proofs.StmtsCodeHeads.{if_is, if_fails}
+use Rattle.go_parse_core.proofs.stmts.headers.if_head.Goals as goal
+
+pub returns-in_err-init : goal.returns-in_err-init
+returns-in_err-init c =
+    let p = err_from_is_err_and c.from_residual-in_err-init.result c.from_residual-in_err-init.ensures.1 in
+    rw (p.1, p.2) (if_fails c.args.budget c.args.ahead _ _ _ c.in_default.ensures c.in_ok-front.ensures.tree (none_of _ _ (sym c.if-is_some.ensures) c.mark-2.ensures) c.in_err-init.ensures)
+
+pub returns : goal.returns
+returns c =
+    rw (if_is c.args.budget c.args.ahead _ _ _ _ _ c.in_default.ensures c.in_ok-front.ensures.tree (none_of _ _ (sym c.if-is_some.ensures) c.mark-2.ensures) c.in_ok-init.ensures) c.condition-2.ensures

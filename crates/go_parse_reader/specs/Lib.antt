@@ -1,0 +1,2 @@
+pub mod types
+pub mod exprs

@@ -1,6 +1,0 @@
-use Rattle.std.proofs.Common.{refl}
-use Rattle.go_parse_types.proofs.CodeEntries.{with_name_is}
-use Rattle.go_parse_types.proofs.entries.with_name.Goals as goal
-
-pub returns-in_ok-add-in-Some : goal.returns-in_ok-add-in-Some
-returns-in_ok-add-in-Some c = with_name_is _ _ _ _ _ _ c.in-Some.is c.in_ok-add-in-Some.ensures refl refl

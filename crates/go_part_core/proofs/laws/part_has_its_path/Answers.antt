@@ -1,6 +1,0 @@
-use Rattle.std.proofs.Common.{ap}
-use Rattle.go_package_core.specs.summary_core.Summaries.{path_of}
-use Rattle.go_part_core.proofs.laws.part_has_its_path.Goals as goal
-
-pub returns : goal.returns
-returns c = λ i content made. ap path_of made.summary

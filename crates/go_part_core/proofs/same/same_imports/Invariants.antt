@@ -1,6 +1,0 @@
-use Rattle.std.proofs.Common.{◌≡◌, take, map}
-use Rattle.go_package_core.specs.block_core.Naming.{imported_in}
-use Rattle.go_part_core.proofs.same.same_imports.Given as goal
-
-abbrev pub invariant-loop-place : goal.invariant-loop-place
-invariant-loop-place l = map imported_in (take l.place l.files) ≡ map imported_in (take l.place l.others)

@@ -1,5 +1,0 @@
-use Rattle.std.proofs.Common.{◌≡◌, take}
-use Rattle.go_part_core.proofs.shared.shared_of_file.Given as goal
-
-abbrev pub invariant-loop-imported : goal.invariant-loop-imported
-invariant-loop-imported l = l.shared.items ≡ take l.imported-index l.imports

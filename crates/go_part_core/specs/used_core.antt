@@ -1,3 +1,0 @@
--- What the crates above name of go_used_core.
-pub use Rattle.go_package_core.specs.used_core.Laws as Laws
-pub use Rattle.go_package_core.specs.used_core.Used as Used

@@ -1,9 +1,0 @@
-pub mod Counting
-pub mod Examples
-pub mod Heads
-pub mod Listing
-pub mod Local
-pub mod Noting
-pub mod Occurring
-pub mod Shown
-pub mod Turns

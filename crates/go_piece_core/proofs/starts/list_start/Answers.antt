@@ -1,6 +1,0 @@
-use Rattle.std.proofs.Common.{sym, ◌∙◌}
-use Rattle.go_piece_core.proofs.Listing.{list_begins}
-use Rattle.go_piece_core.proofs.starts.list_start.Goals as goal
-
-pub returns : goal.returns
-returns c = c.start.ensures ∙ sym (list_begins c.args.exprs.now.first c.args.exprs.now.more.items)

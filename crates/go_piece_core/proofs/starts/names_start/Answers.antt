@@ -1,6 +1,0 @@
-use Rattle.std.proofs.Common.{sym}
-use Rattle.go_piece_core.proofs.Listing.{names_begin}
-use Rattle.go_piece_core.proofs.starts.names_start.Goals as goal
-
-pub returns : goal.returns
-returns c = sym (names_begin c.args.names.now.first c.args.names.now.more.items)

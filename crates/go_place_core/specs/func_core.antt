@@ -1,2 +1,0 @@
--- What the crates above name of go_func_core.
-pub use Rattle.go_spelling_core.specs.func_core.Stands as Stands

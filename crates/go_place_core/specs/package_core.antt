@@ -1,4 +1,0 @@
--- What the crates above name of go_package_core.
-pub use Rattle.go_spelling_core.specs.package_core.Checked as Checked
-pub use Rattle.go_spelling_core.specs.package_core.Numbered as Numbered
-pub use Rattle.go_spelling_core.specs.package_core.Steps as Steps

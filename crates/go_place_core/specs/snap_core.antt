@@ -1,4 +1,0 @@
--- What the crates above name of go_snap_core.
-pub use Rattle.go_spelling_core.specs.snap_core.Faulty as Faulty
-pub use Rattle.go_spelling_core.specs.snap_core.Snapshots as Snapshots
-pub use Rattle.go_spelling_core.specs.snap_core.declared as declared

@@ -1,3 +1,0 @@
-pub mod LineStarts
-pub mod Steps
-pub mod Walks

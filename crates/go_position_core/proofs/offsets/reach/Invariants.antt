@@ -1,6 +1,0 @@
-use Rattle.std.proofs.Common.{◌≡◌, ◌+◌, drop}
-use Rattle.go_position_core.specs.Positions.{offset_at, units}
-use Rattle.go_position_core.proofs.offsets.reach.Given as goal
-
-abbrev pub invariant-loop-at : goal.invariant-loop-at
-invariant-loop-at l = l.at + offset_at (units l.encoding) (drop l.at l.bytes) 0 l.room ≡ offset_at (units l.encoding) l.bytes 0 l.character

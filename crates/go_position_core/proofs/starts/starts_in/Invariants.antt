@@ -1,6 +1,0 @@
-use Rattle.std.proofs.Common.{◌≡◌, ◌++◌, drop}
-use Rattle.go_position_core.specs.mirrors.Starts.{starts_from}
-use Rattle.go_position_core.proofs.starts.starts_in.Given as goal
-
-abbrev pub invariant-loop-at : goal.invariant-loop-at
-invariant-loop-at l = l.starts.items ++ starts_from l.at (drop l.at l.bytes) ≡ starts_from 0 l.bytes

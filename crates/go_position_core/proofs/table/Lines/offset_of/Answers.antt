@@ -1,9 +1,0 @@
-use Rattle.std.proofs.Common.{◌≡◌, rules, sym, subst, IsCharBoundary}
-use Rattle.go_position_core.specs.Positions.{offset_at, units}
-use Rattle.go_position_core.proofs.Steps.{no_cut}
-use Rattle.go_position_core.proofs.table.Lines.offset_of.Goals as goal
-
-pub returns-clause-boundary : goal.returns-clause-boundary
-returns-clause-boundary c =
-    let e : c.offset_by.result ≡ offset_at (units c.args.encoding) c.args.self.now c.args.position.line c.args.position.character = search rules in
-    subst (IsCharBoundary c.args.self.now) (sym e) (no_cut c.args.encoding c.args.self.now c.args.position.line c.args.position.character)

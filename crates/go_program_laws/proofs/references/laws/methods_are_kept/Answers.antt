@@ -1,0 +1,7 @@
+use Rattle.go_program_laws.proofs.ReferencesKept.{methods_kept}
+use Rattle.go_program_laws.proofs.references.laws.methods_are_kept.Goals as goal
+
+pub returns : goal.returns
+returns c =
+    methods_kept c.methods_are_declared.ensures c.methods_give_theirs.ensures c.methods_are_of_parts.ensures c.receivers_take_words.ensures c.seen_are_in_program.ensures c.functions_have_numbers.ensures c.parts_are_among.ensures
+    c.own_references_take_words.ensures c.own_signatures_are_theirs.ensures c.headers_give_their_results.ensures c.reached_are_inside.ensures c.signatures_are_alike.ensures

@@ -1,0 +1,14 @@
+use Rattle.go_program_laws.proofs.TypesDeclared.{variables_declared}
+use Rattle.go_program_laws.proofs.types.laws.variables_are_declared.Goals as goal
+
+pub returns : goal.returns
+returns c =
+    variables_declared
+    (record {
+      fine = c.objects_are_of_faultless.ensures;
+      one = c.functions_have_one_table.ensures;
+      of_locals = c.locals_are_declarations.ensures;
+      funcs = c.functions_are_placed.ensures;
+      binds = c.imports_bind_theirs.ensures;
+      between = c.bodies_are_between_braces.ensures;
+    })

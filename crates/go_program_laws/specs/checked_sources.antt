@@ -1,0 +1,9 @@
+pub mod Laws
+pub mod Operators
+pub mod Statements
+pub mod Types
+pub mod Names
+pub mod Initial
+pub mod Variables
+pub mod Pieces
+pub mod RunLaws

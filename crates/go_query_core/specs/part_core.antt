@@ -1,3 +1,0 @@
--- What the crates above name of go_part_core.
-pub use Rattle.go_hint_core.specs.part_core.Inputs as Inputs
-pub use Rattle.go_hint_core.specs.part_core.Parts as Parts

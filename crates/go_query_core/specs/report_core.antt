@@ -1,0 +1,2 @@
+-- What the crates above name of go_report_core.
+pub use Rattle.go_complete_core.specs.report_core.UsageUsed as UsageUsed

@@ -1,2 +1,0 @@
--- What the crates above name of go_scope_core.
-pub use Rattle.go_hint_core.specs.scope_core_lemmas.Lookups as Lookups

@@ -1,6 +1,0 @@
-use Rattle.std.proofs.Common.{◌≡◌, length}
-use Rattle.go_cycle_core.specs.mirrors.Search.{AreEmpty}
-use Rattle.go_reach_core.proofs.graph.empty_rows.Given as goal
-
-abbrev pub invariant-loop : goal.invariant-loop
-invariant-loop l = record { len : length l.rows.items ≡ l.counter; empty : AreEmpty l.rows.items }

@@ -1,7 +1,0 @@
-use Rattle.std.proofs.Common.{◌≡◌, length, map, take}
-use Rattle.go_cycle_core.specs.Cycle.{reversed}
-use Rattle.go_reach_core.specs.mirrors.Filling.{AreEnds}
-use Rattle.go_reach_core.proofs.graph.starts_of.Given as goal
-
-abbrev pub invariant-loop-edge : goal.invariant-loop-edge
-invariant-loop-edge l = record { len : length l.rows.items ≡ l.count; rows : AreEnds (map reversed (take l.edge-index l.edges)) l.rows.items }

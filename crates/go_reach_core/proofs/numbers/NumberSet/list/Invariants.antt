@@ -1,7 +1,0 @@
-use Rattle.std.proofs.Common.{◌≡◌}
-use Rattle.go_reach_core.specs.mirrors.Words.{has_bit}
-use Rattle.go_reach_core.proofs.Members.{kept}
-use Rattle.go_reach_core.proofs.numbers.NumberSet.list.Given as goal
-
-abbrev pub invariant-loop-number : goal.invariant-loop-number
-invariant-loop-number l = l.numbers.items ≡ kept (has_bit l.self-inside.words.items) l.number

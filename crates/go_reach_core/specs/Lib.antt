@@ -1,4 +1,0 @@
-pub mod Numbers
-pub mod Reach
-pub mod mirrors
-pub mod cycle_core

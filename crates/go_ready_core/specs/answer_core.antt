@@ -1,4 +1,0 @@
--- What the crates above name of go_answer_core.
-pub use Rattle.go_used_core.specs.answer_core.Outer as Outer
-pub use Rattle.go_used_core.specs.answer_core.Shown as Shown
-pub use Rattle.go_used_core.specs.answer_core.declared as declared

@@ -1,3 +1,0 @@
--- What the crates above name of go_handle_core.
-pub use Rattle.go_used_core.specs.handle_core.Declarations as Declarations
-pub use Rattle.go_used_core.specs.handle_core.Names as Names

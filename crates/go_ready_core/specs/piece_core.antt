@@ -1,9 +1,0 @@
--- What the crates above name of go_piece_core.
-pub use Rattle.go_file_core.specs.piece_core.Headers as Headers
-pub use Rattle.go_file_core.specs.piece_core.Laws as Laws
-pub use Rattle.go_file_core.specs.piece_core.Pieces as Pieces
-pub use Rattle.go_file_core.specs.piece_core.Specifications as Specifications
-pub use Rattle.go_file_core.specs.piece_core.Statements as Statements
-pub use Rattle.go_file_core.specs.piece_core.Targets as Targets
-pub use Rattle.go_file_core.specs.piece_core.Types as Types
-pub use Rattle.go_file_core.specs.piece_core.Values as Values

@@ -1,0 +1,2 @@
+pub mod mend
+pub mod standin

@@ -1,5 +1,0 @@
-mod Counted
-mod Kept
-mod Moved
-mod Paired
-mod Retold

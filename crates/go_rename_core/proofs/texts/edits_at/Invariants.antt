@@ -1,7 +1,0 @@
-use Rattle.std.proofs.Common.{◌≡◌, map, take}
-use Rattle.go_edit_core.specs.Edits.{part_of}
-use Rattle.go_rename_core.specs.Renaming.{name_parts}
-use Rattle.go_rename_core.proofs.texts.edits_at.Given as goal
-
-abbrev pub invariant-loop-at : goal.invariant-loop-at
-invariant-loop-at l = map part_of l.edits.items ≡ name_parts l.len l.new (take l.at-index l.offsets)

@@ -1,0 +1,15 @@
+use Rattle.std.proofs.Common.{map}
+use Rattle.std.specs.Prelude.{slice_get}
+use Rattle.go_summary_core.specs.table_core.Shown.{entry_shown}
+use Rattle.go_summary_core.specs.typexpr_core.EntryOutlines.{outline_shown}
+use Rattle.go_report_core.specs.type_faults.TypeFaults.{type_loop_fault}
+use Rattle.go_report_core.proofs.TypeFaultsAdding.{item_step_or, plain_end}
+use Rattle.go_report_core.proofs.type_faults.entries.add_loops.Goals as goal
+
+pub loop-fault-preserved : goal.loop-fault-preserved
+loop-fault-preserved c =
+    item_step_or (λ f. f) (λ f. type_loop_fault (map outline_shown c.args.outlines.now) f (slice_get (map entry_shown c.args.entries.now) f.entry)) c.args.loops.now c.loop-fault.fault-index _ c.args.faults.now.items _ _ c.loop-fault-test.true c.in_ok-add_loop.ensures c.loop-fault.invariant
+
+pub returns : goal.returns
+returns c =
+    plain_end (λ f. type_loop_fault (map outline_shown c.args.outlines.now) f (slice_get (map entry_shown c.args.entries.now) f.entry)) c.args.loops.now c.loop-fault.fault-index c.args.faults.now.items _ c.loop-fault-test.false c.loop-fault.invariant

@@ -1,2 +1,0 @@
--- What the crates above name of go_local_core.
-pub use Rattle.go_expr_core.specs.local_core.declared as declared

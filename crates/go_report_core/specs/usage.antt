@@ -1,0 +1,4 @@
+pub mod Laws
+pub mod Reported
+pub mod Used
+pub mod mirrors

@@ -1,4 +1,0 @@
-mod Ones
-mod Behind
-mod Worked
-mod Telling

@@ -1,4 +1,0 @@
-pub mod Runs
-pub mod Laws
-pub mod Samples
-pub mod link_core

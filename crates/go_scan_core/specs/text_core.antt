@@ -1,4 +1,0 @@
--- What the crates above name of go_text_core.
-pub use Rattle.go_token_core.specs.text_core.Boundaries as Boundaries
-pub use Rattle.go_token_core.specs.text_core.Slices as Slices
-pub use Rattle.go_token_core.specs.text_core.declared as declared

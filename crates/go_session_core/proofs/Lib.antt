@@ -1,0 +1,9 @@
+pub mod QueriesAnswered
+pub mod QueriesInsides
+pub mod QueriesLasts
+pub mod QueriesListed
+pub mod QueriesRunning
+pub mod OverlayChanges
+pub mod OverlayPrefixes
+pub mod OverlayTexts
+pub mod OverlayWalks

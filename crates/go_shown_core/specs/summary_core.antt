@@ -1,4 +1,0 @@
--- What the crates above name of go_summary_core.
-pub use Rattle.go_summary_core.specs.Summaries as Summaries
-pub use Rattle.go_summary_core.specs.Views as Views
-pub use Rattle.go_summary_core.specs.codes as codes

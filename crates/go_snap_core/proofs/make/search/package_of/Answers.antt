@@ -1,0 +1,10 @@
+use Rattle.std.proofs.Common.{rules}
+use Rattle.std.proofs.lemmas.Fn.{always_returns_same}
+use Rattle.go_graph_core.specs.Workspaces.{by_bytes}
+use Rattle.go_snap_core.proofs.MakeFinding.{package_found}
+use Rattle.go_snap_core.proofs.make.search.package_of.Goals as goal
+
+pub returns : goal.returns
+returns c =
+    package_found c.args.packages.now c.args.path.now c.binary_search_by.result c.ok.result c.ok.ensures.value c.requires c.binary_search_by.ensures.bound
+    (c.binary_search_by.ensures.position (λ p. by_bytes p.0 c.args.path.now) (always_returns_same _ _ _ (λ a r f' k. search rules)))

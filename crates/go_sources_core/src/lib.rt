@@ -1,6 +1,0 @@
-//! The sources of the functions of objects, and that they run as their sources mean: laws with nothing to run.
-#![tactic(auto)]
-
-mod laws;
-
-pub use laws::{objects_are_code_of_sources, objects_run_as_meant};

@@ -1,7 +1,0 @@
-use Rattle.std.proofs.Common.{refl}
-use Rattle.go_spot_core.proofs.Finding.{Ahead}
-use Rattle.go_spot_core.proofs.TreeLists.{listed_specs, one_spec}
-use Rattle.go_spot_core.proofs.file.in_value_specs.Given as goal
-
-abbrev pub invariant-loop-line : goal.invariant-loop-line
-invariant-loop-line l = Ahead l.start listed_specs one_spec (λ n. refl) (λ n x xs. refl) l.line-items l.line-index

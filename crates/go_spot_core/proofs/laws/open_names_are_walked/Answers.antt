@@ -1,5 +1,0 @@
-use Rattle.go_spot_core.proofs.Walking.{names_walked}
-use Rattle.go_spot_core.proofs.laws.open_names_are_walked.Goals as goal
-
-pub returns : goal.returns
-returns g c = names_walked _ _

@@ -1,9 +1,0 @@
-use Rattle.std.proofs.Common.{refl}
-use Rattle.go_spot_core.proofs.Finding.{front, behind}
-use Rattle.go_spot_core.proofs.pieces.in_assignment.Goals as goal
-
-pub returns-in-None : goal.returns-in-None
-returns-in-None c = behind c.args.start c.in_targets.result c.in_exprs.result _ _ _ refl c.in_targets.ensures c.in-None.is c.in_exprs.ensures
-
-pub returns-in_default : goal.returns-in_default
-returns-in_default c = front c.args.start c.in_targets.result _ _ _ refl c.in_targets.ensures c.in_default.not-None

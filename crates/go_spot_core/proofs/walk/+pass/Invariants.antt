@@ -1,8 +1,0 @@
-use Rattle.std.proofs.Common.{refl}
-use Rattle.go_walk_core.proofs.Visits.{Ahead}
-use Rattle.go_walk_core.proofs.StepLemmas.{listed, one_line}
-use Rattle.go_spot_core.specs.mirrors.Searching.{Leads}
-use Rattle.go_spot_core.proofs.walk.+pass.Given as goal
-
-abbrev pub invariant-pass_lines-loop-line : goal.invariant-pass_lines-loop-line
-invariant-pass_lines-loop-line l = Ahead Leads listed one_line refl (λ x xs. refl) l.fn.search l.line-items l.line-index l.search

@@ -1,6 +1,0 @@
-use Rattle.std.proofs.Common.{◌≡◌, ◌+◌, drop}
-use Rattle.go_standin_core.specs.Lines.{before_newline, line_end}
-use Rattle.go_standin_core.proofs.around.line_end.Given as goal
-
-abbrev pub invariant-loop-at : goal.invariant-loop-at
-invariant-loop-at l = l.at + before_newline (drop l.at l.bytes) ≡ line_end l.bytes l.offset

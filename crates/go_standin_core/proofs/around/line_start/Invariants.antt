@@ -1,6 +1,0 @@
-use Rattle.std.proofs.Common.{◌≡◌, ◌-◌, drop}
-use Rattle.go_standin_core.specs.Lines.{line_start, start_from}
-use Rattle.go_standin_core.proofs.around.line_start.Given as goal
-
-abbrev pub invariant-loop-at : goal.invariant-loop-at
-invariant-loop-at l = start_from l.start l.at (drop l.at l.bytes) (l.offset - l.at) ≡ line_start l.bytes l.offset

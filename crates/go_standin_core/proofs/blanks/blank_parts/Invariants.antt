@@ -1,6 +1,0 @@
-use Rattle.std.proofs.Common.{◌≡◌, drop}
-use Rattle.go_standin_core.specs.Blanks.{all_blanked}
-use Rattle.go_standin_core.proofs.blanks.blank_parts.Given as goal
-
-abbrev pub invariant-loop-part : goal.invariant-loop-part
-invariant-loop-part l = all_blanked (drop l.part-index l.parts) l.bytes ≡ all_blanked l.parts l.fn.bytes

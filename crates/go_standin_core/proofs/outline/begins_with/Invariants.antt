@@ -1,6 +1,0 @@
-use Rattle.std.proofs.Common.{◌≡◌, drop}
-use Rattle.go_standin_core.specs.Outlines.{begins_with}
-use Rattle.go_standin_core.proofs.outline.begins_with.Given as goal
-
-abbrev pub invariant-loop-at : goal.invariant-loop-at
-invariant-loop-at l = begins_with (drop l.at l.word) (drop l.at l.bytes) ≡ begins_with l.word l.bytes

@@ -1,9 +1,0 @@
-pub mod Turns
-pub mod Pairing
-pub mod Assigning
-pub mod Typing
-pub mod Knowing
-pub mod Returning
-pub mod Standing
-pub mod Alike
-pub mod Samples

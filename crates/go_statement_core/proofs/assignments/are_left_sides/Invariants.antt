@@ -1,7 +1,0 @@
-use Rattle.std.proofs.Common.{◌≡◌, drop}
-use Rattle.std.specs.List.{list_all}
-use Rattle.go_statement_core.specs.Assignments.{is_left_side}
-use Rattle.go_statement_core.proofs.assignments.are_left_sides.Given as goal
-
-abbrev pub invariant-loop-target : goal.invariant-loop-target
-invariant-loop-target g l = list_all is_left_side (drop l.target-index l.targets) ≡ list_all is_left_side l.targets

@@ -1,9 +1,0 @@
-use Rattle.std.proofs.Common.{◌≡◌, drop}
-use Rattle.std.specs.List.{list_all}
-use Rattle.go_statement_core.specs.Constants.{is_constant}
-use Rattle.go_statement_core.proofs.constants.are_constant.Given as goal
-
-abbrev pub invariant-loop-argument : goal.invariant-loop-argument
-invariant-loop-argument g l =
-    let rules = g.E.TypeLooks.types l.env in
-    list_all (is_constant rules) (drop l.argument-index l.given) ≡ list_all (is_constant rules) l.given

@@ -1,0 +1,19 @@
+pub mod StatementTurns
+pub mod StatementPairing
+pub mod StatementAssigning
+pub mod StatementTyping
+pub mod StatementKnowing
+pub mod StatementReturning
+pub mod StatementStanding
+pub mod StatementAlike
+pub mod StatementSamples
+pub mod PieceCounting
+pub mod PieceExamples
+pub mod PieceHeads
+pub mod PieceListing
+pub mod PieceLocal
+pub mod PieceNoting
+pub mod PieceOccurring
+pub mod PieceShown
+pub mod PieceTurns
+mod ToplevelLists

@@ -1,0 +1,123 @@
+-- The worked pieces, computed.
+use Rattle.std.proofs.Common.{refl}
+use Rattle.go_stmt_core.specs.piece.Worked.{WorkedPieces}
+
+pub worked : WorkedPieces
+worked = record {
+  assignments = record {
+    fitting = refl;
+    misfit = refl;
+    second_misfit = refl;
+    both_fit = refl;
+    constant_left = refl;
+    blank_left = refl;
+    blank_inside = refl;
+    blank_nil = refl;
+    blank_right = refl;
+    spread = refl;
+    spread_misfit = refl;
+    too_many = refl;
+    no_value = refl;
+    unknown_count = refl;
+    known_count = refl;
+    member = refl;
+    call_left = refl;
+    calls_left = refl;
+    sum = refl;
+    sum_misfit = refl;
+    bits = refl;
+    several = refl;
+    blank_sum = refl;
+    blank_sum_faults = refl;
+    division = refl;
+    step = refl;
+    step_text = refl;
+    step_call = refl;
+  };
+  statements = record {
+    call = refl;
+    results_unused = refl;
+    no_call = refl;
+    conversion = refl;
+    inside = refl;
+    length = refl;
+    refused = refl;
+    refused_call = refl;
+    compared = refl;
+    integer = refl;
+    truth = refl;
+    several = refl;
+    no_condition = refl;
+    nothing = refl;
+    missing = refl;
+    named = refl;
+    returned = refl;
+    other_type = refl;
+    unwanted = refl;
+    both_returned = refl;
+    no_result = refl;
+    returned_uses = refl;
+  };
+  shorts = record {
+    new = refl;
+    new_faults = refl;
+    new_nil = refl;
+    new_nil_faults = refl;
+    old = refl;
+    old_faults = refl;
+    old_misfit = refl;
+    old_misfit_faults = refl;
+    old_constant = refl;
+    repeated = refl;
+    repeated_faults = refl;
+    old_repeated = refl;
+    blank_new = refl;
+    spread = refl;
+    too_few = refl;
+    too_few_faults = refl;
+  };
+  specifications = record {
+    plain = refl;
+    plain_faults = refl;
+    plain_uses = refl;
+    misfit = refl;
+    misfit_values = refl;
+    second_misfit = refl;
+    by_value = refl;
+    by_nil = refl;
+    by_refused = refl;
+    by_refused_values = refl;
+    by_call = refl;
+    too_many = refl;
+    too_few = refl;
+    no_type = refl;
+    no_type_values = refl;
+    all_faults = refl;
+    constant = refl;
+    constant_faults = refl;
+    not_constant = refl;
+    not_constant_values = refl;
+    constant_misfit = refl;
+    constant_misfit_values = refl;
+    constant_refused = refl;
+    constant_refused_values = refl;
+    no_constant_type = refl;
+    second_constant = refl;
+    second_values = refl;
+    one_for_two = refl;
+    one_for_two_values = refl;
+    call_for_two = refl;
+    refused_for_two = refl;
+    several = refl;
+  };
+  headers = record {
+    uses = refl;
+    faults = refl;
+    values = refl;
+    results = refl;
+    names = refl;
+    unnamed = refl;
+    unnamed_results = refl;
+    no_names = refl;
+  };
+}

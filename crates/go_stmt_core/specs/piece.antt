@@ -1,0 +1,10 @@
+pub mod Values
+pub mod Types
+pub mod Targets
+pub mod Specifications
+pub mod Headers
+pub mod Statements
+pub mod Pieces
+pub mod Laws
+pub mod Worked
+pub mod mirrors

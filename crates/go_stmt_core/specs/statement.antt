@@ -1,0 +1,11 @@
+pub mod Targets
+pub mod Assignments
+pub mod Declarations
+pub mod Constants
+pub mod Returns
+pub mod Statements
+pub mod Updates
+pub mod Relations
+pub mod Laws
+pub mod Locality
+pub mod Worked

@@ -1,0 +1,3 @@
+-- What the crates above name of go_snap_core.
+pub use Rattle.go_snap_core.specs.Snapshots as Snapshots
+pub use Rattle.go_snap_core.specs.whole_workspace.Inputs as WholeWorkspaceInputs

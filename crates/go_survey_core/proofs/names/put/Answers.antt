@@ -1,6 +1,0 @@
-use Rattle.std.proofs.Common.{sym, ◌∙◌}
-use Rattle.go_survey_core.proofs.Noting.{name_added}
-use Rattle.go_survey_core.proofs.names.put.Goals as goal
-
-pub returns-in-Ok : goal.returns-in-Ok
-returns-in-Ok c = name_added c.args.known.now.entries c.insert.new.self.entries c.args.name c.args.new (sym c.if-contains_key.false ∙ c.contains_key.ensures) c.in-Ok.ensures.updates.0

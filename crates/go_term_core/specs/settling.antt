@@ -1,0 +1,4 @@
+pub mod Laws
+pub mod Settled
+pub mod Clean
+pub mod mirrors

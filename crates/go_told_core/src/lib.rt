@@ -1,8 +1,0 @@
-//! How the declaration is written which a snapshot has for an identifier at an offset: it is never left out. Laws, with nothing to run.
-//!
-//! The Go specification, "Declarations and scope", "Packages", "Selectors".
-#![tactic(auto)]
-
-mod laws;
-
-pub use laws::definitions_are_told;

@@ -1,2 +1,0 @@
-pub mod SameTrees
-mod Unchanged

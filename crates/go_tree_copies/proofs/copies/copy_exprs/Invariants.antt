@@ -1,7 +1,0 @@
-use Rattle.std.proofs.Common.{◌≡◌, map, take}
-use Rattle.go_tree_copies.specs.Respelled.{spelled}
-use Rattle.go_tree_copies.proofs.SameTrees.{next_expr, other_expr}
-use Rattle.go_tree_copies.proofs.copies.copy_exprs.Given as goal
-
-abbrev pub invariant-loop-next : goal.invariant-loop-next
-invariant-loop-next l = map next_expr l.more.items ≡ map (λ x. other_expr (spelled l.copier) (next_expr x)) (take l.next-index l.next-items)

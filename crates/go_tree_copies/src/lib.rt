@@ -1,9 +1,0 @@
-//! Copies of files: of the same tree, and with another spelling of one identifier.
-#![tactic(auto)]
-
-mod copier;
-mod copies;
-mod file_copies;
-mod stmt_copies;
-
-pub use file_copies::{copy, respelled};

@@ -1,2 +1,0 @@
--- What the crates above name of go_place_core.
-pub use Rattle.go_query_core.specs.place_core.Completions as Completions

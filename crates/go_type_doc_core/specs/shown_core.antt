@@ -1,2 +1,0 @@
--- What the crates above name of go_shown_core.
-pub use Rattle.go_query_core.specs.shown_core.Shown as Shown

@@ -1,0 +1,20 @@
+use Rattle.std.proofs.Common.{◌++◌, [], map, sym, ap, ◌∙◌, append-nil}
+use Rattle.std.proofs.lemmas.List.{take_all}
+use Rattle.go_term_core.specs.decl_core.Shown.{decl_shown}
+use Rattle.go_type_core.specs.table_core.Shown.{entry_shown}
+use Rattle.go_typexpr_core.specs.written.Written.{in_file}
+use Rattle.go_typexpr_core.specs.entry.Entries.{file_entries_by}
+use Rattle.go_typexpr_core.proofs.EntryGains.{types_step}
+use Rattle.go_typexpr_core.proofs.entry.entries.add_types.Goals as goal
+
+pub loop-decl-init : goal.loop-decl-init
+loop-decl-init g c = sym (append-nil (map entry_shown c.args.entries.now.items))
+
+pub loop-decl-preserved : goal.loop-decl-preserved
+loop-decl-preserved g c =
+    types_step c.args.also (g.N.TypeNames.meaning c.args.names.now) (in_file c.args.at.now) c.args.decls.now c.loop-decl.decl-index c.decl-item.result (map entry_shown c.args.entries.now.items) _ _ c.loop-decl-test.true c.decl-item.is c.loop-decl.invariant c.in_ok-add_type.ensures
+
+pub returns : goal.returns
+returns g c =
+    c.loop-decl.invariant
+    ∙ ap (λ ds. map entry_shown c.args.entries.now.items ++ file_entries_by c.args.also (g.N.TypeNames.meaning c.args.names.now) (in_file c.args.at.now) [] (map decl_shown ds)) (take_all c.loop-decl.decl-index c.args.decls.now c.loop-decl-test.false)

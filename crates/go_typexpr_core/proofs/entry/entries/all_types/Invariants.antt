@@ -1,0 +1,9 @@
+use Rattle.std.proofs.Common.{◌≡◌, true, [], map, take}
+use Rattle.go_type_core.specs.table_core.Shown.{entry_shown}
+use Rattle.go_typexpr_core.specs.entry.Entries.{entries_by, package_meanings}
+use Rattle.go_typexpr_core.specs.entry.Meanings.{raw}
+use Rattle.go_typexpr_core.specs.entry.Outlines.{outline_shown}
+use Rattle.go_typexpr_core.proofs.entry.entries.all_types.Given as goal
+
+abbrev pub invariant-loop-file : goal.invariant-loop-file
+invariant-loop-file g l = map entry_shown l.entries.items ≡ entries_by true (package_meanings (raw (g.P.ImportedNames.shows l.fn.imported)) l.fn.path l.fn.blocks) l.fn.path [] (map outline_shown (take l.file l.outlines))

@@ -1,0 +1,10 @@
+use Rattle.std.proofs.Common.{◌≡◌, map, take}
+use Rattle.go_term_core.specs.decl_core.Shown.{decl_shown}
+use Rattle.go_type_core.specs.table_core.Shown.{entry_shown}
+use Rattle.go_typexpr_core.specs.written.Written.{in_file}
+use Rattle.go_typexpr_core.specs.entry.Entries.{file_methods}
+use Rattle.go_typexpr_core.specs.entry.mirrors.Gaining.{all_gaining}
+use Rattle.go_typexpr_core.proofs.entry.methods.add_methods.Given as goal
+
+abbrev pub invariant-loop-decl : goal.invariant-loop-decl
+invariant-loop-decl g l = map entry_shown l.entries.items ≡ all_gaining (file_methods (g.N.TypeNames.meaning l.fn.names) (in_file l.fn.at) (map decl_shown (take l.decl-index l.decls))) (map entry_shown l.fn.entries.items)

@@ -1,0 +1,8 @@
+use Rattle.std.proofs.Common.{rules, of_calls}
+use Rattle.std.proofs.lemmas.Fn.{always_returns_same}
+use Rattle.go_typexpr_core.proofs.EntryPlacing.{rise_split}
+use Rattle.go_typexpr_core.proofs.entry.methods.count_before.Goals as goal
+use Rattle.go_term_core.specs.decl_core.Order.{is_ref_before}
+
+pub returns-clause-split : goal.returns-clause-split
+returns-clause-split c = c.partition_point.ensures.partitioned (λ e. is_ref_before e.key.decl c.args.decl) (always_returns_same _ _ _ (λ a r f k. search (rules, of_calls))) (rise_split c.args.entries.now c.args.decl c.requires)

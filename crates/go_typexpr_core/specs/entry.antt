@@ -1,0 +1,10 @@
+pub mod Entries
+pub mod Laws
+pub mod Marks
+pub mod Meanings
+pub mod Names
+pub mod Outlines
+pub mod Sample
+pub mod Scoped
+pub mod Showing
+pub mod mirrors

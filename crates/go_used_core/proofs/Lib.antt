@@ -1,5 +1,0 @@
-mod Bound
-mod Places
-mod Said
-mod Steps
-mod Using

@@ -1,7 +1,0 @@
-use Rattle.go_term_core.proofs.Members.{contained_in, in_contained}
-use Rattle.go_used_core.specs.Used.{used_places}
-use Rattle.go_used_core.proofs.Using.{used_from, used_to}
-use Rattle.go_used_core.proofs.laws.used_imports_are_these.Goals as goal
-
-pub returns : goal.returns
-returns c b file os us at = (λ h. used_to b file at os us (in_contained (used_places b file os us) at h), λ h. contained_in (used_places b file os us) at (used_from b file at os us h))

@@ -1,8 +1,0 @@
-use Rattle.std.proofs.Common.{◌≡◌, take}
-use Rattle.std.specs.List.{flat_map}
-use Rattle.go_used_core.specs.mirrors.Steps.{with_places}
-use Rattle.go_used_core.proofs.Steps.{line_blank}
-use Rattle.go_used_core.proofs.unused.add_blanks.Given as goal
-
-abbrev pub invariant-loop-line : goal.invariant-loop-line
-invariant-loop-line l = l.places.keys ≡ with_places l.fn.places.keys (flat_map line_blank (take l.line-index l.line-items))

@@ -1,6 +1,0 @@
-use Rattle.std.proofs.Common.{◌≡◌, ◌++◌, drop, map, take}
-use Rattle.go_used_core.specs.Used.{judged_import}
-use Rattle.go_used_core.proofs.unused.judge_all.Given as goal
-
-abbrev pub invariant-loop-answer : goal.invariant-loop-answer
-invariant-loop-answer l = l.answers ≡ map (judged_import l.places.keys) (take l.answer-index l.fn.answers) ++ drop l.answer-index l.fn.answers

@@ -1,4 +1,0 @@
--- What the crates above name of go_answer_core.
-pub use Rattle.go_answer_core.specs.Outer as Outer
-pub use Rattle.go_answer_core.specs.Shown as Shown
-pub use Rattle.go_answer_core.specs.declared as declared

@@ -1,3 +1,0 @@
--- What the crates above name of go_block_core.
-pub use Rattle.go_env_core.specs.block_core.Blocks as Blocks
-pub use Rattle.go_env_core.specs.block_core.Declarations as Declarations

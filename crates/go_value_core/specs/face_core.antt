@@ -1,4 +1,0 @@
--- What the crates above name of go_face_core.
-pub use Rattle.go_env_core.specs.face_core.Faces as Faces
-pub use Rattle.go_env_core.specs.face_core.Written as Written
-pub use Rattle.go_env_core.specs.face_core.declared as declared

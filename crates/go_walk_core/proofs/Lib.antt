@@ -1,4 +1,0 @@
-pub mod EndLemmas
-pub mod StepLemmas
-pub mod TerminatingLemmas
-pub mod Visits

@@ -1,7 +1,0 @@
-use Rattle.std.proofs.Common.{◌≡◌, drop}
-use Rattle.go_tree_nodes.specs.Shapes.{lines_of}
-use Rattle.go_walk_core.specs.Ends.{lines_have_break}
-use Rattle.go_walk_core.proofs.ends.+breaks.Given as goal
-
-abbrev pub invariant-lines_have_break-loop-line : goal.invariant-lines_have_break-loop-line
-invariant-lines_have_break-loop-line l = lines_have_break (lines_of l.line-items) ≡ lines_have_break (lines_of (drop l.line-index l.line-items))

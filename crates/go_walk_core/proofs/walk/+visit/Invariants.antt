@@ -1,7 +1,0 @@
-use Rattle.go_walk_core.proofs.Visits.{Ahead}
-use Rattle.go_walk_core.proofs.StepLemmas.{listed, one_line}
-use Rattle.std.proofs.Common.{refl}
-use Rattle.go_walk_core.proofs.walk.+visit.Given as goal
-
-abbrev pub invariant-visit_lines-loop-line : goal.invariant-visit_lines-loop-line
-invariant-visit_lines-loop-line g l = Ahead g.V.Visitor.Leads listed one_line refl (λ x xs. refl) l.fn.visitor l.line-items l.line-index l.visitor

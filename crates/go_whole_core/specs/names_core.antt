@@ -1,3 +1,0 @@
--- What the crates above name of go_names_core.
-pub use Rattle.go_near_core.specs.names_core.Scope as Scope
-pub use Rattle.go_near_core.specs.names_core.declared as declared

@@ -1,3 +1,0 @@
--- What the crates above name of go_table_core.
-pub use Rattle.go_near_core.specs.table_core.Entries as Entries
-pub use Rattle.go_near_core.specs.table_core.Tables as Tables

@@ -1,4 +1,0 @@
--- What the crates above name of go_type_core.
-pub use Rattle.go_near_core.specs.type_core.Built as Built
-pub use Rattle.go_near_core.specs.type_core.Keyed as Keyed
-pub use Rattle.go_near_core.specs.type_core.Meanings as Meanings

@@ -1,0 +1,15 @@
+pub mod AnswerLaws
+pub mod Calling
+pub mod Calls
+pub mod CodeLaws
+pub mod ConstantLaws
+pub mod FileLaws
+pub mod ObjectLaws
+pub mod Reached
+pub mod Standing
+pub mod TreeLaws
+pub mod Trees
+pub mod folding
+pub mod existence
+pub mod circles
+pub mod report_core

@@ -1,6 +1,0 @@
-pub mod InputLemmas
-pub mod InputsAgree
-pub mod OneFound
-pub mod OutputLemmas
-pub mod Putting
-pub mod ReportLemmas

@@ -1,5 +1,0 @@
-use Rattle.govisd_core.proofs.OutputLemmas.{SentFirst}
-use Rattle.govisd_core.proofs.output.write_report.Given as goal
-
-abbrev pub invariant-loop-turn : goal.invariant-loop-turn
-invariant-loop-turn g l = SentFirst (g.W.Write.contents l.fn.writer) (g.W.Write.contents l.writer) l.bytes l.rest

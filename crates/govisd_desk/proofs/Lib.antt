@@ -1,2 +1,0 @@
-mod Many
-mod Opening

@@ -1,5 +1,0 @@
-use Rattle.govisd_desk.proofs.Opening.{opened_is}
-use Rattle.govisd_desk.proofs.seating.opened.Goals as goal
-
-pub returns-clause-ok : goal.returns-clause-ok
-returns-clause-ok g c = opened_is c.args.path.now c.as_str.result.now c.in_ok-own.own c.in_ok-session.session.draft c.in_ok-session.session.submits c.in_ok-own.ensures.ok c.as_str.ensures c.in_ok-session.ensures.ok

@@ -1,3 +1,0 @@
--- What the crates above name of go_part_core.
-pub use Rattle.go_snap_core.specs.part_core.Parts as Parts
-pub use Rattle.go_snap_core.specs.part_core.Slots as Slots

@@ -1,6 +1,0 @@
-use Rattle.std.proofs.Common.{◌≡◌, ◌++◌, flat_map, take}
-use Rattle.govisd_lines.specs.Lines.{fault_line}
-use Rattle.govisd_lines.proofs.lines.push_faults.Given as goal
-
-abbrev pub invariant-loop-fault : goal.invariant-loop-fault
-invariant-loop-fault l = l.out.items ≡ l.initial.out.items ++ flat_map fault_line (take l.fault-index l.faults)

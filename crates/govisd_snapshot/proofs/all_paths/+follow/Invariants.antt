@@ -1,5 +1,0 @@
-use Rattle.govisd_snapshot.proofs.all_paths.+follow.Given as goal
-
--- how many more fields a path may have
-abbrev pub decreases-follow : goal.decreases-follow
-decreases-follow l = l.left

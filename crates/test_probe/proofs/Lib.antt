@@ -1,0 +1,2 @@
+mod OpenBlocks
+mod ShowFileNames
