@@ -1,6 +1,6 @@
-"""Checks govisd_diagnostics over stubs of the libraries that are not proved: python3 wip/thin/stub_check.py STUBS ROOM CRATE [rattle's flags]
+"""Checks a crate over stubs of the libraries that are not proved: python3 wip/thin/stub_check.py STUBS ROOM CRATE [rattle's flags]
 
-STUBS (told_stubs.txt) has the sources of stubs: the types and signatures that the crate names, without clauses, and bodies that answer want of memory. They are
+STUBS has, below a line `== CRATE FILE: LISTS` for each file, the sources of stubs: the types and signatures that the crate names, without clauses, and bodies that answer want of memory. They are
 written to ROOM. Crates that no stub stands for come from the work tree's libraries. `--only ''` ends after names, types and borrows, 30 processor seconds.
 """
 import os
