@@ -7,6 +7,8 @@ The workspace is that of bench/compiled.py, cut into modules: of 32 modules with
 modules, and uses each. Each module is a session's, and all are filled and built at once by a running daemon. Then one package is edited and built, so many
 times each: a body, an exported constant in the middle, a function that is not exported in the last package, which all others reach. Each figure is the time
 to the reply of the build, the processor time of the daemon, and the memory that it keeps of one batch. It ends with an error where a build has a fault.
+The status is 1 where filling takes more than 1.5 times the processor time of a check (`FAILED: ..`); with 4,096 packages what misses its aim is told
+(`AIM MISSED: ..`).
 """
 import argparse
 import os
@@ -22,6 +24,9 @@ from serving import Daemon, Failures, Peer, milliseconds, percentile
 IMPORT = re.compile(re.escape(f'"{workspaces.MODULE}/') + r'p(\d+)"')
 BODY = "total := len(title)"
 CONSTANT = re.compile(r"(?<![.\w])Limit0\s*=[^\n]*")
+# How often the time of a check filling may take, and the milliseconds that are aimed at with 4,096 packages.
+FILLING = 1.5
+AIMS = {"a build of nothing new": 8, "an exported constant in the middle": 500, "a new function that is not exported, in the last package": 600}
 
 
 class Workspace:
@@ -77,10 +82,12 @@ class Service:
     def fill(self):
         failures, began, before = Failures(), time.time(), self.spent()
         failures.join(failures.run(self.fill_module, [(it,) for it in self.workspace.modules]))
-        print(f"filling: {self.spent() - before:.1f} s of processor time, {time.time() - began:.1f} s; {self.daemon.resident():.0f} MB", flush=True)
+        spent = self.spent() - before
+        print(f"filling: {spent:.1f} s of processor time, {time.time() - began:.1f} s; {self.daemon.resident():.0f} MB", flush=True)
         faults = sum(len(it.build()["faults"]) for it in self.peers)
         if faults:
             raise SystemExit(f"a workspace without faults has {faults}")
+        return spent
 
     def fill_module(self, module):
         peer = self.peers[module]
@@ -95,7 +102,7 @@ class Service:
         return peer
 
     def times(self, what, number, texts):
-        """Edits of a package, each with its build, and then the text as it was."""
+        """Edits of a package, each with its build, and then the text as it was: the median in milliseconds."""
         taken, before, resident = [], self.spent(), self.daemon.resident()
         for text in texts:
             began = time.perf_counter()
@@ -106,24 +113,30 @@ class Service:
         spent, kept = (self.spent() - before) * 1000 / len(taken), (self.daemon.resident() - resident) / len(taken)
         print(f"{what}: p50 {percentile(taken, 50):.1f} ms, most {max(taken):.1f}; {spent:.1f} ms of processor time, {kept:.1f} MB each", flush=True)
         self.edit(number, self.workspace.texts[number]).build()
+        return percentile(taken, 50)
 
-    def builds(self, count):
+    def builds(self, what, count):
         taken, before = [], self.spent()
         for _ in range(count):
             began = time.perf_counter()
             self.peers[0].build()
             taken.append((time.perf_counter() - began) * 1000)
-        print(f"a build of nothing new: p50 {percentile(taken, 50):.1f} ms; {(self.spent() - before) * 1000 / count:.1f} ms of processor time", flush=True)
+        print(f"{what}: p50 {percentile(taken, 50):.1f} ms; {(self.spent() - before) * 1000 / count:.1f} ms of processor time", flush=True)
+        return percentile(taken, 50)
 
 
 def edits(service, count):
+    """The medians of what is done, in milliseconds, by what it is."""
     texts, last = service.workspace.texts, len(service.workspace.texts) - 1
     middle = last // 2 + 1
     limit = CONSTANT.search(texts[middle])[0]
-    service.builds(10)
+    nothing, constant, function = AIMS
     service.times("a body in the middle", middle, [texts[middle].replace(BODY, f"{BODY} + {it + 1}") for it in range(10)])
-    service.times("an exported constant in the middle", middle, [texts[middle].replace(limit, f"{limit} + {it + 1}", 1) for it in range(count)])
-    service.times("a new function that is not exported, in the last package", last, [f"{texts[last]}\nfunc fresh{it}() int {{ return 1 }}\n" for it in range(count)])
+    return {
+        nothing: service.builds(nothing, 10),
+        constant: service.times(constant, middle, [texts[middle].replace(limit, f"{limit} + {it + 1}", 1) for it in range(count)]),
+        function: service.times(function, last, [f"{texts[last]}\nfunc fresh{it}() int {{ return 1 }}\n" for it in range(count)]),
+    }
 
 
 def main():
@@ -141,8 +154,14 @@ def main():
     print(f"{len(workspace.texts)} packages: check {spent:.1f} s of processor time, {took:.1f} s", flush=True)
     with Daemon(given.program, workers=given.workers) as daemon:
         service = Service(daemon, workspace)
-        service.fill()
-        edits(service, given.edits)
+        filling = service.fill()
+        taken = edits(service, given.edits)
+    if len(workspace.texts) == 4096:
+        for what in AIMS:
+            if taken[what] > AIMS[what]:
+                print(f"AIM MISSED: {what}: {taken[what]:.0f} ms are more than {AIMS[what]}")
+    if filling > FILLING * spent:
+        raise SystemExit(f"FAILED: filling takes {filling / spent:.2f} of the time of a check, more than {FILLING}")
 
 
 if __name__ == "__main__":

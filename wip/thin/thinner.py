@@ -3,7 +3,7 @@ import os, re, shutil, sys
 ROOT, OUT = sys.argv[1], sys.argv[2]
 TARGETS = sys.argv[3].split(',')
 CR = sys.argv[4:]
-src = open('/work/h/bodies/tree/wip/thin/thin.py').read()
+src = open(os.path.join(os.path.dirname(os.path.abspath(__file__)), 'thin.py')).read()
 head = src[:src.index('def module_of')]
 head = head.replace("ROOT, OUT = sys.argv[1], sys.argv[2]", "")
 exec(head)
