@@ -30,18 +30,19 @@ GIB = 1 << 30
 
 
 class Daemon:
-    """A daemon that listens, with so many workers; it ends where the block ends."""
+    """A daemon that listens, with so many workers and more words of its command line; it ends where the block ends."""
 
-    def __init__(self, program, workers=2, connections=None, **limits):
+    def __init__(self, program, workers=2, connections=None, more=(), stdin=None, **limits):
         words = [program, "serve", "--listen", "127.0.0.1:0", "--workers", str(workers)]
         if connections:
             words += ["--connections", str(connections)]
+        words += more
 
         def limit():
             for name, size in limits.items():
                 resource.setrlimit(getattr(resource, f"RLIMIT_{name}"), (size, size))
 
-        self.process = subprocess.Popen(words, stderr=subprocess.PIPE, text=True, preexec_fn=limit)
+        self.process = subprocess.Popen(words, stdin=stdin, stderr=subprocess.PIPE, text=True, preexec_fn=limit)
         line = self.process.stderr.readline()
         found = re.search(r"listening on 127\.0\.0\.1:(\d+)", line)
         if not found:

@@ -15,7 +15,7 @@ import sys
 from collections import defaultdict
 
 # How many paths of crates.txt there may be, summed over the crates: a million costs a gate some 15 seconds.
-BUDGET = 8_000_000
+BUDGET = 9_000_000
 # Crates with types that reach themselves: a crate that names them lists them, since the toolchain finds what such a type means only there
 # ("no module that this path begins with is at hand for the term").
 BESIDE = {"go_tree_nodes", "go_term_core"}

@@ -41,7 +41,7 @@ tree_among path files m s t assembled at content =
     slice_get-map tree_shown (trees_of files) m ∙ ap (option_map tree_shown) (tree_at files m s t assembled.trees at content)
 
 pub answers_are_there : AnswersAreThere
-answers_are_there ps parts faults well snapshot path name n u h =
+answers_are_there ps parts faults as_read snapshot path name n u h =
     let number = h.in_workspace.number in
     let part = h.of_part in
     let right = all_right ps parts snapshot.made in
@@ -50,8 +50,8 @@ answers_are_there ps parts faults well snapshot path name n u h =
     let low = slice_get_within files h.number h.source h.in_package in
     let has = has_tree_at files h.number h.source r.assembled.trees low (sym (get_or_from_slice_get files h.number h.source h.source h.in_package)) in
     let tree : slice_get (trees_in part.input.source) h.number ≡ Some has.0 = tree_among part.input.source.0 files h.number h.source has.0 r.assembled h.in_package has.1 in
-    let plan = has_plan ps well in
-    let uses = all_there ps parts well right plan.0 plan.1 number part h.in_workspace.there h.number has.0 h.file tree h.made in
+    let plan = has_plan ps as_read.well in
+    let uses = all_there ps parts as_read right plan.0 plan.1 number part h.in_workspace.there h.number has.0 h.file tree h.made in
     let at : FilePlace = place_in_part part.input h.number has.0 in
     let one = use_at (IsThereUnder ps at) (IsImportThereAt ps at) [] (file_occs has.0) h.file.answers.uses n u uses h.answer in
     record {

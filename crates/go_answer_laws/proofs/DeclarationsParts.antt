@@ -21,7 +21,7 @@ use Rattle.go_graph_core.specs.Lists.{AllNumbered}
 use Rattle.go_graph_core.specs.Packages.{HasNoClause, Trees, tree_shown, trees_of}
 use Rattle.go_graph_core.specs.Plans.{PlanModel, IsPlan}
 use Rattle.go_graph_core.specs.Sources.{SourceModel, source}
-use Rattle.go_graph_core.specs.Workspaces.{PackageModel, IsWorkspace}
+use Rattle.go_graph_core.specs.Workspaces.{PackageModel, IsReadWorkspace}
 use Rattle.go_graph_core.proofs.Assemblies.{all_at}
 use Rattle.go_graph_core.proofs.PlanLaws.{has_plan}
 use Rattle.go_graph_core.proofs.Zips.{numbered_at}
@@ -186,7 +186,7 @@ module _ (ps : List PackageModel) where
 
 -- parts
 
-module _ (ps : List PackageModel) (parts : List (Option PartModel)) (well : IsWorkspace ps) (right : AreRight ps parts) where
+module _ (ps : List PackageModel) (parts : List (Option PartModel)) (as_read : IsReadWorkspace ps) (right : AreRight ps parts) where
   package_there : (n : ℕ) (part : PartModel) → slice_get parts n ≡ Some (Some part) → IsPackageThere ps (path_in part.input) part.input.source.1
   package_there n part there = (let r = right n part there in record { number = n; numbered = r.numbered; assembled = r.assembled })
 
@@ -225,7 +225,7 @@ module _ (ps : List PackageModel) (parts : List (Option PartModel)) (well : IsWo
     reached_there : (s : SummaryModel) → Among i.reached s → IsToldThere ps s
     reached_there s a =
         let r = right n part there in
-        let by = told_by ps parts well right n i r.input s a in
+        let by = told_by ps parts as_read.well right n i r.input s a in
         subst (IsToldThere ps) (sym by.tells.is) (below by.number by.reached by.tells.of_part by.tells.there)
 
     import_there : (m : ℕ) (e : ExportsModel) → Among (imports_at seen m) (given_as.«Package» e) → IsShownThere ps e
@@ -240,7 +240,7 @@ module _ (ps : List PackageModel) (parts : List (Option PartModel)) (well : IsWo
         subst (IsShownThere ps) (sym (p.shows.is ∙ ap (λ (s : SummaryModel). s.exports) q.is)) (exports_there p.to q.of_part q.there)
 
     placed : All IsPlaced (trees_in i.source)
-    placed = trees_are_placed ps n i.source well (right n part there).numbered
+    placed = trees_are_placed ps n i.source as_read.well (right n part there).numbered
 
     own_names : (name : List ℕ) (d : DeclRef) → in_block part.content.blocks.names name ≡ Some d → IsGlobal ps (path_in i) name (places.Declared d)
     own_names name d h = names_there n part there (name, d) (block_from part.content.blocks.names name d h)
@@ -277,7 +277,7 @@ module _ (ps : List PackageModel) (parts : List (Option PartModel)) (well : IsWo
         let es : List Entry = types_told i.reached ++ c.types in
         let checked = subst (λ k. IsFileChecked seen es c.declared r.made.is_checked.type_faults r.made.is_checked.looped (k, t) one.checked) zero
         (zipped_at (IsFileChecked seen es c.declared r.made.is_checked.type_faults r.made.is_checked.looped) 0 (trees_in i.source) c.files m t one.checked r.made.is_checked.files tree one.there) in
-        let wf : Wf_file t = subst Wf_file (get_or_from_slice_get (trees_in i.source) m t t tree) (all_keep_rules i.source.1 (read_there ps n i.source well r.numbered) m t (slice_get_within (trees_in i.source) m t tree)) in
+        let wf : Wf_file t = subst Wf_file (get_or_from_slice_get (trees_in i.source) m t t tree) (all_keep_rules i.source.1 (read_there ps n i.source as_read.read r.numbered) m t (slice_get_within (trees_in i.source) m t tree)) in
         let count = count_at (trees_of i.source.1) i.imports m t (have_one_each (ComesTo ps parts) n (trees_of i.source.1) i.imports r.input.imports) tree in
         let uses = uses_there ps seen (types_told i.reached) c placed (files_there n part there) far_in own_names binds (faces_all ps i.reached reached_there) (names_all ps i.reached reached_there) r.made.is_checked m t tree wf count (import_there m) in
         subst (AreThereAs (IsThereUnder ps at) (IsImportThereAt ps at) [] (file_occs t)) (sym (one.made_of.uses ∙ ap (λ us. without_unused part.content.blocks m t us) checked.uses))
@@ -302,7 +302,7 @@ numbered_in (Some q ∷ xs) p (inl e) = (0, ap (λ x. Some (Some x)) e)
 numbered_in (Some q ∷ xs) p (inr a) = (let r = numbered_in xs p a in (suc r.0, r.1))
 
 pub declarations_are_there : DeclarationsAreThere
-declarations_are_there ps parts faults well snapshot p h m t f tree made =
+declarations_are_there ps parts faults as_read snapshot p h m t f tree made =
     let at = numbered_in parts p (among_from (somes parts) p h) in
-    let plan = has_plan ps well in
-    all_there ps parts well (all_right ps parts snapshot.made) plan.0 plan.1 at.0 p at.1 m t f tree made
+    let plan = has_plan ps as_read.well in
+    all_there ps parts as_read (all_right ps parts snapshot.made) plan.0 plan.1 at.0 p at.1 m t f tree made

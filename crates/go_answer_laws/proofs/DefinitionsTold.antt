@@ -99,7 +99,7 @@ same_tree : (r : Result FileTree SynFault) (t f : FileTree) → r ≡ Ok t → r
 same_tree r t f h k = (let e : ◌≡◌ {A = Result FileTree SynFault} (Ok t) (Ok f) = sym h ∙ k in cc)
 
 pub definitions_are_told : AnswersAreThere → DefinitionsAreTold
-definitions_are_told answers s well snapshot path name offset d h =
+definitions_are_told answers s as_read snapshot path name offset d h =
     let f : FoundFile = h.0 in
     let at : IsFileAt s.sources s.parts path name f = h.1 in
     let u : Use Declaration (List ℕ) = h.2.0 in
@@ -117,7 +117,7 @@ definitions_are_told answers s well snapshot path name offset d h =
       answer = found.has;
     }
     in
-    let a : IsAnswerThere s.sources f.of_part.input f.number f.source found.number u = answers s.sources s.parts s.faults well snapshot path name found.number u answer in
+    let a : IsAnswerThere s.sources f.of_part.input f.number f.source found.number u = answers s.sources s.parts s.faults as_read snapshot path name found.number u answer in
     let same : a.tree ≡ f.tree = same_tree f.source.content a.tree f.tree a.content at.tree in
     let covers : CoversAt offset (file_occs a.tree) found.number = subst (λ (t : FileTree). CoversAt offset (file_occs t) found.number) (sym same) found.covers in
     let r = subst (IsUsed s.sources f.of_part.input f.number offset d found.number) same (used_there s.sources f.of_part.input f.number offset found.number f.source u d a covers h.2.2) in
@@ -127,5 +127,5 @@ definitions_are_told answers s well snapshot path name offset d h =
       used = r.used;
       covers = r.covers;
       there = r.there;
-      written = written s.sources well (place_in_part f.of_part.input f.number f.tree) r.occurrence.spelling d r.there;
+      written = written s.sources as_read.well (place_in_part f.of_part.input f.number f.tree) r.occurrence.spelling d r.there;
     }

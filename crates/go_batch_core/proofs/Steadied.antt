@@ -1,10 +1,10 @@
 -- Marks beside the last snapshot, as actions are handed out and finished.
-use Rattle.std.proofs.Common.{◌≡◌, ◌<◌, ◌≢◌, ⊎_elim, ℕ, zero, suc, ◌+◌, Bool, true, false, List, [], ◌∷◌, length, replicate, set, refl, sym, ap, ◌∙◌, subst, arith, Option, Some, None}
+use Rattle.std.proofs.Common.{◌≡◌, ◌<◌, ◌≢◌, ⊎_elim, ℕ, zero, suc, ◌+◌, Bool, true, false, All, List, [], ◌∷◌, length, replicate, set, refl, sym, ap, ◌∙◌, subst, arith, Option, Some, None}
 use Rattle.std.specs.Prelude.{slice_get}
 use Rattle.std.proofs.lemmas.Bool.{cases_eq}
 use Rattle.std.proofs.lemmas.List.{length-replicate}
 use Rattle.std.proofs.lemmas.Option.{slice_get_within}
-use Rattle.go_block_core.specs.graph_core.Workspaces.{AreAllRead, IsWorkspace, PackageModel}
+use Rattle.go_block_core.specs.graph_core.Workspaces.{AreAllRead, PackageModel}
 use Rattle.go_package_core.specs.package_part.Inputs.{InputModel}
 use Rattle.go_package_core.specs.package_part.Parts.{PartModel}
 use Rattle.go_snap_core.specs.Snapshots.{SnapshotModel}
@@ -180,8 +180,8 @@ part_in ps parts n p all was =
     record { numbered = source.1 ∙ ap Some (sym same); input = subst (λ (q : PackageModel). IsInputOf ps parts n q p.input) (sym same) of_part.1 }
 
 -- the files of its package are as they are read
-pub read_in : (ps : List PackageModel) (parts : List (Option PartModel)) (n : ℕ) (p : PartModel) → IsWorkspace ps → AreParts ps parts → WasAt parts n p → AreAllRead p.input.source
-read_in ps parts n p well all was = read_at ps n p.input.source well (part_in ps parts n p all was).numbered
+pub read_in : (ps : List PackageModel) (parts : List (Option PartModel)) (n : ℕ) (p : PartModel) → All AreAllRead ps → AreParts ps parts → WasAt parts n p → AreAllRead p.input.source
+read_in ps parts n p read all was = read_at ps n p.input.source read (part_in ps parts n p all was).numbered
 
 pub steady_stays : (s : SnapshotModel) (b : BatchModel) (m : SteadyModel) (place : ℕ) (p : PartModel) → AreParts s.sources s.parts → IsSteady s b m → HasReached b.sources b.parts place → slice_get m.same place ≡ Some true
     → ((n : ℕ) → ReachesPackage b.sources place n → slice_get m.moved n ≡ Some true → ⊥) → WasAt s.parts place p → StaysAt s b place p

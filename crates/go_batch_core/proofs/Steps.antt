@@ -1,5 +1,5 @@
 -- A batch as its actions are taken and finished.
-use Rattle.std.proofs.Common.{◌≡◌, ◌<◌, ◌≤◌, ◌≢◌, ⊎_elim, ℕ, zero, suc, ◌+◌, ◌-◌, Bool, true, false, cond, List, [], ◌∷◌, ◌++◌, length, get_or, set, take, refl, sym, ap, ◌∙◌, subst, arith, Option, Some, None}
+use Rattle.std.proofs.Common.{◌≡◌, ◌<◌, ◌≤◌, ◌≢◌, ⊎_elim, ℕ, zero, suc, ◌+◌, ◌-◌, Bool, true, false, cond, All, List, [], ◌∷◌, ◌++◌, length, get_or, set, take, refl, sym, ap, ◌∙◌, subst, arith, Option, Some, None}
 use Rattle.std.specs.Prelude.{slice_get}
 use Rattle.std.specs.Option.{option_map}
 use Rattle.std.proofs.lemmas.Bool.{cases_eq}
@@ -340,14 +340,14 @@ foreign_other ps packages slots parts k p text place files here well right same 
 pub place_within : (ps packages : List PackageModel) (slots : List Slot) (parts : List (Option PartModel)) (text : List ℕ) (place : ℕ) (files : List SourceModel) → AreRight ps slots parts → packages ≡ ps → IsNumbered packages text place files → place < length slots
 place_within ps packages slots parts text place files right same numbered = omega (arith, right.many, ap length same, slice_get_within packages place (text, files) numbered)
 
--- the files of a package of a workspace are as they are read
-pub read_at : (ps : List PackageModel) (n : ℕ) (p : PackageModel) → IsWorkspace ps → slice_get ps n ≡ Some p → AreAllRead p
-read_at ps n p well at = subst AreAllRead (get_or_from_slice_get ps n p p at) (well.read n p (slice_get_within ps n p at))
+-- where each file of a workspace is read, the files of a package are as they are read
+pub read_at : (ps : List PackageModel) (n : ℕ) (p : PackageModel) → All AreAllRead ps → slice_get ps n ≡ Some p → AreAllRead p
+read_at ps n p read at = subst AreAllRead (get_or_from_slice_get ps n p p at) (read n p (slice_get_within ps n p at))
 
-pub read_slot : (ps : List PackageModel) (slots : List Slot) (parts : List (Option PartModel)) (n : ℕ) (s : Slot) → IsWorkspace ps → AreRight ps slots parts → slice_get slots n ≡ Some s → IsReadSlot s
-read_slot ps slots parts n NoAction well right at = tt
-read_slot ps slots parts n Untaken well right at = tt
-read_slot ps slots parts n Finished well right at = tt
-read_slot ps slots parts n (Taken k i) well right at =
+pub read_slot : (ps : List PackageModel) (slots : List Slot) (parts : List (Option PartModel)) (n : ℕ) (s : Slot) → All AreAllRead ps → AreRight ps slots parts → slice_get slots n ≡ Some s → IsReadSlot s
+read_slot ps slots parts n NoAction read right at = tt
+read_slot ps slots parts n Untaken read right at = tt
+read_slot ps slots parts n Finished read right at = tt
+read_slot ps slots parts n (Taken k i) read right at =
     let r = right.each n (Taken k i) at in
-    read_at ps n i.source well (taken_right ps slots parts n k i r.part r.right).1.numbered
+    read_at ps n i.source read (taken_right ps slots parts n k i r.part r.right).1.numbered

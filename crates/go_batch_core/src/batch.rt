@@ -291,6 +291,7 @@ impl Batch {
     {
         // Its files are as they are read, and what it reaches is finished.
         inputs_are_local();
+        let _packages = self.sources.packages();
         let _count = self.parts.as_slice();
         let awaited = input.share()?;
         Ok(Next {

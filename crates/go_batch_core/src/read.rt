@@ -9,6 +9,7 @@ use crate::seen::{Compiled, Sight};
 use go_package_core::package_part::{Part, PartInput, compile_part_in};
 use std::alloc::{AllocError, Global};
 use std::marker::Model;
+use std::thread::Threads;
 
 /// The input of a package of a workspace: each of its files has the content that its text has, and over what any other packages tell beside those that it
 /// reaches, the package has what the input gives. Contracts see the input.
@@ -184,14 +185,19 @@ impl Rebuilt {
     ///
     /// # Errors
     ///
-    /// `AllocError` where memory is wanting; nothing is seen any more then.
-    pub fn over(alloc: Global, input: &ReadInput, sight: Sight) -> Result<Rebuilt, AllocError>
-        requires { Agrees sight input.now.reached }
+    /// `AllocError` where memory is wanting, or a thread; nothing is seen any more then.
+    pub fn over<R: Threads + Sync>(
+        rt: &R,
+        alloc: Global,
+        input: &ReadInput,
+        sight: Sight,
+    ) -> Result<Rebuilt, AllocError>
+        requires agrees { Agrees sight input.now.reached }
         ensures input { IfOk result (λ r. r.part.input ≡ input.now) }
         ensures made { IfOk result (λ r. IsPart input.now r.part.content) }
         ensures seen { IfOk result (λ r. AreSeenBy sight input.now r.sight) }
     {
-        let compiled = sight.compile(alloc, input.get())?;
+        let compiled = sight.compile(rt, alloc, input.get())?;
         let Compiled { part, sight } = compiled;
         Ok(Rebuilt {
             part: ReadPart::new(part),

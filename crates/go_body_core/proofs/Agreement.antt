@@ -1,10 +1,10 @@
 -- Two rules that say the same of each piece of a function say the same of the function.
 use Rattle.std.proofs.Common.{◌≡◌, ℕ, List, [], Option, map, refl, sym, ap, ◌∙◌}
-use Rattle.go_names_core.specs.local_core.Steps.{Steps, Done, Check, Declare, Inner}
-use Rattle.go_names_core.specs.local_core.Outline.{func_steps, func_opens, func_closes}
-use Rattle.go_names_core.specs.local_core.Binding.{Local, bound, is_first}
-use Rattle.go_names_core.specs.local_core.Faults.{name_faults}
-use Rattle.go_names_core.specs.local_core.Law.{Rules, Out, out, both, declared_from, law_out}
+use Rattle.go_local_core.specs.Steps.{Steps, Done, Check, Declare, Inner}
+use Rattle.go_local_core.specs.Outline.{func_steps, func_opens, func_closes}
+use Rattle.go_local_core.specs.Binding.{Local, bound, is_first}
+use Rattle.go_local_core.specs.Faults.{name_faults}
+use Rattle.go_local_core.specs.Law.{Rules, Out, out, both, declared_from, law_out}
 use Rattle.go_body_core.specs.Agreement.{NoteAlike, AlikeRulesGiveOne}
 
 module _ (X N : Type 0) (rules other : Rules X N) (beyond : List ℕ → Option X) (all : List (Local X)) where

@@ -2,7 +2,7 @@
 use Rattle.std.proofs.Common.{◌≡◌, ℕ, Bool, true, false, ◌&&◌, if◌then◌else◌, refl, ap, ◌∙◌}
 use Rattle.go_tree_nodes.specs.Trees as tree
 use Rattle.go_tree_nodes.specs.Trees.{ExprTree, Integer, Text, Named, Paren, Unary, Binary, Select, Call, Literal, StructLiteral, SimpleTree, Alone, Step, Assign, Update, Define, StmtTree, BranchTree, ElseTree, Lines, Empty, Simple, Return, Break, Continue, Block, If, For, Branch, NoElse, ElseBlock, ElseIf, NoLines, Line}
-use Rattle.go_names_core.specs.local_core.WalksEnds.{is_panic, is_terminating, is_branch_terminating, is_else_terminating, are_terminating, are_empty}
+use Rattle.go_local_core.specs.walks.Ends.{is_panic, is_terminating, is_branch_terminating, is_else_terminating, are_terminating, are_empty}
 use Rattle.go_body_core.specs.Ends.{names_one, calls_one}
 
 module _ (panics other : ExprTree → Bool) (same : (e : ExprTree) → panics e ≡ other e) where

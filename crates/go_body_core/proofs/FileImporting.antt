@@ -2,10 +2,10 @@
 use Rattle.std.proofs.Common.{◌≡◌, List, [], ◌∷◌, ◌++◌, map, Bor, refl, sym, ap, ◌∙◌, append_assoc, append-nil}
 use Rattle.go_tree_nodes.specs.declared.files.ImportSpec.{ImportSpec}
 use Rattle.go_tree_nodes.specs.Trees.{ImportSpecTree}
-use Rattle.go_names_core.specs.block_core.declared.imports.Imported.{Imported}
+use Rattle.go_block_core.specs.declared.imports.Imported.{Imported}
 use Rattle.go_body_core.specs.Notes.{TheUse}
 use Rattle.go_body_core.specs.file.Imports.{import_use, imports_uses}
-use Rattle.go_names_core.specs.block_core.mirrors.Shown.{spec_shown}
+use Rattle.go_block_core.specs.mirrors.Shown.{spec_shown}
 
 -- one import further
 pub import_step : (specs more : List (Bor ImportSpec)) (given rest : List Imported) (s : Bor ImportSpec) (i : Imported) (old new all : List TheUse)

@@ -3,7 +3,7 @@ use Rattle.std.proofs.Common.{◌≡◌, ℕ, true, List, [], ◌∷◌, ◌++�
 use Rattle.std.specs.List.{flat_map}
 use Rattle.std.proofs.lemmas.List.{map-append}
 use Rattle.std.proofs.lemmas.Grind.{flat_map-append}
-use Rattle.go_tree_nodes.specs.text_core.declared.span.Span.{Span}
+use Rattle.go_text_core.specs.declared.span.Span.{Span}
 use Rattle.go_tree_nodes.specs.declared.decls.ValueKind.{ValueKind}
 use Rattle.go_tree_nodes.specs.Trees.{ValueSpecTree, TypeSpecTree, Specs, Single, Group, DeclTree, Value, Types, Func, TopTree, ImportSpecTree, ImportTree, of_specs}
 use Rattle.go_tree_nodes.specs.Rules.{Wf_group, Wf_specs, Wf_value_spec, Wf_type_spec, Wf_decl, Wf_tops}
@@ -11,13 +11,13 @@ use Rattle.go_tree_core.specs.declared.occurrence.Role.{Role}
 use Rattle.go_tree_core.specs.declared.occurrence.Role.TheVariants as roles
 use Rattle.go_tree_core.specs.declared.occurrence.Occ.{Occ}
 use Rattle.go_tree_core.specs.Occurrences.{group_occs, specs_occs, value_spec_occs, type_spec_occs, decl_occs, tops_occs, import_occs, imports_occs}
-use Rattle.go_names_core.specs.block_core.declared.imports.Imported.{Imported}
-use Rattle.go_names_core.specs.block_core.Naming.{specs_in, specs_of, file_specs}
+use Rattle.go_block_core.specs.declared.imports.Imported.{Imported}
+use Rattle.go_block_core.specs.Naming.{specs_in, specs_of, file_specs}
 use Rattle.go_term_core.specs.Terms.{Term, Sign}
-use Rattle.go_env_core.specs.handle_core.Declarations.{Declaration}
-use Rattle.go_names_core.specs.local_core.Steps.{Spec}
-use Rattle.go_stmt_core.specs.expr_core.Laws.{use_place, occurrence_place}
-use Rattle.go_stmt_core.specs.expr_core.Occurring.{uses_occur}
+use Rattle.go_handle_core.specs.Declarations.{Declaration}
+use Rattle.go_local_core.specs.Steps.{Spec}
+use Rattle.go_expr_core.specs.Laws.{use_place, occurrence_place}
+use Rattle.go_expr_core.proofs.Occurring.{uses_occur}
 use Rattle.go_stmt_core.specs.piece.Specifications.{spec_uses}
 use Rattle.go_stmt_core.proofs.PieceOccurring.{pieces_occur}
 use Rattle.go_env_core.specs.Looks.{TheLooks}

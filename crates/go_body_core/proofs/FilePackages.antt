@@ -5,7 +5,7 @@ use Rattle.std.proofs.lemmas.List.{map-append}
 use Rattle.go_tree_nodes.specs.declared.files.File.{File}
 use Rattle.go_table_core.specs.Entries.{Entry}
 use Rattle.go_typexpr_core.specs.entry.Meanings.{Shows}
-use Rattle.go_names_core.specs.local_core.declared.Fault.{Fault}
+use Rattle.go_local_core.specs.declared.Fault.{Fault}
 use Rattle.go_body_core.specs.Notes.{TheUse, TheLocal}
 use Rattle.go_body_core.specs.declared.file.file_at.FileAt.{FileAt}
 use Rattle.go_body_core.specs.declared.file.whole.CheckedFile.{CheckedFile}

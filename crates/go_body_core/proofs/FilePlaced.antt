@@ -1,12 +1,12 @@
 -- The functions of a file whose tokens follow one another.
 use Rattle.std.proofs.Common.{◌≡◌, ℕ, zero, suc, ◌<◌, List, [], ◌∷◌, get_or, Contains, inl, inr, subst, arith}
 use Rattle.std.proofs.lemmas.List.Elements.{Contains-append_cases}
-use Rattle.go_tree_nodes.specs.token_core.declared.kind.Operator.TheVariants as operator
+use Rattle.go_token_core.specs.declared.kind.Operator.TheVariants as operator
 use Rattle.go_tree_nodes.specs.Terminals.{InOrder}
 use Rattle.go_tree_nodes.specs.Trees.{FuncTree, DeclTree, Value, Types, Func, TopTree}
 use Rattle.go_tree_nodes.specs.Spelling.{mark, spell_decl, spell_tops, spell_imports}
 use Rattle.go_tree_nodes.proofs.InOrder.{in_order_split}
-use Rattle.go_names_core.specs.local_core.Tables.{IsFuncPlaced}
+use Rattle.go_local_core.specs.Tables.{IsFuncPlaced}
 use Rattle.go_body_core.specs.file.Stands.{decl_funcs, tops_funcs}
 use Rattle.go_body_core.specs.file.Laws.{FunctionsArePlaced}
 

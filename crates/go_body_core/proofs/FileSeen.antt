@@ -3,25 +3,25 @@
 use Rattle.std.proofs.Common.{◌≡◌, ℕ, List, [], ◌∷◌, ◌++◌, length, false, ◌<◌, Option, Some, None, refl, sym, ap, subst, arith}
 use Rattle.std.specs.List.{flat_map}
 use Rattle.std.proofs.lemmas.List.Elements.{Contains-append_left, Contains-append_right}
-use Rattle.go_tree_nodes.specs.text_core.declared.span.Span.{Span}
+use Rattle.go_text_core.specs.declared.span.Span.{Span}
 use Rattle.go_tree_nodes.specs.declared.names.Ident.{Ident}
 use Rattle.go_tree_nodes.specs.declared.decls.ValueKind.{ValueKind}
 use Rattle.go_tree_nodes.specs.declared.decls.ValueKind.TheVariants as kinds
 use Rattle.go_tree_nodes.specs.Trees.{Separated, One, Then, TypeTree, ExprTree, ValueSpecTree, TypeSpecTree, Specs, Single, Group, ValueTree, TypeDeclTree, of_specs}
 use Rattle.go_tree_nodes.specs.WrittenTypes.{expr_types, exprs_types, values_types, some_type, spec_types, specs_types}
 use Rattle.go_term_core.specs.Terms.{Term, Sign}
-use Rattle.go_env_core.specs.handle_core.Declarations.{Declaration}
-use Rattle.go_names_core.specs.local_core.Steps.{Spec, Condition}
-use Rattle.go_stmt_core.specs.denote_core.declared.things.Stand.TheVariants as stands
-use Rattle.go_stmt_core.specs.expr_core.Places.{start}
-use Rattle.go_stmt_core.specs.expr_core.Faults.{fault_at}
-use Rattle.go_stmt_core.specs.expr_core.Denoting.{named_type}
-use Rattle.go_stmt_core.specs.expr_core.Laws.{AgreeOnIdents}
-use Rattle.go_stmt_core.specs.expr_core.Locality.{SameWritten}
-use Rattle.go_stmt_core.specs.expr_core.Alike.{pieces, expressions_seen}
-use Rattle.go_stmt_core.specs.inline_core.Types.{InlineOf}
+use Rattle.go_handle_core.specs.Declarations.{Declaration}
+use Rattle.go_local_core.specs.Steps.{Spec, Condition}
+use Rattle.go_denote_core.specs.declared.things.Stand.TheVariants as stands
+use Rattle.go_expr_core.specs.Places.{start}
+use Rattle.go_expr_core.specs.Faults.{fault_at}
+use Rattle.go_expr_core.specs.Denoting.{named_type}
+use Rattle.go_expr_core.specs.Laws.{AgreeOnIdents}
+use Rattle.go_expr_core.specs.Locality.{SameWritten}
+use Rattle.go_expr_core.proofs.Alike.{pieces, expressions_seen}
+use Rattle.go_inline_core.specs.Types.{InlineOf}
 use Rattle.go_stmt_core.specs.piece.Laws.{SamePiece, SameOuter, piece_idents}
-use Rattle.go_names_core.specs.local_core.Pieces.{piece_types}
+use Rattle.go_local_core.specs.Pieces.{piece_types}
 use Rattle.go_stmt_core.specs.piece.Specifications.{spec_uses}
 use Rattle.go_stmt_core.proofs.PieceLocal.{pieces_local, outer_local}
 use Rattle.go_env_core.specs.Looks.{TheLooks, inline_rules}

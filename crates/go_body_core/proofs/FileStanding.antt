@@ -9,9 +9,9 @@ use Rattle.go_tree_nodes.specs.Shapes.{shape_type_decl, shape_value}
 use Rattle.go_names_core.specs.scope_core.Models.{scopes_model}
 use Rattle.go_typexpr_core.specs.entry.Meanings.{Shows}
 use Rattle.go_names_core.specs.declared.look.OpenNames.{OpenNames}
-use Rattle.go_names_core.specs.local_core.Tables.{IsFuncPlaced}
-use Rattle.go_stmt_core.specs.inline_core.Types.{InlineOf}
-use Rattle.go_names_core.specs.local_core.declared.Fault.{Fault}
+use Rattle.go_local_core.specs.Tables.{IsFuncPlaced}
+use Rattle.go_inline_core.specs.Types.{InlineOf}
+use Rattle.go_local_core.specs.declared.Fault.{Fault}
 use Rattle.go_env_core.specs.declared.here.Here.{Here}
 use Rattle.go_env_core.specs.declared.meaning.Meaning.{Meaning}
 use Rattle.go_env_core.specs.Scenes.{scene_shown}

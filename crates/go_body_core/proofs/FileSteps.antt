@@ -7,9 +7,9 @@ use Rattle.go_tree_nodes.specs.declared.files.TopDecl.{TopDecl}
 use Rattle.go_tree_nodes.specs.Trees.{FuncTree, DeclTree, Value, Types, Func, TopTree}
 use Rattle.go_tree_nodes.specs.Shapes.{top_of, decl_of}
 use Rattle.go_typexpr_core.proofs.EntryNumbered.{flat_item}
-use Rattle.go_names_core.specs.local_core.Tables.{IsFuncPlaced}
-use Rattle.go_stmt_core.specs.inline_core.Types.{InlineOf}
-use Rattle.go_stmt_core.specs.inline_core.Trees.{decl_types}
+use Rattle.go_local_core.specs.Tables.{IsFuncPlaced}
+use Rattle.go_inline_core.specs.Types.{InlineOf}
+use Rattle.go_inline_core.specs.Trees.{decl_types}
 use Rattle.go_body_core.specs.function.Stands.{FileStand}
 use Rattle.go_body_core.specs.function.Laws.{AreFuncTypes}
 use Rattle.go_body_core.specs.file.Stands.{decl_funcs, tops_funcs}

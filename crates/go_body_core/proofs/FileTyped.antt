@@ -3,11 +3,11 @@ use Rattle.std.proofs.Common.{◌≡◌, map, refl, ap, ◌∙◌}
 use Rattle.go_tree_nodes.specs.declared.types.TypeName.{TypeName}
 use Rattle.go_tree_nodes.specs.declared.types.TypeName.TheVariants as type_names
 use Rattle.go_tree_nodes.specs.Trees.{TypeTree, NamedType, Pointer, ParenType, Struct, Interface, FieldTrees, NoFields, NamedFields, EmbeddedField, MethodTrees, NoMethods, Method, SignatureTree, Signed, ResultTree, NoResult, OneResult, Results, ParamTrees, NoParams, Param}
-use Rattle.go_stmt_core.specs.expr_core.Looks.{Looks, WrittenRules}
-use Rattle.go_stmt_core.specs.expr_core.Locality.{seeing}
-use Rattle.go_stmt_core.specs.expr_core.TypeUses.{type_uses}
-use Rattle.go_stmt_core.specs.expr_core.Alike.{pieces}
-use Rattle.go_stmt_core.specs.expr_core.Uses.{Spot, Identifier, CallAt, NameAt, SelectorBehind, KeyAmong, use_of, type_name_spots, type_spots, fields_spots, methods_spots, signature_spots, result_spots, params_spots}
+use Rattle.go_expr_core.specs.Looks.{Looks, WrittenRules}
+use Rattle.go_expr_core.specs.Locality.{seeing}
+use Rattle.go_expr_core.specs.TypeUses.{type_uses}
+use Rattle.go_expr_core.proofs.Alike.{pieces}
+use Rattle.go_expr_core.specs.Uses.{Spot, Identifier, CallAt, NameAt, SelectorBehind, KeyAmong, use_of, type_name_spots, type_spots, fields_spots, methods_spots, signature_spots, result_spots, params_spots}
 
 module _ {T S D P : Type 0} (looks : Looks T S D P) (written : WrittenRules T) where
   abbrev other : Looks T S D P

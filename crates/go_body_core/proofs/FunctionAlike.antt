@@ -1,27 +1,27 @@
 -- Where the names of a piece mean the same, the types that it writes are the same, and the rules of a function say the same of it.
 use Rattle.std.proofs.Common.{◌≡◌, ℕ, List, [], ◌∷◌, Option, Some, None, refl, sym, ap, subst, ◌∙◌}
 use Rattle.std.specs.Prelude.{if◌then◌else◌}
-use Rattle.go_tree_nodes.specs.text_core.Each.{Each}
-use Rattle.go_tree_nodes.specs.text_core.declared.span.Span.{Span}
+use Rattle.go_text_core.proofs.Each.{Each}
+use Rattle.go_text_core.specs.declared.span.Span.{Span}
 use Rattle.go_tree_nodes.specs.Terminals.{Terminal, TerminalKind, Spelled, Number, Quoted, Word, Mark, Stray}
 use Rattle.go_tree_nodes.specs.Trees.{TypeTree, FuncTree}
-use Rattle.go_term_core.specs.decl_core.declared.keys.DeclKey.{DeclKey}
+use Rattle.go_decl_core.specs.declared.keys.DeclKey.{DeclKey}
 use Rattle.go_term_core.specs.Terms.{Term, Sign, NoType}
 use Rattle.go_term_core.specs.declared.settling.kind.Kind.{Kind}
 use Rattle.go_typexpr_core.specs.written.Written as types
 use Rattle.go_typexpr_core.specs.written.Written.{InFile}
-use Rattle.go_env_core.specs.handle_core.Declarations.{Declaration}
-use Rattle.go_names_core.specs.local_core.Steps.{Piece, spell_piece}
-use Rattle.go_names_core.specs.local_core.Binding.{NameLook}
-use Rattle.go_names_core.specs.local_core.Pieces.{piece_types}
-use Rattle.go_names_core.specs.local_core.Alike.{Alike, AlikeAt, LookAtNames}
-use Rattle.go_stmt_core.specs.expr_core.Locality.{SameWritten}
-use Rattle.go_stmt_core.specs.inline_core.declared.scoped.Scoped.{Scoped}
-use Rattle.go_stmt_core.specs.inline_core.declared.scoped.Scoped.TheVariants as scoped
-use Rattle.go_stmt_core.specs.inline_core.Types.{InlineOf}
-use Rattle.go_stmt_core.specs.inline_core.Inline.{inline_of, inlines}
-use Rattle.go_stmt_core.specs.inline_core.Functions.{looked_up_ident, is_local, meaning_in}
-use Rattle.go_stmt_core.specs.inline_core.mirrors.Alike.{inlines_alike}
+use Rattle.go_handle_core.specs.Declarations.{Declaration}
+use Rattle.go_local_core.specs.Steps.{Piece, spell_piece}
+use Rattle.go_local_core.specs.Binding.{NameLook}
+use Rattle.go_local_core.specs.Pieces.{piece_types}
+use Rattle.go_local_core.specs.Alike.{Alike, AlikeAt, LookAtNames}
+use Rattle.go_expr_core.specs.Locality.{SameWritten}
+use Rattle.go_inline_core.specs.declared.scoped.Scoped.{Scoped}
+use Rattle.go_inline_core.specs.declared.scoped.Scoped.TheVariants as scoped
+use Rattle.go_inline_core.specs.Types.{InlineOf}
+use Rattle.go_inline_core.specs.Inline.{inline_of, inlines}
+use Rattle.go_inline_core.specs.Functions.{looked_up_ident, is_local, meaning_in}
+use Rattle.go_inline_core.specs.mirrors.Alike.{inlines_alike}
 use Rattle.go_stmt_core.specs.piece.Headers.{returned_types, returned_names}
 use Rattle.go_stmt_core.specs.piece.Laws.{FindByNames}
 use Rattle.go_env_core.specs.declared.meaning.Meaning.{Meaning}

@@ -1,26 +1,26 @@
 -- What is given of a function by a table of its types is what it has with each type as it is written.
 use Rattle.std.proofs.Common.{◌≡◌, ℕ, Bool, List, [], ◌∷◌, map, Option, Some, Contains, refl, sym, ap, subst, ◌∙◌}
 use Rattle.std.proofs.lemmas.List.Elements.{Contains-append_left, Contains-append_right, Contains-push}
-use Rattle.go_tree_nodes.specs.text_core.Each.{Each}
+use Rattle.go_text_core.proofs.Each.{Each}
 use Rattle.go_tree_nodes.specs.declared.names.Ident.{Ident}
 use Rattle.go_tree_nodes.specs.Trees.{TypeTree, FuncTree}
 use Rattle.go_tree_nodes.specs.WrittenTypes.{signature_types}
 use Rattle.go_term_core.specs.Terms.{Term, Sign}
-use Rattle.go_env_core.specs.handle_core.Declarations.{Declaration}
-use Rattle.go_stmt_core.specs.denote_core.declared.things.Found.{Found}
-use Rattle.go_names_core.specs.local_core.Steps.{Piece, Header, Steps, Done, Check, Declare, Inner}
-use Rattle.go_names_core.specs.local_core.Outline.{func_steps, func_opens}
-use Rattle.go_names_core.specs.local_core.Pieces.{piece_types}
-use Rattle.go_names_core.specs.local_core.Binding.{Local, NameLook, bound, is_first}
-use Rattle.go_names_core.specs.local_core.Law.{Rules}
-use Rattle.go_names_core.specs.local_core.Tables.{IsFuncPlaced, walked, out_by_intervals}
-use Rattle.go_names_core.specs.local_core.TablesProofs.{one_table}
-use Rattle.go_stmt_core.specs.expr_core.Laws.{AgreeOnIdents}
-use Rattle.go_stmt_core.specs.expr_core.Locality.{SameWritten}
-use Rattle.go_stmt_core.specs.inline_core.Types.{InlineOf}
-use Rattle.go_stmt_core.specs.inline_core.Trees as inline
-use Rattle.go_stmt_core.specs.inline_core.Inline.{inline_of}
-use Rattle.go_stmt_core.specs.inline_core.ByIntervals.{steps_types, func_all}
+use Rattle.go_handle_core.specs.Declarations.{Declaration}
+use Rattle.go_denote_core.specs.declared.things.Found.{Found}
+use Rattle.go_local_core.specs.Steps.{Piece, Header, Steps, Done, Check, Declare, Inner}
+use Rattle.go_local_core.specs.Outline.{func_steps, func_opens}
+use Rattle.go_local_core.specs.Pieces.{piece_types}
+use Rattle.go_local_core.specs.Binding.{Local, NameLook, bound, is_first}
+use Rattle.go_local_core.specs.Law.{Rules}
+use Rattle.go_local_core.specs.Tables.{IsFuncPlaced, walked, out_by_intervals}
+use Rattle.go_local_core.proofs.Tables.{one_table}
+use Rattle.go_expr_core.specs.Laws.{AgreeOnIdents}
+use Rattle.go_expr_core.specs.Locality.{SameWritten}
+use Rattle.go_inline_core.specs.Types.{InlineOf}
+use Rattle.go_inline_core.specs.Trees as inline
+use Rattle.go_inline_core.specs.Inline.{inline_of}
+use Rattle.go_inline_core.proofs.ByIntervals.{steps_types, func_all}
 use Rattle.go_stmt_core.specs.piece.Headers.{returned_types, returned_names}
 use Rattle.go_stmt_core.specs.piece.Laws.{SamePiece, piece_idents}
 use Rattle.go_stmt_core.proofs.PieceLocal.{pieces_local}

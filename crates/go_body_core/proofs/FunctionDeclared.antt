@@ -3,16 +3,16 @@ use Rattle.std.proofs.Common.{◌≡◌, ℕ, suc, Bool, true, false, not, ◌&&
 use Rattle.std.specs.Prelude.{if◌then◌else◌}
 use Rattle.std.specs.List.{flat_map}
 use Rattle.std.proofs.lemmas.Grind.{flat_map-append}
-use Rattle.go_tree_nodes.specs.text_core.Text.{is_blank}
+use Rattle.go_text_core.specs.Text.{is_blank}
 use Rattle.go_tree_nodes.specs.declared.names.Ident.{Ident}
 use Rattle.go_tree_nodes.specs.Trees.{FuncTree}
-use Rattle.go_names_core.specs.local_core.Steps.{Piece, Steps, Done, Check, Declare, Inner}
-use Rattle.go_names_core.specs.local_core.Outline.{func_steps, func_opens, func_closes}
-use Rattle.go_names_core.specs.local_core.Binding.{Local, NameLook, bound, is_first, is_second}
-use Rattle.go_names_core.specs.local_core.Law.{Rules, locals_of_names, declared_from, law_out}
-use Rattle.go_names_core.specs.local_core.Tables.{out_by_intervals, IsTable}
+use Rattle.go_local_core.specs.Steps.{Piece, Steps, Done, Check, Declare, Inner}
+use Rattle.go_local_core.specs.Outline.{func_steps, func_opens, func_closes}
+use Rattle.go_local_core.specs.Binding.{Local, NameLook, bound, is_first, is_second}
+use Rattle.go_local_core.specs.Law.{Rules, locals_of_names, declared_from, law_out}
+use Rattle.go_local_core.specs.Tables.{out_by_intervals, IsTable}
 use Rattle.go_names_core.specs.Body.{each_means}
-use Rattle.go_names_core.specs.local_core.Pieces.{piece_declares}
+use Rattle.go_local_core.specs.Pieces.{piece_declares}
 use Rattle.go_env_core.specs.declared.meaning.Meaning.{Meaning}
 use Rattle.go_body_core.specs.Notes.{TheLocal, NoteOf, all_locals}
 use Rattle.go_body_core.specs.Rules.{local_if, declared_among, piece_locals}

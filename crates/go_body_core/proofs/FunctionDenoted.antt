@@ -5,10 +5,10 @@ use Rattle.std.specs.List.{flat_map, list_all}
 use Rattle.std.specs.Option.{option_map}
 use Rattle.std.specs.Str.{bytes_eq}
 use Rattle.std.proofs.lemmas.List.Elements.{Contains-append_left, Contains-append_right, Contains-push}
-use Rattle.go_tree_nodes.specs.text_core.Each.{Each, each-weaker, each-filter}
+use Rattle.go_text_core.proofs.Each.{Each, each-weaker, each-filter}
 use Rattle.go_names_core.specs.scope_stack.Blocks.{or_else}
-use Rattle.go_names_core.specs.local_core.Binding.{Local, bound, shown, is_second, region_has, innermost_of}
-use Rattle.go_names_core.specs.local_core.Binding as binding
+use Rattle.go_local_core.specs.Binding.{Local, bound, shown, is_second, region_has, innermost_of}
+use Rattle.go_local_core.specs.Binding as binding
 use Rattle.go_env_core.specs.declared.meaning.Meaning.{Meaning}
 use Rattle.go_env_core.specs.declared.meaning.Meaning.TheVariants as meanings
 use Rattle.go_body_core.specs.Notes.{TheValue, TheLocal}

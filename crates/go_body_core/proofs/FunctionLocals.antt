@@ -1,8 +1,8 @@
 -- The locals of a function are its declarations.
 use Rattle.std.proofs.Common.{◌≡◌, List, Contains, refl, sym, ap, subst, ◌∙◌, append-nil}
 use Rattle.go_tree_nodes.specs.Trees.{FuncTree}
-use Rattle.go_names_core.specs.local_core.Binding.{Local}
-use Rattle.go_names_core.specs.local_core.Tables.{IsFuncPlaced}
+use Rattle.go_local_core.specs.Binding.{Local}
+use Rattle.go_local_core.specs.Tables.{IsFuncPlaced}
 use Rattle.go_stmt_core.specs.piece.Headers.{returned_types, returned_names}
 use Rattle.go_stmt_core.specs.piece.Pieces.{piece_values}
 use Rattle.go_env_core.specs.declared.meaning.Meaning.{Meaning}

@@ -1,12 +1,12 @@
 -- The names that a step declares are those of its piece.
 use Rattle.std.proofs.Common.{◌≡◌, List, [], ◌∷◌, Option, Some, None, refl}
-use Rattle.go_tree_nodes.specs.text_core.declared.span.Span.{Span}
+use Rattle.go_text_core.specs.declared.span.Span.{Span}
 use Rattle.go_tree_nodes.specs.declared.decls.ValueKind.{ValueKind}
 use Rattle.go_tree_nodes.specs.Trees as tree
 use Rattle.go_tree_nodes.specs.Trees.{Separated, ExprTree, ValueSpecTree, Specs, Single, Group, SimpleTree, Alone, Step, Assign, Update, Define, IfTree, ForTree, Forever, While, Clauses, StmtTree, BranchTree, ElseTree, Lines, Empty, Simple, Return, Break, Continue, Block, If, For, Branch, NoElse, ElseBlock, ElseIf, NoLines, Line, FuncTree}
-use Rattle.go_names_core.specs.local_core.Steps.{Steps, Done, Check, Declare, Inner}
-use Rattle.go_names_core.specs.local_core.Outline.{group_steps, specs_steps, simple_steps, some_simple_steps, init_steps, some_condition_steps, if_steps, for_steps, stmt_steps, branch_steps, else_steps, lines_steps, func_steps}
-use Rattle.go_names_core.specs.local_core.Pieces.{piece_declares}
+use Rattle.go_local_core.specs.Steps.{Steps, Done, Check, Declare, Inner}
+use Rattle.go_local_core.specs.Outline.{group_steps, specs_steps, simple_steps, some_simple_steps, init_steps, some_condition_steps, if_steps, for_steps, stmt_steps, branch_steps, else_steps, lines_steps, func_steps}
+use Rattle.go_local_core.specs.Pieces.{piece_declares}
 
 abbrev pub AreNamed : Steps → Type 0
 AreNamed Done = Unit {0}

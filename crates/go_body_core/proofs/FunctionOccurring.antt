@@ -3,10 +3,10 @@ use Rattle.std.proofs.Common.{◌≡◌, ℕ, true, List, [], map, sym, ap, ◌�
 use Rattle.go_tree_nodes.specs.Trees.{FuncTree}
 use Rattle.go_tree_core.specs.declared.occurrence.Role.{Role}
 use Rattle.go_term_core.specs.Terms.{Term, Sign}
-use Rattle.go_env_core.specs.handle_core.Declarations.{Declaration}
-use Rattle.go_names_core.specs.local_core.Steps.{Piece, Header, Spec, Act, Condition, Given}
-use Rattle.go_names_core.specs.local_core.Outline.{func_steps, func_opens, func_closes}
-use Rattle.go_stmt_core.specs.expr_core.Laws.{use_place, occurrence_place}
+use Rattle.go_handle_core.specs.Declarations.{Declaration}
+use Rattle.go_local_core.specs.Steps.{Piece, Header, Spec, Act, Condition, Given}
+use Rattle.go_local_core.specs.Outline.{func_steps, func_opens, func_closes}
+use Rattle.go_expr_core.specs.Laws.{use_place, occurrence_place}
 use Rattle.go_stmt_core.specs.piece.Pieces.{piece_uses}
 use Rattle.go_stmt_core.proofs.PieceOccurring.{pieces_occur}
 use Rattle.go_env_core.specs.declared.meaning.Meaning.{Meaning}

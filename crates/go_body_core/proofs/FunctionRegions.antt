@@ -5,29 +5,29 @@ use Rattle.std.specs.List.{list_all}
 use Rattle.std.specs.Option.{option_map}
 use Rattle.std.specs.Str.{bytes_eq}
 use Rattle.std.proofs.lemmas.Bool.{lt-leb}
-use Rattle.go_tree_nodes.specs.text_core.Text.{is_blank}
-use Rattle.go_tree_nodes.specs.text_core.Each.{Each, each-weaker, each-append, each-filter, filter-none}
+use Rattle.go_text_core.specs.Text.{is_blank}
+use Rattle.go_text_core.proofs.Each.{Each, each-weaker, each-append, each-filter, filter-none}
 use Rattle.go_tree_nodes.specs.declared.names.Ident.{Ident}
 use Rattle.go_tree_nodes.specs.Terminals.{Terminal, TerminalKind, InOrder, least_width, Spelled, Number, Quoted, Word, Mark, Stray}
 use Rattle.go_tree_nodes.specs.Trees.{FuncTree}
 use Rattle.go_tree_nodes.proofs.InOrder.{in_order_ends}
 use Rattle.go_names_core.specs.scope_stack.Blocks.{or_else}
-use Rattle.go_names_core.specs.block_core.Blocks.{BlocksModel}
+use Rattle.go_block_core.specs.Blocks.{BlocksModel}
 use Rattle.go_names_core.specs.scope_core.Scopes as scopes
 use Rattle.go_names_core.specs.scope_core.Scopes.{Denoted}
 use Rattle.go_names_core.specs.scope_core.Models.{scopes_model}
 use Rattle.go_names_core.specs.scope_core.Laws.{denotes}
-use Rattle.go_names_core.specs.local_core.Steps.{Piece, Steps, Done, Check, Declare, Inner, Header, spell_piece}
-use Rattle.go_names_core.specs.local_core.Outline.{func_steps, func_opens, func_closes, header_idents, lines_steps}
-use Rattle.go_names_core.specs.local_core.Binding.{Local, NameLook, bound, is_first, is_second, shown, region_has, innermost_of}
-use Rattle.go_names_core.specs.local_core.Binding as binding
-use Rattle.go_names_core.specs.local_core.Law.{Rules, locals_of_names, declared_from, law_out}
-use Rattle.go_names_core.specs.local_core.Alike.{Alike, AlikeAt}
-use Rattle.go_names_core.specs.local_core.Tables.{IsFuncPlaced, IsTable}
-use Rattle.go_names_core.specs.local_core.Placed.{Placed, func_placed}
-use Rattle.go_names_core.specs.local_core.Parts.{IsPart, law_parts}
+use Rattle.go_local_core.specs.Steps.{Piece, Steps, Done, Check, Declare, Inner, Header, spell_piece}
+use Rattle.go_local_core.specs.Outline.{func_steps, func_opens, func_closes, header_idents, lines_steps}
+use Rattle.go_local_core.specs.Binding.{Local, NameLook, bound, is_first, is_second, shown, region_has, innermost_of}
+use Rattle.go_local_core.specs.Binding as binding
+use Rattle.go_local_core.specs.Law.{Rules, locals_of_names, declared_from, law_out}
+use Rattle.go_local_core.specs.Alike.{Alike, AlikeAt}
+use Rattle.go_local_core.specs.Tables.{IsFuncPlaced, IsTable}
+use Rattle.go_local_core.proofs.Placed.{Placed, func_placed}
+use Rattle.go_local_core.proofs.Parts.{IsPart, law_parts}
 use Rattle.go_names_core.specs.Scope.{some_meaning}
-use Rattle.go_stmt_core.specs.inline_core.Hiding.{hides}
+use Rattle.go_inline_core.specs.Hiding.{hides}
 use Rattle.go_env_core.specs.declared.meaning.Meaning.{Meaning}
 use Rattle.go_env_core.specs.declared.meaning.Meaning.TheVariants as meanings
 use Rattle.go_body_core.specs.function.Types.{is_local_meaning}

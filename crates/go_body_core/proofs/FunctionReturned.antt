@@ -1,9 +1,9 @@
 -- What a function returns has the types that its table has, since no local of the function is seen in its header.
 use Rattle.std.proofs.Common.{◌≡◌, true, List, [], ◌∷◌, ◌++◌, refl, ap, ◌∙◌}
-use Rattle.go_tree_nodes.specs.text_core.Each.{Each}
+use Rattle.go_text_core.proofs.Each.{Each}
 use Rattle.go_tree_nodes.specs.Trees.{TypeTree, SignatureTree, ResultTree, ParamTrees, Signed, NoResult, OneResult, Results, NoParams, Param}
 use Rattle.go_tree_nodes.specs.WrittenTypes.{params_types, result_types, signature_types}
-use Rattle.go_stmt_core.specs.expr_core.Denoting.{written_type}
+use Rattle.go_expr_core.specs.Denoting.{written_type}
 use Rattle.go_stmt_core.specs.piece.Headers.{of_entry, entry_types, types_of_result, returned_types}
 use Rattle.go_env_core.specs.Looks.{TheLooks}
 

@@ -2,19 +2,19 @@
 use Rattle.std.proofs.Common.{◌≡◌, ℕ, suc, ◌+◌, ◌<◌, ◌≤◌, Bool, true, false, not, List, [], ◌∷◌, ◌++◌, map, Option, refl, sym, ap, subst, ◌∙◌, arith}
 use Rattle.std.specs.Prelude.{if◌then◌else◌}
 use Rattle.std.specs.List.{flat_map, AllByRecursion}
-use Rattle.go_tree_nodes.specs.text_core.Text.{is_blank}
-use Rattle.go_tree_nodes.specs.text_core.Each.{Each, each-weaker, each-append}
+use Rattle.go_text_core.specs.Text.{is_blank}
+use Rattle.go_text_core.proofs.Each.{Each, each-weaker, each-append}
 use Rattle.go_tree_nodes.specs.declared.names.Ident.{Ident}
 use Rattle.go_tree_nodes.specs.Trees.{FuncTree}
 use Rattle.go_tree_nodes.proofs.InOrder.{in_order_ends, AreInTurn}
-use Rattle.go_names_core.specs.local_core.Steps.{Piece, Steps, Done, Check, Declare, Inner, spell_piece}
-use Rattle.go_names_core.specs.local_core.Pieces.{ident_place, piece_declares}
-use Rattle.go_names_core.specs.local_core.Outline.{func_steps, func_opens, func_closes}
-use Rattle.go_names_core.specs.local_core.Binding.{Local, NameLook, bound, is_first, is_second}
-use Rattle.go_names_core.specs.local_core.Law.{Rules, locals_of_names, declared_from, law_out}
-use Rattle.go_names_core.specs.local_core.Tables.{IsFuncPlaced, IsTable}
-use Rattle.go_names_core.specs.local_core.Placed.{Placed, placed_ends, func_placed}
-use Rattle.go_names_core.specs.local_core.Parts.{names_parts, law_parts}
+use Rattle.go_local_core.specs.Steps.{Piece, Steps, Done, Check, Declare, Inner, spell_piece}
+use Rattle.go_local_core.specs.Pieces.{ident_place, piece_declares}
+use Rattle.go_local_core.specs.Outline.{func_steps, func_opens, func_closes}
+use Rattle.go_local_core.specs.Binding.{Local, NameLook, bound, is_first, is_second}
+use Rattle.go_local_core.specs.Law.{Rules, locals_of_names, declared_from, law_out}
+use Rattle.go_local_core.specs.Tables.{IsFuncPlaced, IsTable}
+use Rattle.go_local_core.proofs.Placed.{Placed, placed_ends, func_placed}
+use Rattle.go_local_core.proofs.Parts.{names_parts, law_parts}
 use Rattle.go_env_core.specs.declared.meaning.Meaning.{Meaning}
 use Rattle.go_env_core.specs.declared.meaning.Meaning.TheVariants as meanings
 use Rattle.go_body_core.specs.Notes.{TheValue, TheLocal}

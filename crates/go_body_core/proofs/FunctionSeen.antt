@@ -6,15 +6,15 @@ use Rattle.go_tree_nodes.specs.Starts.{type_start}
 use Rattle.go_tree_nodes.specs.Trees.{TypeTree, FuncTree}
 use Rattle.go_term_core.specs.Terms.{NoType}
 use Rattle.go_typexpr_core.specs.written.Written as types
-use Rattle.go_names_core.specs.local_core.Binding.{Local, NameLook, bound}
-use Rattle.go_names_core.specs.local_core.Tables.{IsFuncPlaced}
-use Rattle.go_stmt_core.specs.inline_core.Types.{InlineOf, inline_at}
-use Rattle.go_stmt_core.specs.inline_core.Trees.{func_types}
-use Rattle.go_stmt_core.specs.inline_core.Inline.{inline_of, inlines}
-use Rattle.go_stmt_core.specs.inline_core.Functions.{looked_up_ident}
-use Rattle.go_stmt_core.specs.inline_core.Hiding.{meaning_beside}
-use Rattle.go_stmt_core.specs.inline_core.Found.{types_are_found}
-use Rattle.go_stmt_core.specs.inline_core.Tellings.{any_table_tells}
+use Rattle.go_local_core.specs.Binding.{Local, NameLook, bound}
+use Rattle.go_local_core.specs.Tables.{IsFuncPlaced}
+use Rattle.go_inline_core.specs.Types.{InlineOf, inline_at}
+use Rattle.go_inline_core.specs.Trees.{func_types}
+use Rattle.go_inline_core.specs.Inline.{inline_of, inlines}
+use Rattle.go_inline_core.specs.Functions.{looked_up_ident}
+use Rattle.go_inline_core.specs.Hiding.{meaning_beside}
+use Rattle.go_inline_core.proofs.Found.{types_are_found}
+use Rattle.go_inline_core.proofs.Tellings.{any_table_tells}
 use Rattle.go_env_core.specs.declared.meaning.Meaning.{Meaning}
 use Rattle.go_env_core.specs.Looks.{inline_type, inline_faults, inline_rules}
 use Rattle.go_body_core.specs.Notes.{NoteOf}

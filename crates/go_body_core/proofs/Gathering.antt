@@ -1,8 +1,8 @@
 -- The faults of a function, put together from those of its parts.
 use Rattle.std.proofs.Common.{◌≡◌, false, List, ◌++◌, ap, ◌∙◌, append_assoc}
 use Rattle.go_tree_nodes.specs.Trees.{FuncTree}
-use Rattle.go_names_core.specs.local_core.declared.Fault.{Fault}
-use Rattle.go_names_core.specs.local_core.WalksEnds.{lines_loop_faults}
+use Rattle.go_local_core.specs.declared.Fault.{Fault}
+use Rattle.go_local_core.specs.walks.Ends.{lines_loop_faults}
 use Rattle.go_body_core.specs.Notes.{TheUse, NoteOf, all_uses, noted_faults}
 use Rattle.go_body_core.specs.Ends.{end_faults}
 

@@ -21,11 +21,15 @@ pub mod FunctionRegions
 pub mod FunctionReturned
 pub mod FunctionRising
 pub mod FunctionSeen
+pub mod FileCollecting
+pub mod FileCrossing
 pub mod FileImporting
 pub mod FileOccurring
 pub mod FilePackages
 pub mod FilePlaced
+pub mod FileRunning
 pub mod FileSeen
 pub mod FileStanding
 pub mod FileSteps
 pub mod FileTyped
+pub mod CrossingCrossing

@@ -3,8 +3,8 @@ use Rattle.std.proofs.Common.{◌≡◌, ℕ, suc, List, [], ◌∷◌, map, Opt
 use Rattle.std.specs.Global.{Global}
 use Rattle.std.specs.Result.{IfOk}
 use Rattle.go_tree_nodes.specs.declared.names.Ident.{Ident}
-use Rattle.go_stmt_core.specs.operand_core.declared.types.Operand.{Operand}
-use Rattle.go_names_core.specs.local_core.Pieces.{ident_place}
+use Rattle.go_operand_core.specs.declared.types.Operand.{Operand}
+use Rattle.go_local_core.specs.Pieces.{ident_place}
 use Rattle.go_term_core.specs.Terms.{Term}
 use Rattle.go_names_core.specs.Body.{each_means}
 use Rattle.go_env_core.specs.declared.meaning.Meaning.{Meaning}

@@ -5,17 +5,17 @@ use Rattle.std.proofs.lemmas.List.{map-append}
 use Rattle.go_tree_nodes.specs.Trees.{FuncTree}
 use Rattle.go_tree_core.specs.declared.occurrence.Role.{Role}
 use Rattle.go_tree_core.specs.Occurrences.{func_occs}
-use Rattle.go_names_core.specs.local_core.Steps.{Piece, Header, Spec, Act, Condition, Given, Steps, Done, Check, Declare, Inner}
-use Rattle.go_names_core.specs.local_core.Outline.{func_steps, func_opens, func_closes}
-use Rattle.go_names_core.specs.local_core.Tables.{walked, out_by_intervals}
+use Rattle.go_local_core.specs.Steps.{Piece, Header, Spec, Act, Condition, Given, Steps, Done, Check, Declare, Inner}
+use Rattle.go_local_core.specs.Outline.{func_steps, func_opens, func_closes}
+use Rattle.go_local_core.specs.Tables.{walked, out_by_intervals}
 use Rattle.go_term_core.specs.Terms.{Term, Sign}
-use Rattle.go_env_core.specs.handle_core.Declarations.{Declaration}
-use Rattle.go_stmt_core.specs.expr_core.Looks.{Looks, WrittenRules}
-use Rattle.go_stmt_core.specs.expr_core.Laws.{use_place, occurrence_place}
+use Rattle.go_handle_core.specs.Declarations.{Declaration}
+use Rattle.go_expr_core.specs.Looks.{Looks, WrittenRules}
+use Rattle.go_expr_core.specs.Laws.{use_place, occurrence_place}
 use Rattle.go_stmt_core.specs.piece.Laws.{piece_occs, steps_occs}
 use Rattle.go_stmt_core.specs.piece.Pieces.{piece_uses}
 use Rattle.go_stmt_core.proofs.PieceOccurring.{pieces_occur}
-use Rattle.go_env_core.specs.declared_core.Faces.{TheFace}
+use Rattle.go_declared_core.specs.Faces.{TheFace}
 use Rattle.go_env_core.specs.declared.meaning.Meaning.{Meaning}
 use Rattle.go_env_core.specs.Scenes.{SceneModel}
 use Rattle.go_env_core.specs.Looks.{looks_in}

@@ -4,18 +4,18 @@ use Rattle.std.specs.Global.{Global}
 use Rattle.std.specs.Result.{IfOk, OnOk}
 use Rattle.go_tree_nodes.specs.Trees.{SignatureTree}
 use Rattle.go_tree_nodes.specs.declared.names.Ident.{Ident}
-use Rattle.go_stmt_core.specs.operand_core.declared.types.Operand.{Operand}
+use Rattle.go_operand_core.specs.declared.types.Operand.{Operand}
 use Rattle.go_term_core.specs.Terms.{Term}
-use Rattle.go_names_core.specs.local_core.Steps.{Piece}
+use Rattle.go_local_core.specs.Steps.{Piece}
 use Rattle.go_names_core.specs.declared.look.OpenNames.{OpenNames}
 use Rattle.go_names_core.specs.Scope.{open_look, look_in_scope}
 use Rattle.go_names_core.specs.scope_core.Models.{scopes_model}
-use Rattle.go_stmt_core.specs.inline_core.Types.{InlineOf}
-use Rattle.go_names_core.specs.local_core.declared.Fault.{Fault}
+use Rattle.go_inline_core.specs.Types.{InlineOf}
+use Rattle.go_local_core.specs.declared.Fault.{Fault}
 use Rattle.go_stmt_core.specs.piece.Headers.{returned_types}
 use Rattle.go_stmt_core.specs.piece.Pieces.{piece_uses, piece_faults, piece_values}
-use Rattle.go_names_core.specs.local_core.Pieces.{piece_declares}
-use Rattle.go_env_core.specs.declared_core.Faces.{TheFace}
+use Rattle.go_local_core.specs.Pieces.{piece_declares}
+use Rattle.go_declared_core.specs.Faces.{TheFace}
 use Rattle.go_env_core.specs.declared.scene.Scene.{Scene}
 use Rattle.go_env_core.specs.declared.here.Here.{Here}
 use Rattle.go_env_core.specs.declared.meaning.Meaning.{Meaning}

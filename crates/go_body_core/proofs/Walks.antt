@@ -2,10 +2,10 @@
 use Rattle.std.proofs.Common.{◌≡◌, ℕ, Bool, List, [], ◌++◌, map, Option, refl, ap, ◌∙◌}
 use Rattle.std.specs.List.{flat_map}
 use Rattle.std.proofs.lemmas.Grind.{flat_map-append}
-use Rattle.go_names_core.specs.local_core.Steps.{Piece, Steps, Done, Check, Declare, Inner}
-use Rattle.go_names_core.specs.local_core.Binding.{Local, NameLook, bound, is_first}
-use Rattle.go_names_core.specs.local_core.Law.{Rules, law_out}
-use Rattle.go_names_core.specs.local_core.mirrors.Walk.{Names, look_in, news, with_names, names_of, walk_out}
+use Rattle.go_local_core.specs.Steps.{Piece, Steps, Done, Check, Declare, Inner}
+use Rattle.go_local_core.specs.Binding.{Local, NameLook, bound, is_first}
+use Rattle.go_local_core.specs.Law.{Rules, law_out}
+use Rattle.go_local_core.specs.mirrors.Walk.{Names, look_in, news, with_names, names_of, walk_out}
 use Rattle.go_body_core.specs.Pieces.{of_pieces, AllPieces}
 
 -- whatever names mean, the rules note of a piece what stands there

@@ -1,12 +1,12 @@
 -- The pieces of a function of the grammar are of the grammar.
 use Rattle.std.proofs.Common.{Bool, true, false, List, [], ◌∷◌, Option, Some, None}
-use Rattle.go_tree_nodes.specs.text_core.declared.span.Span.{Span}
+use Rattle.go_text_core.specs.declared.span.Span.{Span}
 use Rattle.go_tree_nodes.specs.declared.decls.ValueKind.{ValueKind}
 use Rattle.go_tree_nodes.specs.Trees as tree
 use Rattle.go_tree_nodes.specs.Trees.{Separated, ExprTree, ValueSpecTree, Specs, Single, Group, SimpleTree, Alone, Step, Assign, Update, Define, IfTree, ForTree, Forever, While, Clauses, StmtTree, BranchTree, ElseTree, Lines, Empty, Simple, Return, Break, Continue, Block, If, For, Branch, NoElse, ElseBlock, ElseIf, NoLines, Line, FuncTree}
 use Rattle.go_tree_nodes.specs.Rules.{Wf_value_spec, Wf_group, Wf_specs, Wf_simple, Wf_some_simple, Wf_some_expr, Wf_init, Wf_if, Wf_for, Wf_stmt, Wf_branch, Wf_else, Wf_lines}
-use Rattle.go_names_core.specs.local_core.Steps.{Steps, Done}
-use Rattle.go_names_core.specs.local_core.Outline.{group_steps, specs_steps, simple_steps, some_simple_steps, init_steps, some_condition_steps, if_steps, for_steps, stmt_steps, branch_steps, else_steps, lines_steps}
+use Rattle.go_local_core.specs.Steps.{Steps, Done}
+use Rattle.go_local_core.specs.Outline.{group_steps, specs_steps, simple_steps, some_simple_steps, init_steps, some_condition_steps, if_steps, for_steps, stmt_steps, branch_steps, else_steps, lines_steps}
 use Rattle.go_body_core.specs.Pieces.{AllPieces}
 use Rattle.go_body_core.specs.WellFormed.{IsOfGrammar, PiecesAreOfGrammar}
 

@@ -1,11 +1,11 @@
 -- Two rules that say the same of each piece of a function say the same of the function.
 use Rattle.std.specs.Prelude.{◌≡◌, ℕ, List, [], map, Option}
 use Rattle.go_tree_nodes.specs.Trees.{FuncTree}
-use Rattle.go_names_core.specs.local_core.Steps.{Steps, Done, Check, Declare, Inner}
-use Rattle.go_names_core.specs.local_core.Outline.{func_steps, func_opens}
-use Rattle.go_names_core.specs.local_core.Binding.{Local, bound, is_first}
-use Rattle.go_names_core.specs.local_core.Law.{Rules}
-use Rattle.go_names_core.specs.local_core.Tables.{out_by_intervals, IsTable}
+use Rattle.go_local_core.specs.Steps.{Steps, Done, Check, Declare, Inner}
+use Rattle.go_local_core.specs.Outline.{func_steps, func_opens}
+use Rattle.go_local_core.specs.Binding.{Local, bound, is_first}
+use Rattle.go_local_core.specs.Law.{Rules}
+use Rattle.go_local_core.specs.Tables.{out_by_intervals, IsTable}
 
 -- where names are bound by these declarations, both rules note the same of each piece of the steps of a block, and the names that it declares
 -- mean the same

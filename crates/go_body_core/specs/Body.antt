@@ -4,13 +4,13 @@
 use Rattle.std.specs.Prelude.{◌≡◌, ℕ, false, List, ◌++◌, Option}
 use Rattle.go_tree_nodes.specs.Trees.{FuncTree}
 use Rattle.go_term_core.specs.Terms.{Term}
-use Rattle.go_names_core.specs.local_core.declared.Fault.{Fault}
-use Rattle.go_names_core.specs.local_core.Binding.{Local}
-use Rattle.go_names_core.specs.local_core.Law.{Out}
-use Rattle.go_names_core.specs.local_core.Tables.{walked, out_by_intervals, IsTable}
-use Rattle.go_names_core.specs.local_core.WalksEnds.{lines_loop_faults}
-use Rattle.go_stmt_core.specs.expr_core.Looks.{WrittenRules}
-use Rattle.go_env_core.specs.declared_core.Faces.{TheFace}
+use Rattle.go_local_core.specs.declared.Fault.{Fault}
+use Rattle.go_local_core.specs.Binding.{Local}
+use Rattle.go_local_core.specs.Law.{Out}
+use Rattle.go_local_core.specs.Tables.{walked, out_by_intervals, IsTable}
+use Rattle.go_local_core.specs.walks.Ends.{lines_loop_faults}
+use Rattle.go_expr_core.specs.Looks.{WrittenRules}
+use Rattle.go_declared_core.specs.Faces.{TheFace}
 use Rattle.go_env_core.specs.declared.meaning.Meaning.{Meaning}
 use Rattle.go_env_core.specs.Scenes.{SceneModel}
 use Rattle.go_body_core.specs.Notes.{TheUse, TheLocal, NoteOf, all_uses, noted_faults, all_locals}

@@ -3,15 +3,15 @@
 -- docs/RULES.md, "Bodies of functions". The Go specification, "Function declarations", "Terminating statements", "Handling panics".
 use Rattle.std.specs.Prelude.{ℕ, Bool, true, false, ◌&&◌, not, nat_eq, List, [], ◌∷◌, if◌then◌else◌}
 use Rattle.std.specs.List.{list_any}
-use Rattle.go_tree_nodes.specs.text_core.declared.rule.Rule.TheVariants.{Y5}
+use Rattle.go_text_core.specs.declared.rule.Rule.TheVariants.{Y5}
 use Rattle.go_universe_core.specs.declared.Predeclared.{Predeclared}
 use Rattle.go_universe_core.specs.declared.Predeclared.TheVariants as predeclared
 use Rattle.go_tree_nodes.specs.Trees.{SignatureTree, ResultTree, Signed, NoResult, OneResult, Results, NoParams, Param, ParamTrees, ExprTree, Integer, Text, Named, Paren, Unary, Binary, Select, Call, Literal, StructLiteral, FuncTree}
-use Rattle.go_env_core.specs.handle_core.Declarations.{Declaration, Universe, OfError, Package, InFile}
-use Rattle.go_stmt_core.specs.denote_core.declared.things.Outcome.{Outcome}
-use Rattle.go_stmt_core.specs.denote_core.declared.things.Outcome.TheVariants as outcomes
-use Rattle.go_names_core.specs.local_core.WalksEnds.{are_terminating}
-use Rattle.go_names_core.specs.local_core.declared.Fault.{Fault}
+use Rattle.go_handle_core.specs.Declarations.{Declaration, Universe, OfError, Package, InFile}
+use Rattle.go_denote_core.specs.declared.things.Outcome.{Outcome}
+use Rattle.go_denote_core.specs.declared.things.Outcome.TheVariants as outcomes
+use Rattle.go_local_core.specs.walks.Ends.{are_terminating}
+use Rattle.go_local_core.specs.declared.Fault.{Fault}
 use Rattle.go_body_core.specs.Notes.{TheUse}
 
 -- a function has results

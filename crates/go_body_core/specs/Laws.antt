@@ -2,11 +2,11 @@
 use Rattle.std.specs.Prelude.{◌≡◌, ℕ, List, Option, map}
 use Rattle.go_tree_nodes.specs.Trees.{FuncTree}
 use Rattle.go_tree_core.specs.Occurrences.{func_occs}
-use Rattle.go_names_core.specs.local_core.Binding.{Local}
+use Rattle.go_local_core.specs.Binding.{Local}
 use Rattle.go_term_core.specs.Terms.{Term}
-use Rattle.go_stmt_core.specs.expr_core.Looks.{WrittenRules}
-use Rattle.go_stmt_core.specs.expr_core.Laws.{use_place, occurrence_place}
-use Rattle.go_env_core.specs.declared_core.Faces.{TheFace}
+use Rattle.go_expr_core.specs.Looks.{WrittenRules}
+use Rattle.go_expr_core.specs.Laws.{use_place, occurrence_place}
+use Rattle.go_declared_core.specs.Faces.{TheFace}
 use Rattle.go_env_core.specs.declared.meaning.Meaning.{Meaning}
 use Rattle.go_env_core.specs.Scenes.{SceneModel}
 use Rattle.go_body_core.specs.WellFormed.{IsFuncOfGrammar}

@@ -10,6 +10,7 @@ pub mod codes
 pub mod mirrors
 pub mod function
 pub mod file
+pub mod crossing
 pub mod env_core
 pub mod inline_core
 pub mod stmt_core

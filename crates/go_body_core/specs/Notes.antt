@@ -2,10 +2,10 @@
 use Rattle.std.specs.Prelude.{ℕ, List, Option}
 use Rattle.std.specs.List.{flat_map}
 use Rattle.go_term_core.specs.Terms.{Term}
-use Rattle.go_env_core.specs.handle_core.Declarations.{Declaration}
-use Rattle.go_stmt_core.specs.operand_core.declared.types.Operand.{Operand}
-use Rattle.go_stmt_core.specs.expr_core.declared.things.Use.{Use}
-use Rattle.go_names_core.specs.local_core.declared.Fault.{Fault}
+use Rattle.go_handle_core.specs.Declarations.{Declaration}
+use Rattle.go_operand_core.specs.declared.types.Operand.{Operand}
+use Rattle.go_expr_core.specs.declared.things.Use.{Use}
+use Rattle.go_local_core.specs.declared.Fault.{Fault}
 use Rattle.go_body_core.specs.declared.locals.Local.{Local}
 
 -- what an occurrence has

@@ -2,7 +2,7 @@
 --
 -- docs/RULES.md, "Bodies of functions". The Go specification, "Blocks".
 use Rattle.std.specs.Prelude.{List, [], ◌++◌}
-use Rattle.go_names_core.specs.local_core.Steps.{Piece, Steps, Done, Check, Declare, Inner}
+use Rattle.go_local_core.specs.Steps.{Piece, Steps, Done, Check, Declare, Inner}
 
 -- what each piece of some steps has, in order
 abbrev pub of_pieces : {A : Type 0} → (Piece → List A) → Steps → List A

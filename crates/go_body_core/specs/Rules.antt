@@ -3,19 +3,19 @@
 -- docs/RULES.md, "Bodies of functions". The Go specification, "Declarations and scope", "Statements", "Function declarations".
 use Rattle.std.specs.Prelude.{ℕ, zero, suc, Bool, true, false, List, [], ◌∷◌, ◌++◌, Option, Some, None}
 use Rattle.go_tree_nodes.specs.Trees.{FuncTree}
-use Rattle.go_stmt_core.specs.operand_core.declared.types.Operand.{Operand}
+use Rattle.go_operand_core.specs.declared.types.Operand.{Operand}
 use Rattle.go_term_core.specs.Terms.{Term}
 use Rattle.go_tree_nodes.specs.declared.names.Ident.{Ident}
-use Rattle.go_names_core.specs.local_core.Steps.{Piece}
-use Rattle.go_names_core.specs.local_core.Pieces.{ident_place, piece_declares}
-use Rattle.go_names_core.specs.local_core.Binding.{NameLook}
-use Rattle.go_names_core.specs.local_core.Law.{Rules}
+use Rattle.go_local_core.specs.Steps.{Piece}
+use Rattle.go_local_core.specs.Pieces.{ident_place, piece_declares}
+use Rattle.go_local_core.specs.Binding.{NameLook}
+use Rattle.go_local_core.specs.Law.{Rules}
 use Rattle.go_names_core.specs.Scope.{beyond_in}
 use Rattle.go_names_core.specs.Body.{each_means}
-use Rattle.go_stmt_core.specs.expr_core.Looks.{WrittenRules}
+use Rattle.go_expr_core.specs.Looks.{WrittenRules}
 use Rattle.go_stmt_core.specs.piece.Pieces.{piece_uses, piece_faults, piece_values}
 use Rattle.go_stmt_core.specs.piece.Headers.{returned_types, returned_names}
-use Rattle.go_env_core.specs.declared_core.Faces.{TheFace}
+use Rattle.go_declared_core.specs.Faces.{TheFace}
 use Rattle.go_env_core.specs.declared.meaning.Meaning.{Meaning}
 use Rattle.go_env_core.specs.declared.meaning.Meaning.TheVariants as meanings
 use Rattle.go_env_core.specs.Scenes.{SceneModel, scene_shown}

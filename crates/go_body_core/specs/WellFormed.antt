@@ -2,8 +2,8 @@
 use Rattle.std.specs.Prelude.{Bool, true}
 use Rattle.go_tree_nodes.specs.Trees.{FuncTree}
 use Rattle.go_tree_nodes.specs.Rules.{Wf, Wf_signature, Wf_value_spec, Wf_simple, Wf_some_exprs, Wf_lines}
-use Rattle.go_names_core.specs.local_core.Steps.{Piece, Header, Spec, Act, Condition, Given}
-use Rattle.go_names_core.specs.local_core.Outline.{func_steps}
+use Rattle.go_local_core.specs.Steps.{Piece, Header, Spec, Act, Condition, Given}
+use Rattle.go_local_core.specs.Outline.{func_steps}
 use Rattle.go_body_core.specs.Pieces.{AllPieces}
 
 -- a piece of the grammar: a statement may stand in a header, where no literal does

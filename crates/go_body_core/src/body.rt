@@ -2,7 +2,7 @@
 ghost use Rattle.std.specs.Prelude.{◌≡◌, IfOk};
 ghost use Rattle.go_tree_nodes.specs.Shapes.{func_of};
 ghost use Rattle.go_tree_nodes.specs.TypeShapes.{shape_signature};
-ghost use Rattle.go_names_core.specs.local_core.Tables.{IsFuncPlaced};
+ghost use Rattle.go_local_core.specs.Tables.{IsFuncPlaced};
 ghost use Rattle.go_env_core.specs.Scenes.{scene_shown};
 ghost use Rattle.go_env_core.specs.Looks.{inline_rules};
 ghost use Rattle.go_stmt_core.specs.piece.Headers.{returned_types};
@@ -13,13 +13,14 @@ use crate::ends::add_end;
 use crate::locals::Local;
 use crate::notes::{BodyUse, Note, joined};
 use crate::pieces::{Pieces, RecalledPieces};
-use go_env_core::declared_core::Face;
-use go_env_core::handle_core::{SignatureRef, TypeRef};
+use go_declared_core::Face;
 use go_env_core::{Recall, Scene, TypesOf, outer_names};
+use go_handle_core::{SignatureRef, TypeRef};
+use go_inline_core::InlineTypes;
+use go_local_core::Fault;
+use go_local_core::walks::lines_loop_faults;
 use go_names_core::check_function;
-use go_names_core::local_core::{Fault, lines_loop_faults};
 use go_names_core::scope_core::Scopes;
-use go_stmt_core::inline_core::InlineTypes;
 use go_stmt_core::piece::has_named_results;
 use go_tree_nodes::FuncDecl;
 use std::alloc::{AllocError, Global};
@@ -37,8 +38,12 @@ pub struct CheckedBody<'p> {
     pub locals: Vec<Local<'p>>,
 }
 
-// The types of a function's results, as they are written in its header.
-fn results<'n, 'p>(
+/// The types of a function's results, as they are written in its header.
+///
+/// # Errors
+///
+/// `AllocError` where memory is wanting.
+pub fn results<'n, 'p>(
     alloc: Global,
     scene: &'n Scene<'p>,
     file: usize,
@@ -62,8 +67,12 @@ fn results<'n, 'p>(
     pieces.results_at(&names, func)
 }
 
-// What was noted of the pieces of a function, with the faults of its names, of `break` and `continue`, and of its end.
-fn gathered<'p>(
+/// What was noted of the pieces of a function, with the faults of its names, of `break` and `continue`, and of its end.
+///
+/// # Errors
+///
+/// `AllocError` where memory is wanting.
+pub fn gathered<'p>(
     alloc: Global,
     notes: Vec<Note<'p>>,
     names: &[Fault],

@@ -2,13 +2,14 @@
 ghost use Rattle.std.specs.Prelude.{◌≡◌, ◌++◌, IfOk, OnOk};
 ghost use Rattle.go_tree_nodes.specs.Shapes.{func_of, lines_of};
 ghost use Rattle.go_tree_nodes.specs.TypeShapes.{shape_results};
-ghost use Rattle.go_names_core.specs.local_core.WalksEnds.{are_terminating};
+ghost use Rattle.go_local_core.specs.walks.Ends.{are_terminating};
 ghost use Rattle.go_body_core.specs.Ends.{has_result, panics_at, calls_one, end_faults};
 
 use crate::notes::BodyUse;
 use crate::panics::{PanicCalls, panic_offsets};
-use go_names_core::local_core::{Fault, are_terminating};
-use go_tree_nodes::text_core::{Rule, add};
+use go_local_core::Fault;
+use go_local_core::walks::are_terminating;
+use go_text_core::{Rule, add};
 use go_tree_nodes::{FuncDecl, Line, Results};
 use std::alloc::{AllocError, Global};
 

@@ -4,6 +4,7 @@
 #![tactic(auto)]
 
 mod body;
+pub mod crossing;
 mod ends;
 pub mod file;
 pub mod function;
@@ -18,6 +19,13 @@ pub use body::{CheckedBody, check_body};
 pub use laws::{alike_rules_give_one, bodies_have_occurrences, pieces_are_of_grammar};
 pub use locals::Local;
 pub use notes::BodyUse;
+
+/// What a walk through a function is made of that checks parts of it at once: the checker of its pieces, what is noted of one, and what comes of all.
+pub mod walking {
+    pub use crate::body::{gathered, results};
+    pub use crate::notes::Note;
+    pub use crate::pieces::{Pieces, RecalledPieces};
+}
 
 /// What the crates above name of `go_env_core`.
 pub mod env_core {

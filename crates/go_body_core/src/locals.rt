@@ -3,11 +3,11 @@ ghost use Rattle.std.specs.Prelude.{◌≡◌, ◌++◌, IfOk, OnOk, map};
 ghost use Rattle.go_body_core.specs.Rules.{declared_among, local_if, locals_of};
 
 use go_env_core::Meaning;
-use go_env_core::handle_core::TypeRef;
+use go_handle_core::TypeRef;
 use go_names_core::Meant;
-use go_stmt_core::operand_core::Operand;
+use go_operand_core::Operand;
+use go_text_core::add;
 use go_tree_nodes::Ident;
-use go_tree_nodes::text_core::add;
 use std::alloc::{AllocError, Global};
 
 /// A local that a function declares: its receiver, a parameter, a result, a constant or a variable, by its declared identifier.

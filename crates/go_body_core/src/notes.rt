@@ -6,12 +6,12 @@ ghost use Rattle.go_body_core.specs.Rules.{declared_among, locals_of};
 use crate::body::CheckedBody;
 use crate::locals::{Local, declared_locals, locals};
 use go_env_core::Meaning;
-use go_env_core::handle_core::{Decl, TypeRef};
-use go_env_core::select_core::EmbedPath;
-use go_stmt_core::expr_core::{Notes, Use};
-use go_stmt_core::operand_core::Operand;
+use go_expr_core::{Notes, Use};
+use go_handle_core::{Decl, TypeRef};
+use go_operand_core::Operand;
+use go_select_core::EmbedPath;
+use go_text_core::add;
 use go_tree_nodes::Ident;
-use go_tree_nodes::text_core::add;
 use std::alloc::{AllocError, Global};
 use std::marker::Model;
 
@@ -20,7 +20,7 @@ pub type BodyUse<'p> = Use<Decl<'p>, EmbedPath>;
 
 /// What is noted of one piece. Contracts see the three lists.
 #[derive(Drop)]
-pub(crate) struct Note<'p> {
+pub struct Note<'p> {
     notes: Notes<Decl<'p>, EmbedPath>,
     locals: Vec<Local<'p>>,
 }

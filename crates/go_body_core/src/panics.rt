@@ -5,10 +5,10 @@ ghost use Rattle.go_tree_nodes.specs.Shapes.{shape};
 ghost use Rattle.go_body_core.specs.Ends.{is_panic_declaration, has_panic, panics_at, names_one, calls_one};
 
 use crate::notes::BodyUse;
-use go_env_core::handle_core::{Decl, DeclSite};
-use go_env_core::select_core::EmbedPath;
-use go_names_core::local_core::Panics;
-use go_stmt_core::denote_core::Outcome;
+use go_denote_core::Outcome;
+use go_handle_core::{Decl, DeclSite};
+use go_local_core::walks::Panics;
+use go_select_core::EmbedPath;
 use go_tree_nodes::Expr;
 use go_universe_core::Predeclared;
 use std::alloc::{AllocError, Global};

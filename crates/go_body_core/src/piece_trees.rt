@@ -1,15 +1,15 @@
 //! The pieces of a function as they stand in its tree, and their check in any environment.
 ghost use Rattle.std.specs.Prelude.{◌≡◌, ◌++◌, IfOk, OnOk};
-ghost use Rattle.go_stmt_core.specs.expr_core.Looks.{everywhere};
+ghost use Rattle.go_expr_core.specs.Looks.{everywhere};
 ghost use Rattle.go_stmt_core.specs.piece.Pieces.{piece_uses};
 ghost use Rattle.go_body_core.specs.mirrors.PieceTrees.{faults_of, piece_of, values_of};
 
-use go_stmt_core::expr_core::{Exprs, Notes};
-use go_stmt_core::operand_core::Operand;
+use go_expr_core::{Exprs, Notes};
+use go_operand_core::Operand;
 use go_stmt_core::piece::{
     check_condition, check_header, check_returned, check_short, check_simple, check_spec,
 };
-use go_tree_nodes::text_core::Span;
+use go_text_core::Span;
 use go_tree_nodes::{Definition, Expr, Receiver, Signature, Simple, ValueKind, ValueSpec};
 use std::alloc::{AllocError, Global};
 

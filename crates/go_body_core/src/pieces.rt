@@ -12,30 +12,33 @@ ghost use Rattle.go_body_core.specs.mirrors.Noted.{noted_at, values_at};
 
 use crate::notes::{Note, declare, nothing};
 use crate::piece_trees::{PieceTree, check_piece};
-use go_env_core::declared_core::Face;
-use go_env_core::handle_core::{SignatureRef, TypeRef};
+use go_declared_core::Face;
 use go_env_core::{Meaning, Recall, Recalling, Scene, TypesOf, stand};
+use go_handle_core::{SignatureRef, TypeRef};
+use go_inline_core::InlineTypes;
 use go_names_core::{Checker, OpenNames, header_idents, listed_idents};
-use go_stmt_core::inline_core::InlineTypes;
 use go_stmt_core::piece::function_results;
-use go_tree_nodes::text_core::Span;
+use go_text_core::Span;
 use go_tree_nodes::{Definition, Expr, Exprs, FuncDecl, Ident, Simple, ValueKind, ValueSpec};
 use std::alloc::{AllocError, Global};
 
 /// What the pieces of a function are checked by: where it stands, and what it returns.
 #[derive(Clone, Copy)]
-pub(crate) struct Pieces<'c, 'p> {
-    pub(crate) alloc: Global,
-    pub(crate) scene: &'c Scene<'p>,
+pub struct Pieces<'c, 'p> {
+    /// Where memory is taken.
+    pub alloc: Global,
+    /// What is known of the package.
+    pub scene: &'c Scene<'p>,
     /// The number of its file among those of the package in order of name, from 0.
-    pub(crate) file: usize,
+    pub file: usize,
     /// The types that are written inside it.
-    pub(crate) inline: &'p InlineTypes,
+    pub inline: &'p InlineTypes,
     /// What the package's own declarations are, by their places in `scene.written`.
-    pub(crate) known: &'c [Option<Face<TypeRef<'p>, SignatureRef<'p>>>],
-    /// The types of its results, and whether they have names.
-    pub(crate) results: &'c [Option<TypeRef<'p>>],
-    pub(crate) has_names: bool,
+    pub known: &'c [Option<Face<TypeRef<'p>, SignatureRef<'p>>>],
+    /// The types of its results.
+    pub results: &'c [Option<TypeRef<'p>>],
+    /// Whether its results have names.
+    pub has_names: bool,
 }
 
 impl<'c, 'p> Pieces<'c, 'p> {
@@ -101,10 +104,13 @@ impl<'c, 'p> Pieces<'c, 'p> {
 
 /// The checker of the pieces of a function, with what was decided of the types of its table.
 #[derive(Drop)]
-pub(crate) struct RecalledPieces<'c, 'p, K: TypesOf> {
-    pub(crate) pieces: Pieces<'c, 'p>,
-    pub(crate) recall: &'c Recall<'p, K>,
-    pub(crate) ghost same: { pieces.scene.now.types.now ≡ K.types } by { Coded-set (coded_list coded_entry) _ _ },
+pub struct RecalledPieces<'c, 'p, K: TypesOf> {
+    /// What the pieces are checked by.
+    pub pieces: Pieces<'c, 'p>,
+    /// What was decided.
+    pub recall: &'c Recall<'p, K>,
+    /// They are the types of this table.
+    pub ghost same: { pieces.scene.now.types.now ≡ K.types } by { Coded-set (coded_list coded_entry) _ _ },
 }
 
 impl<'c, 'p, K: TypesOf> Checker for RecalledPieces<'c, 'p, K> {

@@ -3,7 +3,7 @@
 use crate::here::Here;
 use crate::messages::{Message, Words};
 use crate::place::place_here;
-use crate::suggesting::{fitting_change, fitting_import, import_with, names_here, near_here};
+use crate::suggesting::{fitting_change, import_like, import_with, names_here, near_here};
 use go_recovery_core::mend::{Mend, Mending};
 use std::alloc::{AllocError, Global};
 
@@ -64,8 +64,8 @@ pub fn add_names(
     }
 }
 
-/// Adds the path that is nearest to a spelling among those of the packages that the package of a place could import, as by [`crate::nearest_import`]. Where none
-/// is near it adds nothing.
+/// Adds the path of a package that the package of a place could import: one with the last element of a spelling, or else the nearest to it, as by
+/// [`crate::nearest_import`]. Where none is near it adds nothing.
 ///
 /// # Errors
 ///
@@ -76,7 +76,7 @@ pub fn add_near_import(
     spelled: &str,
     message: &mut Message,
 ) -> Result<(), AllocError> {
-    match fitting_import(alloc, here.snapshot, here.path(), spelled)? {
+    match import_like(alloc, here, spelled)? {
         Some(near) => message.fitting(Words::new(alloc).and("did you mean \""), &near, "\"?"),
         None => Ok(()),
     }

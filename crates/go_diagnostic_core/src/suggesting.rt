@@ -151,12 +151,8 @@ fn fitting_name(
     Ok(as_fitting(found))
 }
 
-/// The path of [`nearest_import`].
-///
-/// # Errors
-///
-/// `AllocError` where memory is wanting.
-pub(crate) fn fitting_import(
+// The path of [`nearest_import`].
+fn fitting_import(
     alloc: Global,
     snapshot: &Snapshot,
     path: &ImportPath,
@@ -218,6 +214,40 @@ pub(crate) fn import_with(
         }
     }
     Ok(None)
+}
+
+// The last element of a path.
+fn last_element(path: &str) -> &str {
+    match path.rsplit_once('/') {
+        Some((_, last)) => last,
+        None => path,
+    }
+}
+
+/// The path of a package that the package of a place could import, which has the last element of a spelling; where there is none, the path that is nearest to
+/// it, as by [`nearest_import`].
+///
+/// # Errors
+///
+/// `AllocError` where memory is wanting.
+pub(crate) fn import_like(
+    alloc: Global,
+    here: &Here<'_>,
+    spelled: &str,
+) -> Result<Option<Fitting>, AllocError> {
+    let listing = match list(alloc, here.snapshot, here.path()) {
+        Ok(listing) => listing,
+        Err(Rule::M0) => return Err(AllocError),
+        Err(_) => return Ok(None),
+    };
+    for entry in &listing.importable {
+        let path = entry.path().as_str();
+        if last_element(path) == last_element(spelled) {
+            let text = String::from_str(alloc, path)?;
+            return Ok(Some(Fitting { text }));
+        }
+    }
+    fitting_import(alloc, here.snapshot, here.path(), spelled)
 }
 
 // Whether the package of a path exports a name.

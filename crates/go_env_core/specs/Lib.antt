@@ -7,3 +7,4 @@ pub mod Scenes
 pub mod mirrors
 pub mod declared_core
 pub mod handle_core
+pub mod table_core

@@ -36,11 +36,6 @@ pub mod declared_core {
 /// What the crates above name of `go_handle_core`.
 pub mod handle_core {
     pub use go_declared_core::handle_core::{
-        Decl, DeclSite, Home, SignatureRef, TypeRef, TypesHere, is_identical,
+        Decl, Home, SignatureRef, TypeRef, TypesHere, is_identical,
     };
-}
-
-/// What the crates above name of `go_select_core`.
-pub mod select_core {
-    pub use go_select_core::EmbedPath;
 }

@@ -46,6 +46,8 @@ pub struct Order<'a> {
     pub module_path: Option<&'a str>,
     /// How the faults are written.
     pub style: Style,
+    /// How many threads work at once, 1 to 64; if none is told, as many as there are processors, 8 at most.
+    pub workers: Option<usize>,
 }
 
 /// What is to be run.
@@ -59,4 +61,6 @@ pub struct RunOrder<'a> {
     pub main_path: Option<&'a str>,
     /// How many steps are done at most, one for each instruction.
     pub steps: u64,
+    /// How many threads work at once, as of a check.
+    pub workers: Option<usize>,
 }

@@ -23,7 +23,7 @@ use Rattle.go_collections_core.specs.text_core.Each.{true_or_false}
 use Rattle.go_path_core.specs.Path.{elements, IsPath, IsPrefix}
 use Rattle.go_path_core.proofs.Paths.{begins_is}
 use Rattle.go_graph_core.specs.Sources.{SourceModel}
-use Rattle.go_graph_core.specs.Workspaces.{PackageModel, by_bytes, files_at, IsWorkspace, IsPackage, AreAllRead, AreReadFrom, given_files, texts_of_files, Puts, is_path_inside, packages_inside, packages_outside, put_all, replaced, Replaces}
+use Rattle.go_graph_core.specs.Workspaces.{PackageModel, by_bytes, files_at, IsWorkspace, IsReadWorkspace, IsPackage, AreAllRead, AreReadFrom, given_files, texts_of_files, Puts, is_path_inside, packages_inside, packages_outside, put_all, replaced, Replaces}
 use Rattle.go_graph_core.proofs.Contents.{placed_content}
 use Rattle.go_graph_core.proofs.Places.{IsOrdered, turned, equal_texts, same_text}
 
@@ -129,16 +129,28 @@ module _ (P : PackageModel → Type 0) where
   all_all base [] old new = old
   all_all base (p ∷ ps) old new = all_all (insert_entry by_bytes base p.0 p.1) ps (all_insert base p.0 p.1 old (All-head P p ps new)) (All-tail P p ps new)
 
-pub well_put : (ps : List PackageModel) (q : List ℕ) (v : List SourceModel) → IsWorkspace ps → IsPackage (q, v) → AreAllRead (q, v) → IsWorkspace (insert_entry by_bytes ps q v)
-well_put ps q v well h read = record { order = ordered_insert ps q v well.order; packages = all_insert IsPackage ps q v well.packages h; read = all_insert AreAllRead ps q v well.read read }
+pub well_put : (ps : List PackageModel) (q : List ℕ) (v : List SourceModel) → IsWorkspace ps → IsPackage (q, v) → IsWorkspace (insert_entry by_bytes ps q v)
+well_put ps q v well h = record { order = ordered_insert ps q v well.order; packages = all_insert IsPackage ps q v well.packages h }
 
 pub well_removed : (t : List ℕ → Bool) (ps : List PackageModel) → IsWorkspace ps → IsWorkspace (remove_entry t ps)
-well_removed t ps well = record { order = ordered_remove t ps well.order; packages = all_remove IsPackage t ps well.packages; read = all_remove AreAllRead t ps well.read }
+well_removed t ps well = record { order = ordered_remove t ps well.order; packages = all_remove IsPackage t ps well.packages }
 
 pub well_replaced : (own : List ℕ) (old from : List PackageModel) → IsWorkspace old → IsWorkspace from → IsWorkspace (replaced own old from)
 well_replaced own old from one other = record {
   order = ordered_all (packages_outside own old) (packages_inside own from) (ordered_filter _ old one.order);
   packages = all_all IsPackage (packages_outside own old) (packages_inside own from) (all_filter IsPackage _ old one.packages) (all_filter IsPackage _ from other.packages);
+}
+
+-- the same of workspaces that are read
+pub read_put : (ps : List PackageModel) (q : List ℕ) (v : List SourceModel) → IsReadWorkspace ps → IsPackage (q, v) → AreAllRead (q, v) → IsReadWorkspace (insert_entry by_bytes ps q v)
+read_put ps q v is h read = record { well = well_put ps q v is.well h; read = all_insert AreAllRead ps q v is.read read }
+
+pub read_removed : (t : List ℕ → Bool) (ps : List PackageModel) → IsReadWorkspace ps → IsReadWorkspace (remove_entry t ps)
+read_removed t ps is = record { well = well_removed t ps is.well; read = all_remove AreAllRead t ps is.read }
+
+pub read_replaced : (own : List ℕ) (old from : List PackageModel) → IsReadWorkspace old → IsReadWorkspace from → IsReadWorkspace (replaced own old from)
+read_replaced own old from one other = record {
+  well = well_replaced own old from one.well other.well;
   read = all_all AreAllRead (packages_outside own old) (packages_inside own from) (all_filter AreAllRead _ old one.read) (all_filter AreAllRead _ from other.read);
 }
 

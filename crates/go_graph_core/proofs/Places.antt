@@ -17,7 +17,7 @@ use Rattle.std.proofs.lemmas.Option.{slice_get-get_or}
 use Rattle.std.proofs.lemmas.Slice.Eq.{bytes_eq-Decides}
 use Rattle.go_graph_core.specs.mirrors.Positions.{IsPosition}
 use Rattle.go_graph_core.specs.Sources.{SourceModel}
-use Rattle.go_graph_core.specs.Workspaces.{PackageModel, by_bytes, files_at, IsWorkspace}
+use Rattle.go_graph_core.specs.Workspaces.{PackageModel, by_bytes, files_at, IsWorkspace, IsReadWorkspace}
 
 abbrev pub IsOrdered : List PackageModel → Type 0
 IsOrdered ps = IsStrictlySortedBy by_bytes (keys_of ps)
@@ -159,4 +159,7 @@ none_there (p ∷ ps) (suc i) q g =
 -- a workspace without packages
 pub no_packages : IsWorkspace []
 unfolding IsStrictlySortedBy
-no_packages = record { order = tt; packages = λ k d lt. absurd (omega arith); read = λ k d lt. absurd (omega arith) }
+no_packages = record { order = tt; packages = λ k d lt. absurd (omega arith) }
+
+pub none_read : IsReadWorkspace []
+none_read = record { well = no_packages; read = λ k d lt. absurd (omega arith) }

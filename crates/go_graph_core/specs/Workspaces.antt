@@ -39,10 +39,14 @@ pub record IsPackage (p : PackageModel) : Type 0 where
 abbrev pub AreAllRead : PackageModel → Type 0
 AreAllRead p = All IsRead p.1
 
--- the packages of a workspace: in order of path, no two of one path, and each file is read
+-- the packages of a workspace: in order of path, no two of one path
 pub record IsWorkspace (ps : List PackageModel) : Type 0 where
   pub order : IsStrictlySortedBy by_bytes (keys_of ps)
   pub packages : All IsPackage ps
+
+-- a workspace of which each file is read
+pub record IsReadWorkspace (ps : List PackageModel) : Type 0 where
+  pub well : IsWorkspace ps
   pub read : All AreAllRead ps
 
 -- the files of a path's package, if there is one

@@ -146,7 +146,7 @@ impl Drop for Workspace {
 impl Model for Workspace {
     ghost use Rattle.std.specs.Prelude.{List};
     ghost use Rattle.std.specs.Coded.{coded_list};
-    ghost use Rattle.go_graph_core.specs.Workspaces.{PackageModel, coded_package, IsWorkspace};
+    ghost use Rattle.go_graph_core.specs.Workspaces.{PackageModel, coded_package, IsReadWorkspace};
 
     ghost Value = { List PackageModel };
 
@@ -154,7 +154,7 @@ impl Model for Workspace {
 
     ghost view = { λ w. w.packages.items };
 
-    ghost invariant = { λ w. IsWorkspace w.packages.items };
+    ghost invariant = { λ w. IsReadWorkspace w.packages.items };
 }
 
 impl Workspace {
@@ -171,6 +171,7 @@ impl Workspace {
     pub fn packages(&self) -> &[PackageSource]
         ensures packages { result.now ≡ self.now }
         ensures well { IsWorkspace self.now }
+        ensures read { All AreAllRead self.now }
     {
         self.packages.as_slice()
     }

@@ -1,13 +1,21 @@
 -- What refuses an open and a build.
-use Rattle.std.specs.Prelude.{◌≡◌, ◌⊎◌, ℕ, Bool, List, Option, Some}
+use Rattle.std.specs.Prelude.{◌≡◌, ◌⊎◌, ℕ, Bool, List, [], ◌∷◌, Contains, Option, Some}
 use Rattle.go_path_core.specs.text_core.declared.rule.Rule.{Rule}
-use Rattle.go_path_core.specs.text_core.declared.rule.Rule.TheVariants.{M0, H2}
+use Rattle.go_path_core.specs.text_core.declared.rule.Rule.TheVariants.{E1, H1, H2, M0, O1, O3, O4, O5}
 use Rattle.go_hall_core.specs.sched_core.Service.{Service, empty, open_rule, submit_rule}
 use Rattle.go_hall_core.specs.sched_core.Steps.{Replay}
 use Rattle.go_hall_core.specs.sched_core.declared.event.Event.{Event}
 use Rattle.go_hall_core.specs.sched_core.declared.event.SessionId.{SessionId}
 use Rattle.go_hall_core.specs.submit_core.Trees.{TreeModel}
 use Rattle.go_hall_core.specs.Kept.{hall_rule}
+
+-- the rules by which an open is refused, want of memory among them
+abbrev pub open_rules : List Rule
+open_rules = O1 ∷ O3 ∷ O4 ∷ H1 ∷ H2 ∷ M0 ∷ []
+
+-- the rules by which a build is refused, want of memory among them
+abbrev pub build_rules : List Rule
+build_rules = O5 ∷ E1 ∷ H1 ∷ H2 ∷ M0 ∷ []
 
 -- in some state of a hall, running or stopped, to which the events in its history lead, this is the first rule that is broken
 pub record IsBrokenSomewhere (broken : Service → Option Rule) (rule : Rule) : Type 0 where
@@ -29,3 +37,8 @@ IsSubmitRefusal id tree rule = (rule ≡ M0) ⊎ IsBrokenSomewhere (λ s. submit
 -- is want of memory
 abbrev pub IsBuildRefusal : SessionId → TreeModel → Rule → Type 0
 IsBuildRefusal id tree rule = IsSubmitRefusal id tree rule ⊎ (rule ≡ H2)
+
+-- nothing but these rules refuses an open or a build
+pub record RefusalsAreListed : Type 0 where
+  pub opens : (own : List ℕ) (rule : Rule) → IsOpenRefusal own rule → Contains open_rules rule
+  pub builds : (id : SessionId) (tree : TreeModel) (rule : Rule) → IsBuildRefusal id tree rule → Contains build_rules rule

@@ -6,12 +6,14 @@ ghost use Rattle.go_session_core.specs.queries.Built.{IsBuilt};
 ghost use Rattle.go_session_core.specs.overlay.Edits.{IsEditOf, IsEditRefusal};
 ghost use Rattle.go_hall.specs.Refusals.{IsBuildRefusal};
 ghost use Rattle.go_session_core.specs.queries.Looked.{looked_with};
+ghost use Rattle.go_session_core.specs.queries.Queries.{IsCompleteAnswer, IsDefineAnswer, IsRunAnswer};
 
 use crate::hall::Hall;
 use go_hall_core::board_core::{Board, BoardReader, Sees};
 use go_hall_core::sched_core::SessionId;
 use go_hall_core::submit_core::ModuleTree;
 use go_hall_core::{Named, Submits};
+use go_machine_core::runs::Run;
 use go_package_core::package_part::Part;
 use go_path_core::text_core::Rule;
 use go_session_core::overlay::edited;
@@ -167,6 +169,62 @@ impl<'a, L: Named> Session<'a, L> {
         look.part(self.alloc, path)
     }
 
+    /// How the declaration is written of the identifier that is used at an offset of a file, in bytes from 0, with the number of batches that this covers.
+    /// It takes neither lock nor leave to wait.
+    ///
+    /// # Errors
+    ///
+    /// Those of `Look::define`, and `Rule::M0` where the board cannot be entered.
+    #[tactic(auto, using(crate::proofs::Answered::answer_on, crate::proofs::Answered::begins_told))]
+    pub fn define(&mut self, path: &str, file: &str, offset: u64) -> Result<(u64, String), Rule>
+        ensures later { BeginsWith self.new.seen self.old.seen }
+        ensures told { BeginsTold result self.new.seen self.old.told }
+        ensures same { self.new ≡ record self.old { seen = self.new.seen } }
+        ensures answer { IsAnswer self.old.draft.own path.now self.new.seen (IsDefineAnswer path.now file.now offset) result }
+    {
+        let look = self.look()?;
+        look.define(self.alloc, path, file, offset)
+    }
+
+    /// The names that may stand in the place of the identifier at an offset of a file, in bytes from 0, in byte order, with the number of batches that this
+    /// covers. It takes neither lock nor leave to wait.
+    ///
+    /// # Errors
+    ///
+    /// Those of `Look::complete`, and `Rule::M0` where the board cannot be entered.
+    #[tactic(auto, using(crate::proofs::Answered::answer_on, crate::proofs::Answered::begins_told))]
+    pub fn complete(
+        &mut self,
+        path: &str,
+        file: &str,
+        offset: u64,
+    ) -> Result<(u64, Vec<String>), Rule>
+        ensures later { BeginsWith self.new.seen self.old.seen }
+        ensures told { BeginsTold result self.new.seen self.old.told }
+        ensures same { self.new ≡ record self.old { seen = self.new.seen } }
+        ensures answer { IsAnswer self.old.draft.own path.now self.new.seen (IsCompleteAnswer path.now file.now offset) result }
+    {
+        let look = self.look()?;
+        look.complete(self.alloc, path, file, offset)
+    }
+
+    /// What the package of a path comes to in at most so many steps, one for each instruction, with the number of batches that this covers. It takes
+    /// neither lock nor leave to wait; the time is linear in the packages and in the steps.
+    ///
+    /// # Errors
+    ///
+    /// Those of `Look::run`, and `Rule::M0` where the board cannot be entered.
+    #[tactic(auto, using(crate::proofs::Answered::answer_on, crate::proofs::Answered::begins_told))]
+    pub fn run(&mut self, path: &str, steps: u64) -> Result<(u64, Run), Rule>
+        ensures later { BeginsWith self.new.seen self.old.seen }
+        ensures told { BeginsTold result self.new.seen self.old.told }
+        ensures same { self.new ≡ record self.old { seen = self.new.seen } }
+        ensures answer { IsAnswer self.old.draft.own path.now self.new.seen (IsRunAnswer path.now steps) result }
+    {
+        let look = self.look()?;
+        look.run(self.alloc, path, steps)
+    }
+
     // The faults in the module by the batch of a number, where the batches up to it leave the draft to it.
     #[tactic(auto, using(crate::proofs::Lasts::built_on))]
     fn built(&mut self, number: u64) -> Result<Built, Rule>
@@ -188,8 +246,8 @@ impl<'a, L: Named> Session<'a, L> {
     ///
     /// # Errors
     ///
-    /// What `HallState::submit` answers, `Rule::H2` where the hall is stopped meanwhile, and `Rule::M0` where memory is wanting, or its batch was given
-    /// back. The draft stays. Where memory is wanting so long that no worker can begin, the submission stays too, and may be published later.
+    /// What `HallState::submit` answers, which is `Rule::O5`, `Rule::E1`, `Rule::H1`, `Rule::H2` or `Rule::M0`; `Rule::H2` where the hall is stopped
+    /// meanwhile, and `Rule::M0` where memory is wanting, or its batch was given back. The draft stays. Where memory is wanting so long that no worker can begin, the submission stays too, and may be published later.
     pub fn build<R: Wait>(&mut self, rt: &R) -> Result<Built, Rule>
         ensures later { BeginsWith self.new.seen self.old.seen }
         ensures told { OnOk result (BeginsWith self.new.seen self.old.told) }

@@ -1,57 +1,49 @@
 //! Workers.
-ghost use Rattle.std.specs.Prelude.{◌≡◌, IfErr, IfOk, IfSome};
+ghost use Rattle.std.specs.Prelude.{◌≡◌, IfOk};
 
 use crate::hall::Hall;
 use go_batch_core::ReadPart;
 use go_hall_core::sched_core::{Action, Reply};
 use go_hall_core::{Errand, Named, Seen};
 use go_path_core::text_core::Rule;
-use std::alloc::Global;
+use std::alloc::{AllocError, Global};
 use std::sync::{CondvarTimeouts, Wait};
 use std::thread::Threads;
 use std::time::{Clock, Duration};
 
-/// Does an action's work, with no lock held. It is not asked of an action that was finished by its earlier part.
+/// Lets actions be done, with no lock held. It is not asked of an action that was finished by its earlier part.
 pub trait Gate {
-    /// A part of the action's input, made over what the worker sees, or `None` where the gate is closed.
-    ///
-    /// # Errors
-    ///
-    /// `Rule::M0` where memory is wanting.
-    fn part<L: Named, R: Threads + Sync>(
-        &self,
-        rt: &R,
-        alloc: Global,
-        errand: &Errand<L>,
-        seen: &mut Seen<L>,
-    ) -> Result<Option<ReadPart>, Rule>
-        ensures ok { IfOk result (λ o. IfSome o (λ p. p.input ≡ errand.now.action.input)) }
-        ensures err { IfErr result (λ rule. rule ≡ Rule.M0) };
+    /// Whether the work of an action may be done: not where the gate is closed.
+    fn lets(&self, action: &Action) -> bool;
 }
 
-/// A gate that is never closed. Where the package was published with the same input, its part is the one of then; else it is compiled. Inputs that seem to
-/// be others are not compared.
+/// A gate that is never closed.
 #[derive(Clone, Copy)]
 pub struct OpenGate;
 
 impl Gate for OpenGate {
-    fn part<L: Named, R: Threads + Sync>(
-        &self,
-        _rt: &R,
-        alloc: Global,
-        errand: &Errand<L>,
-        seen: &mut Seen<L>,
-    ) -> Result<Option<ReadPart>, Rule> {
-        let earlier = if errand.action.other {
-            None
-        } else {
-            errand.action.earlier.as_ref()
-        };
-        match seen.rebuild(alloc, errand, earlier) {
-            Ok(part) => Ok(Some(part)),
-            Err(_) => Err(Rule::M0),
-        }
+    fn lets(&self, _action: &Action) -> bool {
+        true
     }
+}
+
+// Does an action's work, with no lock held. Where the package was published with the same input, its part is the one of then; else it is compiled over what
+// the worker sees, its files in pieces of source at once. Inputs that seem to be others are not compared.
+fn part_of<L: Named, R: Threads + Sync>(
+    rt: &R,
+    alloc: Global,
+    errand: &Errand<L>,
+    seen: &mut Seen<L>,
+) -> Result<ReadPart, AllocError>
+    ensures { IfOk result (λ p. p.input ≡ errand.now.action.input) }
+{
+    let earlier = if errand.action.other {
+        None
+    } else {
+        errand.action.earlier.as_ref()
+    };
+    let part = seen.rebuild(rt, alloc, errand, earlier)?;
+    Ok(part)
 }
 
 /// How a worker ends.
@@ -150,15 +142,15 @@ pub fn work<L: Named, G: Gate, R: Threads + Wait + Clock + Sync>(
         let Some(errand) = next(rt, hall) else {
             return WorkEnd::Stopped;
         };
-        match gate.part(rt, hall.alloc, &errand, &mut seen) {
-            Ok(Some(part)) => {
+        if !gate.lets(&errand.action) {
+            give_back(rt, hall, &errand.action);
+            return WorkEnd::GateClosed;
+        }
+        match part_of(rt, hall.alloc, &errand, &mut seen) {
+            Ok(part) => {
                 if finish(rt, hall, &errand, part) {
                     seen.forget();
                 }
-            }
-            Ok(None) => {
-                give_back(rt, hall, &errand.action);
-                return WorkEnd::GateClosed;
             }
             Err(_) => give_back(rt, hall, &errand.action),
         }

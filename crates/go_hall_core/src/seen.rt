@@ -10,6 +10,7 @@ use go_sched_core::Action;
 use go_sched_core::batch_core::{ReadPart, Rebuilt, Sight, earlier_of};
 use std::alloc::{AllocError, Global};
 use std::marker::Model;
+use std::thread::Threads;
 
 // What is seen of packages by actions of a generation, which a seal shows. Contracts see all three.
 struct Gathered<L: Named> {
@@ -127,14 +128,15 @@ impl<L: Named> Seen<L> {
         self.kept = None;
     }
 
-    /// A part of an errand's input: an earlier one, shared, where that was made of the same input, else one that is compiled over what is seen. Where
-    /// memory is wanting nothing is seen any more.
+    /// A part of an errand's input: an earlier one, shared, where that was made of the same input, else one that is compiled over what is seen, its files in
+    /// pieces of source at once. Where memory is wanting nothing is seen any more.
     ///
     /// # Errors
     ///
-    /// `AllocError` where memory is wanting.
-    pub fn rebuild(
+    /// `AllocError` where memory is wanting, or a thread.
+    pub fn rebuild<R: Threads + Sync>(
         &mut self,
+        rt: &R,
         alloc: Global,
         errand: &Errand<L>,
         earlier: Option<&ReadPart>,
@@ -147,7 +149,7 @@ impl<L: Named> Seen<L> {
         }
         let generation = action.generation;
         let sight = sight_for(alloc, self.kept.take(), generation, &errand.known)?;
-        let rebuilt = Rebuilt::over(alloc, &action.input, sight)?;
+        let rebuilt = Rebuilt::over(rt, alloc, &action.input, sight)?;
         let Rebuilt { part, sight } = rebuilt;
         self.kept = kept_after(generation, &errand.known, sight);
         Ok(part)

@@ -7,7 +7,7 @@ use Rattle.std.proofs.lemmas.Option.{get_or_from_slice_get, slice_get_within}
 use Rattle.go_path_core.specs.text_core.Each.{true_or_false}
 use Rattle.go_term_core.proofs.Members.{In, contained_in, in_at, in_contained}
 use Rattle.go_graph_core.specs.Sources.{SourceModel}
-use Rattle.go_graph_core.specs.Workspaces.{PackageModel, files_at, is_path_inside}
+use Rattle.go_graph_core.specs.Workspaces.{IsWorkspace, PackageModel, files_at, is_path_inside}
 use Rattle.go_submit_core.specs.Laws.{AreWorkspaces, BatchesReplace, LastTrees, LiesInNoOther, last_files, submissions_of}
 use Rattle.go_submit_core.specs.Published.{sources_of}
 use Rattle.go_submit_core.specs.declared.published.PublishedBatch.{PublishedBatch}
@@ -18,7 +18,7 @@ use Rattle.go_sched_core.specs.Steps.{Run}
 use Rattle.go_sched_core.specs.declared.event.Event.{Event}
 use Rattle.go_sched_core.specs.declared.event.Reply.{Reply}
 use Rattle.go_headline_laws.specs.separation.Laws.{AreHandedIn, OwnPaths, PublishedTrees, SubmissionsAreOwn, TreesAreWell}
-use Rattle.go_headline_laws.proofs.SeparationTrees.{batch_well, of_batch}
+use Rattle.go_headline_laws.proofs.SeparationTrees.{batch_all, of_batch}
 use Rattle.go_headline_laws.specs.Headline.{ChangesOwnAlone, Leaves}
 
 -- where no tree is of a module in which the path lies, no files of it are put
@@ -43,7 +43,7 @@ module _ (replace : BatchesReplace) (trees : LastTrees) (t : Service) (well : Ar
   leaves path none =
       ap (λ (bs : List PublishedBatch). files_at (sources_of bs) path) (front t.published k b at)
       ∙ (ap (λ (ps : List PackageModel). files_at ps path) (replace before b)
-      ∙ (trees (sources_of before) b.submissions path (batch_well t.published b (batch_in t.published k b at) well) ∙ none_put (files_at (sources_of before) path) b.submissions path none))
+      ∙ (trees (sources_of before) b.submissions path (batch_all (λ (x : Submission). IsWorkspace x.tree.packages) t.published b (batch_in t.published k b at) well) ∙ none_put (files_at (sources_of before) path) b.submissions path none))
 
   others : (own path : List ℕ) → LiesInNoOther own path (submissions_of t.published) → All (λ (x : Submission). x.tree.own ≡ own → ⊥) b.submissions → Leaves t k path
   others own path lies none = leaves path (λ i d lt.

@@ -9,3 +9,9 @@ mod SeparationLists
 mod SeparationSounds
 mod SeparationTaken
 pub mod SeparationTrees
+pub mod SessionsBoards
+mod SessionsIdentifiers
+mod SessionsImports
+mod SessionsJoining
+mod SessionsPackages
+mod SessionsRuns

@@ -35,4 +35,4 @@ order_does_not_count sound well one es fs rs qs t u fit x y j k b c at there sam
     let ps : List PackageModel = sources_of (take (j + 1) t.published) in
     let equal : sources_of (take (k + 1) u.published) ≡ ps = sources_built (take (k + 1) u.published) ∙ (ap (put_trees []) (sym same) ∙ sym (sources_built (take (j + 1) t.published))) in
     let other : IsOneWorker ps c.snapshot = subst (λ (qs : List PackageModel). IsOneWorker qs c.snapshot) equal ((sound fs qs u y).each k c there) in
-    one ps b.snapshot c.snapshot (well es rs t fit x (j + 1)) ((sound es rs t x).each j b at) other
+    one ps b.snapshot c.snapshot (well es rs t fit x (j + 1)).well ((sound es rs t x).each j b at) other

@@ -16,6 +16,7 @@ use Rattle.go_query_core.specs.Documenting.{IsImportRefused}
 use Rattle.go_query_core.specs.Entries.{EntryOf}
 use Rattle.go_query_core.specs.Listing.{IsEntryOf, IsListing}
 use Rattle.go_query_core.specs.Parts.{IsPartOf}
+use Rattle.go_completion_laws.specs.Completing.{CompletesExactly}
 use Rattle.go_headline_laws.specs.Headline.{ListsExactly, RefusesExactly, ShowsWhatResolves}
 
 module _ (judged : AddedImportsAreJudged) (ps : List PackageModel) (s : SnapshotModel) (well : IsWorkspace ps) (same : s.sources ≡ ps) where
@@ -36,7 +37,7 @@ module _ (judged : AddedImportsAreJudged) (ps : List PackageModel) (s : Snapshot
         let e = l.each n (subst (λ (qs : List PackageModel). IsImportable qs l.number n) (sym same) i) in
         (e.0, e.1, ap (λ (x : EntryOf). x.number) e.2.2)
 
-  lists : ListsExactly ps s
+  pub lists : ListsExactly ps s
   lists from own importable l n path files numbered more h =
       ((λ e. listed_comes from own importable l n path files numbered more h e.0 e.1 e.2), (λ o. comes_listed from own importable l n path files numbered more h o))
 
@@ -58,5 +59,5 @@ module _ (judged : AddedImportsAreJudged) (ps : List PackageModel) (s : Snapshot
   refuses from path rule number importer own other more h =
       ((λ r. refused_breaks from path rule number importer own other more h r), (λ o. breaks_refused from path rule number importer own other more h o))
 
-  pub shows : ShowsWhatResolves ps s
-  shows = record { lists = lists; refuses = refuses }
+  pub shows : CompletesExactly ps s → ShowsWhatResolves ps s
+  shows completes = record { completes = completes; lists = lists; refuses = refuses }

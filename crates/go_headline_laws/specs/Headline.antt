@@ -34,6 +34,7 @@ use Rattle.go_sched_core.specs.declared.event.Reply.{Reply}
 use Rattle.go_sched_core.specs.declared.event.Reply.TheVariants.{Submitted}
 use Rattle.go_sched_core.specs.declared.event.SessionId.{SessionId}
 use Rattle.go_workspace_laws.specs.AnswerLaws.{IsOccurrenceAt, IsUseOfOccurrence}
+use Rattle.go_completion_laws.specs.Completing.{CompletesExactly}
 use Rattle.go_headline_laws.specs.separation.Laws.{AreHandedIn}
 
 -- ---- 1. each import, name, selector, key and call has one answer
@@ -51,7 +52,7 @@ pub record HasAnswers (ps : List PackageModel) (s : SnapshotModel) : Type 0 wher
   pub exactly : (path name : List ℕ) (n : ℕ) (u : FileUse) → IsAnswerAt ps s.parts path name n u ↔ RulesGive ps path name n u
   pub once : (path name : List ℕ) (n : ℕ) (u v : FileUse) → RulesGive ps path name n u → RulesGive ps path name n v → u ≡ v
 
--- ---- 2. what is listed and documented is what would resolve
+-- ---- 2. what is listed, documented and completed is what would resolve
 
 -- the packages that are listed are those to which an import of their path would come, were it added
 abbrev pub ListsExactly : List PackageModel → SnapshotModel → Type 0
@@ -65,7 +66,9 @@ RefusesExactly ps s =
     (from path : List ℕ) (rule : Rule) (number : ℕ) (importer : PartModel) → IsPartOf s from number importer → path ≢ from
     → (more : List PackageModel) (h : AddsImport ps number path more) → IsImportRefused s from path rule ↔ IsOutcome more (added_at number h.files) (come.Refused rule)
 
+-- all of it. Of completion: the names that complete an identifier are exactly those that have a declaration once they stand in its place
 pub record ShowsWhatResolves (ps : List PackageModel) (s : SnapshotModel) : Type 0 where
+  pub completes : CompletesExactly ps s
   pub lists : ListsExactly ps s
   pub refuses : RefusesExactly ps s
 
@@ -108,9 +111,9 @@ OrderDoesNotCount =
 -- ---- the headline
 
 -- after any list of what sessions send and workers do, in every published snapshot each import, name, selector, key and call has exactly the declaration
--- that the written rules give it, or the number of the rule it breaks; `list` shows exactly the packages that an import could name, and `doc` of another
--- package is refused by exactly the rule that an import of it would break; an edit changes its session's module alone; every answer is the one that one
--- worker gives
+-- that the written rules give it, or the number of the rule it breaks; `list` shows exactly the packages that an import could name, `complete` exactly
+-- the names that have a declaration once they are put there, and `doc` of another package is refused by exactly the rule that an import of it would break;
+-- an edit changes its session's module alone; every answer is the one that one worker gives
 --
 -- That each submitted tree is a workspace (`AreHandedIn`) every list of events fulfils that a caller can have: `are_handed_in` of `go_headline_laws::separation`.
 pub record Headline : Type 0 where

@@ -1,2 +1,3 @@
 pub mod Headline
+pub mod SessionHeadline
 pub mod separation

@@ -1,7 +1,7 @@
 //! What is said of imports.
 
 use crate::clauses::{clause_name, has_other_name};
-use crate::common::last_element;
+use crate::common::{common_path, last_element};
 use crate::local::{is_declared, locals_of};
 use go_diagnostic_core::{
     Here, Message, Words, add_near_import, package_at, place_here, place_text, shown,
@@ -131,6 +131,18 @@ fn is_below(path: &str, module: &str) -> bool {
     }
 }
 
+// The path that the paths of all packages of the workspace begin with.
+fn shared_path<'s>(here: &Here<'s>) -> &'s str {
+    let packages = here.snapshot.sources().packages();
+    let Some(first) = packages.first() else {
+        return "";
+    };
+    match packages.last() {
+        Some(last) => common_path(first.path().as_str(), last.path().as_str()),
+        None => "",
+    }
+}
+
 // An import of no package of the workspace.
 fn no_package(
     alloc: Global,
@@ -138,7 +150,7 @@ fn no_package(
     written: &str,
     path: &str,
 ) -> Result<Message, AllocError> {
-    if is_below(path, here.module) {
+    if is_below(path, here.module) || is_below(path, shared_path(here)) {
         return no_folder(alloc, here, written, path);
     }
     if !first_element(path).contains('.') {

@@ -42,12 +42,12 @@ abbrev pub flat : {X : Type 0} → List (Names X) → Names X
 flat [] = []
 flat (b ∷ bs) = b ++ flat bs
 
-innermost_push : {X : Type 0} (bs : List (List (List ℕ × X))) (b : List (List ℕ × X)) → innermost (bs ++ b ∷ []) ≡ b
+pub innermost_push : {X : Type 0} (bs : List (List (List ℕ × X))) (b : List (List ℕ × X)) → innermost (bs ++ b ∷ []) ≡ b
 innermost_push [] b = refl
 innermost_push (x ∷ []) b = refl
 innermost_push (x ∷ y ∷ bs) b = innermost_push (y ∷ bs) b
 
-with_innermost_push : {X : Type 0} (bs : List (List (List ℕ × X))) (b new : List (List ℕ × X)) → with_innermost (bs ++ b ∷ []) new ≡ bs ++ new ∷ []
+pub with_innermost_push : {X : Type 0} (bs : List (List (List ℕ × X))) (b new : List (List ℕ × X)) → with_innermost (bs ++ b ∷ []) new ≡ bs ++ new ∷ []
 with_innermost_push [] b new = refl
 with_innermost_push (x ∷ []) b new = refl
 with_innermost_push (x ∷ y ∷ bs) b new = ap (λ l. x ∷ l) (with_innermost_push (y ∷ bs) b new)
@@ -116,19 +116,19 @@ module _ {X : Type 0} where
   slice_get_last : (xs : List X) (x : X) → slice_get (xs ++ x ∷ []) (length xs) ≡ Some x
   slice_get_last xs x = slice_get-get_or (xs ++ x ∷ []) (length xs) x (subst (λ n. length xs < n) (sym (length-append xs (x ∷ []))) (omega arith)) ∙ ap Some (get_or_push xs x x (length xs) refl)
 
-  shows_more : (ms more : List X) (b : List (List ℕ × DeclId)) (c : Names X) → Shows ms b c → Shows (ms ++ more) b c
+  pub shows_more : (ms more : List X) (b : List (List ℕ × DeclId)) (c : Names X) → Shows ms b c → Shows (ms ++ more) b c
   shows_more ms more [] [] h = tt
   shows_more ms more [] (c ∷ cs) h = h
   shows_more ms more (b ∷ bs) [] h = h
   shows_more ms more (b ∷ bs) (c ∷ cs) h = (h.0, slice_get_front ms more b.1.0 c.1 h.1, shows_more ms more bs cs h.2)
 
-  show_all_more : (ms more : List X) (bs : Blocks) (cs : List (Names X)) → ShowAll ms bs cs → ShowAll (ms ++ more) bs cs
+  pub show_all_more : (ms more : List X) (bs : Blocks) (cs : List (Names X)) → ShowAll ms bs cs → ShowAll (ms ++ more) bs cs
   show_all_more ms more [] [] h = tt
   show_all_more ms more [] (c ∷ cs) h = h
   show_all_more ms more (b ∷ bs) [] h = h
   show_all_more ms more (b ∷ bs) (c ∷ cs) h = (shows_more ms more b c h.0, show_all_more ms more bs cs h.1)
 
-  show_all_push : (ms : List X) (bs : Blocks) (cs : List (Names X)) (b : List (List ℕ × DeclId)) (c : Names X) → ShowAll ms bs cs → Shows ms b c → ShowAll ms (bs ++ b ∷ []) (cs ++ c ∷ [])
+  pub show_all_push : (ms : List X) (bs : Blocks) (cs : List (Names X)) (b : List (List ℕ × DeclId)) (c : Names X) → ShowAll ms bs cs → Shows ms b c → ShowAll ms (bs ++ b ∷ []) (cs ++ c ∷ [])
   show_all_push ms [] [] b c h k = (k, tt)
   show_all_push ms [] (y ∷ cs) b c h k = absurd h
   show_all_push ms (x ∷ bs) [] b c h k = absurd h
@@ -167,7 +167,7 @@ module _ {X : Type 0} where
   some_same : (ms : List X) (b : List (List ℕ × DeclId)) (c : Names X) → Shows ms b c → (n : List ℕ) → is_some (in_block b n) ≡ is_some (in_block c n)
   some_same ms b c h n = agree_some ms (in_block b n) (in_block c n) (in_shown ms b c h n)
 
-  shorts_same : (ms : List X) (b : List (List ℕ × DeclId)) (c : Names X) → Shows ms b c → (names seen : List (List ℕ)) → short_names_behind b seen names ≡ short_names_behind c seen names
+  pub shorts_same : (ms : List X) (b : List (List ℕ × DeclId)) (c : Names X) → Shows ms b c → (names seen : List (List ℕ)) → short_names_behind b seen names ≡ short_names_behind c seen names
   shorts_same ms b c h [] seen = refl
   shorts_same ms b c h (n ∷ names) seen =
       ap (λ s. (if open_blocks.is_repeated seen n then Repeated else (if is_blank n then Blank else (if s then Old else New))) ∷ short_names_behind b (seen ++ n ∷ []) names) (some_same ms b c h n)
@@ -197,19 +197,19 @@ module _ {X : Type 0} where
       by false true e = h
       by false false e = distinct_push c (n, m) e h
 
-  distinct_names : (means : ℕ → X) (xs : List Ident) (c : Names X) (n : ℕ) → Distinct c → Distinct (block_after c (meant means n xs))
+  pub distinct_names : (means : ℕ → X) (xs : List Ident) (c : Names X) (n : ℕ) → Distinct c → Distinct (block_after c (meant means n xs))
   distinct_names means [] c n h = h
   distinct_names means (x ∷ xs) c n h = distinct_names means xs (block_after c ((x.name, means n) ∷ [])) (suc n) (distinct_after c x.name (means n) h)
 
-each_push : {X : Type 0} (P : Names X → Type 0) (bs : List (Names X)) (b : Names X) → EachBlock P bs → P b → EachBlock P (bs ++ b ∷ [])
+pub each_push : {X : Type 0} (P : Names X → Type 0) (bs : List (Names X)) (b : Names X) → EachBlock P bs → P b → EachBlock P (bs ++ b ∷ [])
 each_push P [] b h k = (k, tt)
 each_push P (x ∷ bs) b h k = (h.0, each_push P bs b h.1 k)
 
-flat_push : {X : Type 0} (bs : List (Names X)) (b : Names X) → flat (bs ++ b ∷ []) ≡ flat bs ++ b
+pub flat_push : {X : Type 0} (bs : List (Names X)) (b : Names X) → flat (bs ++ b ∷ []) ≡ flat bs ++ b
 flat_push [] b = append-nil b
 flat_push (x ∷ bs) b = ap (λ l. x ++ l) (flat_push bs b) ∙ sym (append_assoc x (flat bs) b)
 
-all_alike : {X : Type 0} (look other : NameLook X) → ((n : List ℕ) (p : ℕ) → look n p ≡ other n p) → (ts : List Terminal) → Alike look other ts
+pub all_alike : {X : Type 0} (look other : NameLook X) → ((n : List ℕ) (p : ℕ) → look n p ≡ other n p) → (ts : List Terminal) → Alike look other ts
 all_alike look other h [] = tt
 all_alike look other h (t ∷ ts) = (by t.kind, all_alike look other h ts)
   where
@@ -242,14 +242,14 @@ module _ (X N : Type 0) (rules : Rules X N) (at_names : LookAtNames X N rules) (
   agrees_means ms (Some d) None o h = absurd h
   agrees_means ms (Some d) (Some x) o h = h
 
-  looks_same : (ms : List X) (bs : Blocks) (b : List (List ℕ × DeclId)) (cs : List (Names X)) (c : Names X) → ShowAll ms bs cs → Shows ms b c → EachBlock Distinct cs → Distinct c → (n : List ℕ) (p : ℕ) → look_at outside (at (bs ++ b ∷ []) ms) n p ≡ look_in beyond (flat cs ++ c) n p
+  pub looks_same : (ms : List X) (bs : Blocks) (b : List (List ℕ × DeclId)) (cs : List (Names X)) (c : Names X) → ShowAll ms bs cs → Shows ms b c → EachBlock Distinct cs → Distinct c → (n : List ℕ) (p : ℕ) → look_at outside (at (bs ++ b ∷ []) ms) n p ≡ look_in beyond (flat cs ++ c) n p
   looks_same ms bs b cs c h k each first n p =
       scope_means outside ms around file (bs ++ b ∷ []) n
       ∙ (agrees_means ms (found_in (bs ++ b ∷ []) n) (found_in (cs ++ c ∷ []) n) (beyond n) (found_shown ms (bs ++ b ∷ []) (cs ++ c ∷ []) (show_all_push ms bs cs b c h k) n)
       ∙ ap (λ o. or_else o (beyond n)) (found_latest (cs ++ c ∷ []) (each_push Distinct cs c each first) n ∙ ap (λ l. latest l n) (flat_push cs c)))
 
   -- names are declared in the innermost block
-  declares_same : (means : ℕ → X) (xs : List Ident) (n : ℕ) (ms : List X) (bs : Blocks) (b : List (List ℕ × DeclId)) (c : Names X) → Shows ms b c
+  pub declares_same : (means : ℕ → X) (xs : List Ident) (n : ℕ) (ms : List X) (bs : Blocks) (b : List (List ℕ × DeclId)) (c : Names X) → Shows ms b c
       → (b' : List (List ℕ × DeclId)) × (locals_declared (at (bs ++ b ∷ []) ms) xs (each_means means n xs) ≡ at (bs ++ b' ∷ []) (ms ++ each_means means n xs)) × Shows (ms ++ each_means means n xs) b' (block_after c (meant means n xs))
   declares_same means [] n ms bs b c h = (b, ap (at (bs ++ b ∷ [])) (sym (append-nil ms)), shows_more ms [] b c h)
   declares_same means (x ∷ xs) n ms bs b c h =

@@ -73,10 +73,11 @@ fn news(alloc: Global, shorts: &[ShortName]) -> Result<Vec<bool>, AllocError>
 
 /// Names that are about to be declared: what each of them is in its block, and which of them are new there.
 #[derive(Drop)]
-pub(crate) struct NewNames<'n> {
+pub struct NewNames<'n> {
     idents: Vec<&'n Ident>,
     shorts: Vec<ShortName>,
-    pub(crate) firsts: Vec<bool>,
+    /// Which of them are new in their block, in order.
+    pub firsts: Vec<bool>,
 }
 
 // Names that are about to be declared in the innermost block of a scope.
@@ -97,7 +98,11 @@ fn new_names<'n>(
 }
 
 /// The names of a specification or a short declaration, about to be declared in the innermost block of a scope.
-pub(crate) fn names_of<'n>(
+///
+/// # Errors
+///
+/// [`AllocError`] where memory is wanting.
+pub fn names_of<'n>(
     alloc: Global,
     scopes: &Scopes,
     names: &'n Idents,
@@ -108,7 +113,11 @@ pub(crate) fn names_of<'n>(
 }
 
 /// The names of a function's receiver, parameters and results, about to be declared in the innermost block of a scope.
-pub(crate) fn names_of_header<'n>(
+///
+/// # Errors
+///
+/// [`AllocError`] where memory is wanting.
+pub fn names_of_header<'n>(
     alloc: Global,
     scopes: &Scopes,
     func: &'n FuncDecl,
@@ -236,7 +245,11 @@ fn declare_locals<M: Meant + Drop>(
 
 /// Declares names in the innermost block with what they mean, those that are new there, and adds the faults of the others: of names before
 /// `:=`, or of others.
-pub(crate) fn declare<M: Meant + Drop>(
+///
+/// # Errors
+///
+/// [`AllocError`] where memory is wanting. Some of the names may be declared then.
+pub fn declare<M: Meant + Drop>(
     scopes: &mut Scopes,
     locals: &mut Vec<M>,
     faults: &mut Vec<Fault>,

@@ -13,6 +13,7 @@ mod meaning;
 mod walker;
 
 pub use checker::Checker;
+pub use declaring::{NewNames, declare, names_of, names_of_header};
 pub use function::{Checked, check_function};
 pub use idents::{header_idents, listed_idents, signature_idents};
 pub use laws::{open_names_are_bound, uses_are_occurrences, worked_names};
@@ -29,7 +30,6 @@ pub mod block_core {
 /// What the crates above name of `go_local_core`.
 pub mod local_core {
     pub use go_local_core::Fault;
-    pub use go_local_core::walks::{Panics, are_terminating, lines_loop_faults};
 }
 
 /// What the crates above name of `go_scope_core`.

@@ -1,3 +1,6 @@
+pub mod Answering
+pub mod Corresponding
+pub mod Crossing
 mod Funcs
 pub mod Meanings
 pub mod Numbered

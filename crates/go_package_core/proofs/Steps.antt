@@ -39,11 +39,10 @@ use Rattle.go_report_core.specs.answer.Outer.{outer_faults}
 use Rattle.go_package_core.specs.prepare.Inlines as inside
 use Rattle.go_package_core.specs.prepare.Inlines.{AreFunctionsIn, initial_in, outline_funcs, types_stand}
 use Rattle.go_package_core.specs.prepare.Packages.{PackageIn, outlines_in, scene_in, shows_in, stand_in}
-use Rattle.go_package_core.proofs.PrepareLists.{zip_both}
 use Rattle.go_package_core.proofs.PrepareValues.{held_there}
 use Rattle.go_package_core.specs.Checked.{AnswersOf, IsFileChecked, all_faults, decls_before, imports_at, stand_at}
 use Rattle.go_package_core.proofs.Funcs.{funcs_all}
-use Rattle.go_package_core.proofs.Numbered.{front_within, numbered_at, numbered_more, take_map, zip_read}
+use Rattle.go_package_core.proofs.Numbered.{front_within, numbered_at, take_map, zip_read}
 
 -- there are no more trees than files
 pub trees_within : (ss : List SourceModel) → length (trees_of ss) ≤ length ss
@@ -139,15 +138,3 @@ before_more os n first count o lt is counted before =
 
 pub before_within : (os : List Outline) (n : ℕ) → length (package_decls (map outline_shown (take n os))) ≤ length (package_decls (map outline_shown os))
 before_within os n = front_within decls_of_file outline_shown 0 os n
-
-shown_push : {V W : Type 0} (show : V → W) (vs : List V) (v : V) → map show (vs ++ v ∷ []) ≡ map show vs ++ show v ∷ []
-shown_push show [] v = refl
-shown_push show (w ∷ vs) v = ap (λ l. show w ∷ l) (shown_push show vs v)
-
--- one file more
-pub files_more : {V : Type 0} (R : ℕ × FileTree → AnswersOf → Type 0) (show : V → AnswersOf) (fs : List FileTree) (n : ℕ) (f : FileTree) (old new : List V) (v : V) → slice_get fs n ≡ Some f → new ≡ old ++ v ∷ [] → R (n, f) (show v)
-    → AllZip R (enumerate_from 0 (take n fs)) (map show old) → AllZip R (enumerate_from 0 (take (n + 1) fs)) (map show new)
-files_more R show fs n f old new v at added one before =
-    subst (λ l. AllZip R l (map show new)) (sym (numbered_more fs n f at))
-    (subst (λ l. AllZip R (enumerate_from 0 (take n fs) ++ (n, f) ∷ []) l) (sym (ap (map show) added ∙ shown_push show old v))
-    (zip_both R (enumerate_from 0 (take n fs)) ((n, f) ∷ []) (map show old) (show v ∷ []) before (one, tt)))

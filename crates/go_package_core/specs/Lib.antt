@@ -1,5 +1,6 @@
 pub mod Checked
 pub mod Laws
+pub mod Tasks
 pub mod mirrors
 pub mod prepare
 pub mod package_part

@@ -4,6 +4,7 @@
 //! The Go specification, "Packages", "Declarations and scope", "Types", "Package initialization".
 #![tactic(auto)]
 
+mod at_once;
 mod checked;
 mod files;
 mod laws;
@@ -11,8 +12,11 @@ mod locals;
 mod package;
 pub mod package_part;
 pub mod prepare;
+mod split;
+mod tasks;
 
 pub use crate::prepare::PackageAt;
+pub use at_once::check_package_at_once;
 pub use checked::{CheckedPackage, FileAnswers};
 pub use laws::{one_check, package_has_occurrences};
 pub use package::check_package;

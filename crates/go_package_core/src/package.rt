@@ -33,8 +33,8 @@ use go_value_core::through_itself;
 use std::alloc::{AllocError, Global};
 use std::marker::Brand;
 
-// What is known of a package where its expressions are judged.
-fn scene_of<'p>(
+/// What is known of a package where its expressions are judged.
+pub(crate) fn scene_of<'p>(
     home: &'p Home,
     blocks: &'p Blocks,
     types: &'p TypeTable,
@@ -52,8 +52,12 @@ fn scene_of<'p>(
     }
 }
 
-// What the declarations of a package are, by the types that were made of its initialisers.
-fn declare<'p>(
+/// What the declarations of a package are, by the types that were made of its initialisers.
+///
+/// # Errors
+///
+/// `AllocError` where memory is wanting.
+pub(crate) fn declare<'p>(
     alloc: Global,
     scene: &Scene<'p>,
     initial: &'p [InlineTypes],

@@ -3,6 +3,7 @@
 //!
 //! The Go specification, "Packages", "Import declarations".
 
+mod at_once;
 mod content;
 mod files;
 mod input;
@@ -12,6 +13,7 @@ mod parts;
 mod same;
 mod shared;
 
+pub use crate::package_part::at_once::compile_over_at_once;
 pub use crate::package_part::content::{PackageContent, compile_over};
 pub use crate::package_part::files::PartFile;
 pub use crate::package_part::input::PartInput;

@@ -94,4 +94,4 @@ module _ (ws : List PackageModel) (all : List (Option PartModel)) where
   package_there k (q ∷ ps) (part ∷ parts) (suc n) p h e = inr (package_there (suc k) ps parts n p h.1 e)
 
 pub parts_are_read : PartsAreRead
-parts_are_read ps parts well right n p there = has_of_all AreAllRead ps p.input.source well.read (package_there ps parts 0 ps parts n p right there)
+parts_are_read ps parts as_read right n p there = has_of_all AreAllRead ps p.input.source as_read.read (package_there ps parts 0 ps parts n p right there)

@@ -58,9 +58,9 @@ tree_read (s ∷ ss) h t k = by s.name s.text s.content h.0 (tree_read ss h.1 t)
     by name text (Err e) one rest k = rest k
 
 pub integers_given : TextsHaveValues → PiecesHaveValues → PartsAreRead → IntegersAreGiven
-integers_given texts pieces read ws parts well made p h n t f g all func =
+integers_given texts pieces read ws parts as_read made p h n t f g all func =
     let r = numbered_in parts p (among_from (somes parts) p h) in
-    let all_read : AreAllRead p.input.source = read ws parts well made r.number p r.there in
+    let all_read : AreAllRead p.input.source = read ws parts as_read made r.number p r.there in
     let text = tree_read p.input.source.1 (recursion_from_All IsRead p.input.source.1 all_read) t (has_get (trees_in p.input.source) n t func.tree) in
     let looks = code_names_of p.input p.content n f g in
     let values : HaveValues looks (spell_func g) = λ k span at.
@@ -76,9 +76,9 @@ constants_served fit keep tell ws parts well made p h n t f g all func =
     keep p.input p.content (fit ws parts well made r.number p r.there).part placed (tell ws parts well made r.number p r.there) n t func.tree g func.func all func.right
 
 pub functions_served : IntegersAreGiven → ConstantsAreServed → NamesAreRead → FunctionsAreServed
-functions_served integers constants names ws parts well made program callees p h n t f g all func calls = record {
+functions_served integers constants names ws parts as_read made program callees p h n t f g all func calls = record {
   calls = calls;
-  methods = names ws parts well made p h n t f g all func;
-  constants = constants ws parts well made p h n t f g all func;
-  integers = integers ws parts well made p h n t f g all func;
+  methods = names ws parts as_read.well made p h n t f g all func;
+  constants = constants ws parts as_read.well made p h n t f g all func;
+  integers = integers ws parts as_read made p h n t f g all func;
 }

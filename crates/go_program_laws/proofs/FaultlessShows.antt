@@ -495,7 +495,7 @@ module _ (local : CheckIsLocal) (bind : ImportsBindTheirs) (ps : List PackageMod
     }
 
 pub parts_show : CheckIsLocal → ImportsBindTheirs → PartsAreRead → PartsShowTheirTypes
-parts_show local bind read ps parts well made p h =
+parts_show local bind read ps parts as_read made p h =
     let r = numbered_in parts p (among_from (somes parts) p h) in
-    let plan = has_plan ps well in
-    shows local bind ps parts well (all_right ps parts made) plan.0 plan.1 (λ n part there. all_keep_rules part.input.source.1 (read ps parts well made n part there)) r.number p r.there
+    let plan = has_plan ps as_read.well in
+    shows local bind ps parts as_read.well (all_right ps parts made) plan.0 plan.1 (λ n part there. all_keep_rules part.input.source.1 (read ps parts as_read made n part there)) r.number p r.there

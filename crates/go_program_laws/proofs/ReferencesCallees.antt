@@ -13,7 +13,7 @@ use Rattle.go_body_core.specs.file.Stands.{file_funcs}
 use Rattle.go_body_core.specs.function.Functions.{walked_func}
 use Rattle.go_body_core.specs.function.Laws.{FunctionsHaveOneTable}
 use Rattle.go_emit_core.specs.package_core.PreparePackages.{trees_in}
-use Rattle.go_graph_core.specs.Workspaces.{IsWorkspace, PackageModel}
+use Rattle.go_graph_core.specs.Workspaces.{IsReadWorkspace, PackageModel}
 use Rattle.go_emit_core.specs.package_core.PackagePartParts.{PartModel}
 use Rattle.go_emit_core.specs.package_core.PackagePartSlots.{somes}
 use Rattle.go_snap_core.specs.whole_workspace.Inputs.{AreParts}
@@ -45,12 +45,12 @@ pub are_placed : DeclarationsArePlaced
 are_placed path d = refl
 
 -- the source of a number that is declared there is that of a function of which nothing is reported
-pub function_at : PartsAreAmong → FunctionsHaveOneTable → FunctionsArePlaced → (ws : List PackageModel) (parts : List (Option PartModel)) → IsWorkspace ws → AreParts ws parts → (path : List ℕ) (d : DeclRef) (number : ℕ) (s : SourceOf)
+pub function_at : PartsAreAmong → FunctionsHaveOneTable → FunctionsArePlaced → (ws : List PackageModel) (parts : List (Option PartModel)) → IsReadWorkspace ws → AreParts ws parts → (path : List ℕ) (d : DeclRef) (number : ℕ) (s : SourceOf)
     → slice_get (sources_of place_declared (somes parts)) number ≡ Some s → IsSourceAt place_declared (somes parts) path d s → IsFunctionAt (somes parts) path d number
-function_at among one funcs ws parts well made path d number s is a =
+function_at among one funcs ws parts as_read made path d number s is a =
     let ps = somes parts in
     let p = a.part in
-    let right = among ws parts well made p a.there in
+    let right = among ws parts as_read made p a.there in
     let n = d.file in
     let t = a.tree in
     let f = a.file in
@@ -89,9 +89,9 @@ function_at among one funcs ws parts well made path d number s is a =
     }
 
 pub lead_to_functions : DeclarationsArePlaced → ReferencesLeadToTheirs → PartsAreAmong → FunctionsHaveOneTable → FunctionsArePlaced → ReferencesLeadToFunctions
-lead_to_functions placed theirs among one funcs ws parts well made path d number is =
+lead_to_functions placed theirs among one funcs ws parts as_read made path d number is =
     let r = theirs place_declared (somes parts) placed path d number is in
-    function_at among one funcs ws parts well made path d number r.0 r.1 r.2
+    function_at among one funcs ws parts as_read made path d number r.0 r.1 r.2
 
 pub inside_reached : ObjectsAreCodeOfSources → ReachedAreInside
 inside_reached code ps main r runnable number s reached is = go (in_fragment (frame_in s.looks s.tree) s.tree) refl
@@ -108,11 +108,11 @@ behind_receiver program number s words is takes first e =
     record { source = s; is_source = is; given = refl; takes = takes ∙ (ap (λ os. os ++ map Some words) e ∙ sym (map-append Some first words)) }
 
 pub reached_take : ReferencesLeadToFunctions → FunctionsTakeWords → ReachedAreInside → PartsShowTheirTypes → ReachedTakeWords
-reached_take leads words inside shows ws parts well made main r runnable path d number reached is =
+reached_take leads words inside shows ws parts as_read made main r runnable path d number reached is =
     let ps = somes parts in
-    let at = leads ws parts well made path d number is in
+    let at = leads ws parts as_read made path d number is in
     let p = at.part in
     let callees = callees_of place_declared ps at.file at.func in
     let s = source_with (code_names_of p.input p.content d.file at.file at.func) callees at.func in
-    let w = words p.input p.content d.file at.tree at.file at.func at.all at.checked (shows ws parts well made p at.there) (inside ps main r runnable number s reached at.is) callees in
+    let w = words p.input p.content d.file at.tree at.file at.func at.all at.checked (shows ws parts as_read made p at.there) (inside ps main r runnable number s reached at.is) callees in
     record { at = at; taken = (w.words, behind_receiver (sources_of place_declared ps) number s w.words at.is w.takes, w.over) }

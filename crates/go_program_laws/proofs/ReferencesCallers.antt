@@ -63,10 +63,10 @@ own_signatures exact i c part placed d s is t tree decl among number g form =
     sym signs
 
 pub own_callees : PartsAreAmong → FunctionsTakeWords → ReachedAreInside → HeadersAreOfSignatures → OwnSignaturesAreTheirs → OwnCalleesTakeWords
-own_callees among words inside headers own ws parts well made main r runnable path d number reached at s is n t all =
+own_callees among words inside headers own ws parts as_read made main r runnable path d number reached at s is n t all =
     let ps = somes parts in
     let p = at.part in
-    let fits = among ws parts well made p at.there in
+    let fits = among ws parts as_read made p at.there in
     let callees = callees_of place_declared ps at.file at.func in
     let source = source_with (code_names_of p.input p.content d.file at.file at.func) callees at.func in
     let w = words p.input p.content d.file at.tree at.file at.func at.all at.checked fits.shows (inside ps main r runnable number source reached at.is) callees in

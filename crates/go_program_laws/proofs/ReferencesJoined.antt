@@ -29,14 +29,14 @@ one_part ws parts well made p q hp hq e =
     same
 
 pub own_references : PartsOfAPathAreOne → ReferencesLeadToFunctions → OwnCalleesTakeWords → OwnReferencesTakeWords
-own_references one leads callees ws parts well made main r runnable p there d s own number is reached =
-    let at = leads ws parts well made (path_in p.input) d number is in
-    let same = one ws parts well made at.part p at.there there at.of_path in
+own_references one leads callees ws parts as_read made main r runnable p there d s own number is reached =
+    let at = leads ws parts as_read made (path_in p.input) d number is in
+    let same = one ws parts as_read.well made at.part p at.there there at.of_path in
     record {
       at = at;
       same = same;
       taken = λ n t all. (
-          let w = callees ws parts well made main r runnable (path_in p.input) d number reached at s (subst (λ (x : PartModel). IsOwnFunction x.input x.content d s) (sym same) own) n t all in
+          let w = callees ws parts as_read made main r runnable (path_in p.input) d number reached at s (subst (λ (x : PartModel). IsOwnFunction x.input x.content d s) (sym same) own) n t all in
           (w.0, w.1, subst (λ (x : PartModel). AreOverEach (function_looks x.input x.content n t all).types w.0 ((function_looks x.input x.content n t all).params s)) same w.2)
           );
     }

@@ -4,7 +4,7 @@ use Rattle.go_tree_nodes.specs.declared.files.Receiver.{Receiver}
 use Rattle.go_tree_nodes.specs.Trees.{FileTree, FuncTree}
 use Rattle.go_names_core.specs.local_core.Binding.{Local}
 use Rattle.go_body_core.specs.env_core.declared.meaning.Meaning.{Meaning as NameMeaning}
-use Rattle.go_graph_core.specs.Workspaces.{IsWorkspace, PackageModel}
+use Rattle.go_graph_core.specs.Workspaces.{IsReadWorkspace, PackageModel}
 use Rattle.go_snap_core.specs.whole_workspace.Inputs.{AreParts}
 use Rattle.go_emit_core.specs.package_core.PackagePartInputs.{path_in}
 use Rattle.go_term_core.specs.declared.term.MemberPlace.TheVariants as places
@@ -51,20 +51,20 @@ record IsOfPart (ps : List PartModel) (p : PartModel) (d : Declaration) (s : Sig
   own : IsOwnFunction part.input part.content decl s
 
 -- what the signature of a function of a number gives is what its own header gives
-header_gives : PartsAreAmong → OwnSignaturesAreTheirs → HeadersGiveTheirResults → ReachedAreInside → (ws : List PackageModel) (parts : List (Option PartModel)) → IsWorkspace ws → AreParts ws parts → (main : List ℕ) (r : RunnableOf)
+header_gives : PartsAreAmong → OwnSignaturesAreTheirs → HeadersGiveTheirResults → ReachedAreInside → (ws : List PackageModel) (parts : List (Option PartModel)) → IsReadWorkspace ws → AreParts ws parts → (main : List ℕ) (r : RunnableOf)
     → IsRunnable (program_of place_declared (objects_of (somes parts)) main) r → (path : List ℕ) (d : DeclRef) (number : ℕ) → IsReached (sources_of place_declared (somes parts)) r.starts number
     → (at : IsFunctionAt (somes parts) path d number) (s : Sign) → IsOwnFunction at.part.input at.part.content d s
     → sign_gives (known_types at.part.input at.part.content) s ≡ signature_gives (code_names_of at.part.input at.part.content d.file at.file at.func) at.func.signature
-header_gives among theirs results inside ws parts well made main r runnable path d number reached at s own =
+header_gives among theirs results inside ws parts as_read made main r runnable path d number reached at s own =
     let i = at.part.input in
     let c = at.part.content in
-    let fits = among ws parts well made at.part at.there in
+    let fits = among ws parts as_read made at.part at.there in
     let written = theirs i c at.checked.part fits.files.placed d s own at.tree at.checked.tree at.decl at.among at.declared at.func at.form in
     let source = source_with (code_names_of i c d.file at.file at.func) (callees_of place_declared (somes parts) at.file at.func) at.func in
     ap (λ (y : Sign). sign_gives (known_types i c) y) written ∙ results i c d.file at.tree at.file at.func at.all at.checked fits.shows (inside (somes parts) main r runnable number source reached at.is)
 
 module _ (seen : SeenAreInProgram) (numbers : FunctionsHaveNumbers) (among : PartsAreAmong) (own : OwnReferencesTakeWords) (theirs : OwnSignaturesAreTheirs) (results : HeadersGiveTheirResults) (inside : ReachedAreInside) (alike : SignaturesAreAlike)
-    (ws : List PackageModel) (parts : List (Option PartModel)) (well : IsWorkspace ws) (made : AreParts ws parts) (main : List ℕ) (r : RunnableOf) (runnable : IsRunnable (program_of place_declared (objects_of (somes parts)) main) r)
+    (ws : List PackageModel) (parts : List (Option PartModel)) (as_read : IsReadWorkspace ws) (made : AreParts ws parts) (main : List ℕ) (r : RunnableOf) (runnable : IsRunnable (program_of place_declared (objects_of (somes parts)) main) r)
     (p : PartModel) (n : ℕ) (t : FileTree) (f : FileOf) (g : FuncTree) (all : List (Local NameMeaning)) (run : IsRun (somes parts) main r p n t f g all)
     (d : Declaration) (s : Sign) (refers : Contains (declarations_in (body_uses f.answers.uses g)) d) (x : IsOfPart (somes parts) p d s) where
   abbrev sources : List SourceOf
@@ -82,8 +82,8 @@ module _ (seen : SeenAreInProgram) (numbers : FunctionsHaveNumbers) (among : Par
 
   callee_there : IsCalleeThere
   callee_there =
-      let clean = seen ws parts well made main r runnable p run.part run.in_program x.part x.there x.seen in
-      let right = among ws parts well made x.part x.there in
+      let clean = seen ws parts as_read.well made main r runnable p run.part run.in_program x.part x.there x.seen in
+      let right = among ws parts as_read made x.part x.there in
       let k = numbers (somes parts) x.part x.there right.part right.files.placed clean.clean x.decl s x.own in
       let is : number_in d ≡ Some k.0 = ap number_in x.is ∙ k.1 in
       let references = declarations_in (body_uses f.answers.uses g) in
@@ -103,12 +103,12 @@ module _ (seen : SeenAreInProgram) (numbers : FunctionsHaveNumbers) (among : Par
   taken : IsTaken
   taken =
       let k = callee_there in
-      let c = own ws parts well made main r runnable x.part x.there x.decl s x.own k.number k.there k.reached in
+      let c = own ws parts as_read made main r runnable x.part x.there x.decl s x.own k.number k.there k.reached in
       let at = c.at in
       let here : IsOwnFunction at.part.input at.part.content x.decl s = subst (λ (y : PartModel). IsOwnFunction y.input y.content x.decl s) (sym c.same) x.own in
       let w = c.taken n t all in
-      let header = header_gives among theirs results inside ws parts well made main r runnable (path_in x.part.input) x.decl k.number k.reached at s here in
-      let same = alike ws parts well made p x.part run.part x.there x.seen x.decl s x.own in
+      let header = header_gives among theirs results inside ws parts as_read made main r runnable (path_in x.part.input) x.decl k.number k.reached at s here in
+      let same = alike ws parts as_read.well made p x.part run.part x.there x.seen x.decl s x.own in
       let gives : signature_gives (code_names_of at.part.input at.part.content x.decl.file at.file at.func) at.func.signature ≡ sign_gives (known_types p.input p.content) s =
       sym header ∙ (ap (λ (y : PartModel). sign_gives (known_types y.input y.content) s) c.same ∙ same.gives) in
       record {
@@ -149,7 +149,7 @@ module _ (seen : SeenAreInProgram) (numbers : FunctionsHaveNumbers) (among : Par
       let source = source_with (code_names_of i c x.decl.file at.file at.func) (callees_of place_declared (somes parts) at.file at.func) at.func in
       let here : AreReceivedOver i c x.decl w = subst (λ (y : PartModel). AreReceivedOver y.input y.content x.decl w) (sym k.callee.same) received in
       let over = here at.tree at.checked.tree at.decl at.among at.declared at.func at.form in
-      let shows = (among ws parts well made at.part at.there).shows in
+      let shows = (among ws parts as_read made at.part at.there).shows in
       let first = receivers i c x.decl.file at.tree at.file at.func at.all at.checked shows (inside (somes parts) main r runnable k.number source k.reached at.is) w over in
       record {
         number = k.number;
@@ -160,19 +160,19 @@ module _ (seen : SeenAreInProgram) (numbers : FunctionsHaveNumbers) (among : Par
       }
 
 pub references_kept : FunctionsAreOfParts → SeenAreInProgram → FunctionsHaveNumbers → PartsAreAmong → NamesLeadToNoMethods → OwnReferencesTakeWords → OwnSignaturesAreTheirs → HeadersGiveTheirResults → ReachedAreInside → SignaturesAreAlike → ReferencesAreKept
-references_kept of_parts seen numbers among named own theirs results inside alike ws parts well made main r runnable p n t f g all run d s given refers func meant =
-    let x = of_parts ws parts well made p run.part n t f g all run.function d s func in
+references_kept of_parts seen numbers among named own theirs results inside alike ws parts as_read made main r runnable p n t f g all run d s given refers func meant =
+    let x = of_parts ws parts as_read.well made p run.part n t f g all run.function d s func in
     let of_part : IsOfPart (somes parts) p d s = record { part = x.part; there = x.there; seen = x.seen; decl = x.decl; is = x.is; own = x.own } in
     let functions : meanings.Function (sign_gives (known_types p.input p.content) s) ≡ meanings.Function given =
     sym x.meant ∙ (sym (ap (λ (e : Declaration). meaning_there p.input p.content n f (outcomes.Declared e)) x.is) ∙ meant) in
     let caller : sign_gives (known_types p.input p.content) s ≡ given = cc functions in
-    function_kept seen numbers among own theirs results inside alike ws parts well made main r runnable p n t f g all run d s refers of_part named x.name x.named given caller
+    function_kept seen numbers among own theirs results inside alike ws parts as_read made main r runnable p n t f g all run d s refers of_part named x.name x.named given caller
 
 pub methods_kept : MethodsAreDeclared → MethodsGiveTheirs → MethodsAreOfParts → ReceiversTakeWords → SeenAreInProgram → FunctionsHaveNumbers → PartsAreAmong → OwnReferencesTakeWords → OwnSignaturesAreTheirs → HeadersGiveTheirResults → ReachedAreInside → SignaturesAreAlike
     → MethodsAreKept
-methods_kept declared gives of_parts receivers seen numbers among own theirs results inside alike ws parts well made main r runnable p n t f g all run d path s w given refers method meant =
+methods_kept declared gives of_parts receivers seen numbers among own theirs results inside alike ws parts as_read made main r runnable p n t f g all run d path s w given refers method meant =
     let x = declared p.input p.content n t all d path s w method in
-    let m = of_parts ws parts well made p run.part d path s w x in
+    let m = of_parts ws parts as_read made p run.part d path s w x in
     let of_part : IsOfPart (somes parts) p d s = record { part = m.part; there = m.there; seen = m.seen; decl = m.decl; is = m.is; own = m.own } in
-    let caller : sign_gives (known_types p.input p.content) s ≡ given = gives ws parts well made p run.part n f d path s w x given meant in
-    method_kept seen numbers among own theirs results inside alike ws parts well made main r runnable p n t f g all run d s refers of_part receivers w m.received given caller
+    let caller : sign_gives (known_types p.input p.content) s ≡ given = gives ws parts as_read.well made p run.part n f d path s w x given meant in
+    method_kept seen numbers among own theirs results inside alike ws parts as_read made main r runnable p n t f g all run d s refers of_part receivers w m.received given caller

@@ -331,11 +331,11 @@ pub seen_in_program : CheckIsLocal → ImportsBindTheirs → ReferencesLeadToThe
 seen_in_program local bind theirs placed one ws parts well made main r runnable = seen_clean local bind theirs placed one ws parts well made main r runnable
 
 pub reached_in_program : CheckIsLocal → ImportsBindTheirs → ReferencesLeadToTheirs → DeclarationsArePlaced → PartsOfAPathAreOne → PartsAreAmong → FunctionsHaveOneTable → FunctionsArePlaced → ReachedAreInProgram
-reached_in_program local bind theirs placed one among table funcs ws parts well made main r runnable number reached =
-    let x = reached_in local bind theirs placed one ws parts well made main r runnable number reached in
+reached_in_program local bind theirs placed one among table funcs ws parts as_read made main r runnable number reached =
+    let x = reached_in local bind theirs placed one ws parts as_read.well made main r runnable number reached in
     record {
       path = x.path;
       decl = x.decl;
-      at = function_at among table funcs ws parts well made x.path x.decl number x.source x.is x.at;
-      in_program = in_program local bind theirs placed one ws parts well made main r runnable x.path x.reached;
+      at = function_at among table funcs ws parts as_read made x.path x.decl number x.source x.is x.at;
+      in_program = in_program local bind theirs placed one ws parts as_read.well made main r runnable x.path x.reached;
     }

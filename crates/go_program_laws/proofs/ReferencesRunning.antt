@@ -1,7 +1,7 @@
 -- Programs run as their sources mean.
 use Rattle.std.proofs.Common.{◌≡◌, ℕ, true, List, Option, Some, Contains, sym, ◌∙◌, subst}
 use Rattle.std.specs.Prelude.{slice_get}
-use Rattle.go_graph_core.specs.Workspaces.{IsWorkspace, PackageModel}
+use Rattle.go_graph_core.specs.Workspaces.{IsReadWorkspace, PackageModel}
 use Rattle.go_emit_core.specs.package_core.PackagePartParts.{PartModel}
 use Rattle.go_emit_core.specs.package_core.PackagePartSlots.{somes}
 use Rattle.go_snap_core.specs.whole_workspace.Inputs.{AreParts}
@@ -26,7 +26,7 @@ use Rattle.go_program_laws.specs.faultless.Served.{FunctionsAreServed}
 use Rattle.go_program_laws.specs.references.Kept.{IsRun, MethodsAreKept, ProgramsRun, ReferencesAreKept}
 use Rattle.go_program_laws.specs.references.Reached.{IsInProgram, ReachedAreInProgram}
 
-module _ (reach : ReachedAreInProgram) (kept : ReferencesAreKept) (methods : MethodsAreKept) (served : FunctionsAreServed) (calls : CallsAreServed) (fit : FunctionsFit) (among : PartsAreAmong) (ws : List PackageModel) (parts : List (Option PartModel)) (well : IsWorkspace ws) (made : AreParts ws parts)
+module _ (reach : ReachedAreInProgram) (kept : ReferencesAreKept) (methods : MethodsAreKept) (served : FunctionsAreServed) (calls : CallsAreServed) (fit : FunctionsFit) (among : PartsAreAmong) (ws : List PackageModel) (parts : List (Option PartModel)) (as_read : IsReadWorkspace ws) (made : AreParts ws parts)
     (main : List ℕ) (r : RunnableOf) (runnable : IsRunnable (program_of place_declared (objects_of (somes parts)) main) r) where
   abbrev sources : List SourceOf
   sources = sources_of place_declared (somes parts)
@@ -34,11 +34,11 @@ module _ (reach : ReachedAreInProgram) (kept : ReferencesAreKept) (methods : Met
   -- a source that is reached fits
   reached_fits : (number : ℕ) (s : SourceOf) → IsReached sources r.starts number → slice_get sources number ≡ Some s → in_fragment (frame_in s.looks s.tree) s.tree ≡ true → FunctionFits sources s
   reached_fits number s reached is inside =
-      let x = reach ws parts well made main r runnable number reached in
+      let x = reach ws parts as_read made main r runnable number reached in
       let a = x.at in
       let p = a.part in
       let n = x.decl.file in
-      let right = among ws parts well made p a.there in
+      let right = among ws parts as_read made p a.there in
       let callees = callees_of place_declared (somes parts) a.file a.func in
       let some : Some s ≡ Some (source_with (code_names_of p.input p.content n a.file a.func) callees a.func) = sym is ∙ a.is in
       let same : s ≡ source_with (code_names_of p.input p.content n a.file a.func) callees a.func = cc some in
@@ -52,19 +52,19 @@ module _ (reach : ReachedAreInProgram) (kept : ReferencesAreKept) (methods : Met
         there = a.is;
         inside = inside_alone;
       } in
-      let functions_are = kept ws parts well made main r runnable p n a.tree a.file a.func a.all run in
-      let methods_are = methods ws parts well made main r runnable p n a.tree a.file a.func a.all run in
-      let leads = calls ws parts well made p a.there n a.tree a.file a.func a.all a.checked sources (number_of place_declared (all_functions (objects_of (somes parts)))) functions_are methods_are in
+      let functions_are = kept ws parts as_read made main r runnable p n a.tree a.file a.func a.all run in
+      let methods_are = methods ws parts as_read made main r runnable p n a.tree a.file a.func a.all run in
+      let leads = calls ws parts as_read.well made p a.there n a.tree a.file a.func a.all a.checked sources (number_of place_declared (all_functions (objects_of (somes parts)))) functions_are methods_are in
       subst (λ y. FunctionFits sources y) (sym same)
-      (fit sources callees p.input p.content n a.tree a.file a.func a.all a.checked right.shows (served ws parts well made sources callees p a.there n a.tree a.file a.func a.all a.checked leads) inside_alone)
+      (fit sources callees p.input p.content n a.tree a.file a.func a.all a.checked right.shows (served ws parts as_read made sources callees p a.there n a.tree a.file a.func a.all a.checked leads) inside_alone)
 
 pub programs_run : ReachedAreInProgram → ReferencesAreKept → MethodsAreKept → FunctionsAreServed → CallsAreServed → FunctionsFit → PartsAreAmong → StartsTakeNothing → ObjectsAreCodeOfSources → ReachedProgramsRun → ProgramsRun
-programs_run reach kept methods served calls fit among starts code run ws parts faults well snapshot main r runnable =
+programs_run reach kept methods served calls fit among starts code run ws parts faults as_read snapshot main r runnable =
     let ps = somes parts in
-    let right = λ (p : PartModel) (h : Contains ps p). among ws parts well snapshot.made p h in
+    let right = λ (p : PartModel) (h : Contains ps p). among ws parts as_read snapshot.made p h in
     run (program_of place_declared (objects_of ps) main) (sources_of place_declared ps) r (record {
       runnable = runnable;
       functions = code place_declared ps;
-      fit = reached_fits reach kept methods served calls fit among ws parts well snapshot.made main r runnable;
+      fit = reached_fits reach kept methods served calls fit among ws parts as_read snapshot.made main r runnable;
       starting = starts place_declared ps main r (λ p h. record { input = (right p h).input; part = (right p h).part; files = (right p h).files }) runnable.begun;
     })

@@ -6,7 +6,7 @@ use Rattle.go_term_core.specs.decl_core.TopDecls.{FuncForm, TopDeclTree, top_dec
 use Rattle.go_term_core.specs.decl_core.declared.keys.DeclRef.{DeclRef}
 use Rattle.go_term_core.specs.decl_core.declared.places.DeclKind.TheVariants as decl_kinds
 use Rattle.go_graph_core.proofs.PlanLaws.{has_plan}
-use Rattle.go_graph_core.specs.Workspaces.{IsWorkspace, PackageModel}
+use Rattle.go_graph_core.specs.Workspaces.{IsReadWorkspace, PackageModel}
 use Rattle.go_names_core.specs.block_core.Declarations.{decl_ref}
 use Rattle.go_term_core.specs.Terms.{Defined, Sign}
 use Rattle.go_body_core.specs.table_core.Entries.{Entry, Member, find_entry, term_in}
@@ -67,16 +67,16 @@ module _ (i : InputModel) (c : ContentOf) (e : Entry) (m : Member) (y : IsWritte
         over = over;
       }
 
-module _ (own : DeclaredFunctionsAreOwn) (among : PartsAreAmong) (local : CheckIsLocal) (bind : ImportsBindTheirs) (ws : List PackageModel) (parts : List (Option PartModel)) (well : IsWorkspace ws) (made : AreParts ws parts)
+module _ (own : DeclaredFunctionsAreOwn) (among : PartsAreAmong) (local : CheckIsLocal) (bind : ImportsBindTheirs) (ws : List PackageModel) (parts : List (Option PartModel)) (as_read : IsReadWorkspace ws) (made : AreParts ws parts)
     (p : PartModel) (d : Declaration) (path : List ℕ) (s : Sign) (w : Word) (x : IsMethodDeclared p.input p.content d path s w) where
   right : AreRight ws parts
   right = all_right ws parts made
 
   path_is : (n : ℕ) (q : PartModel) → slice_get parts n ≡ Some (Some q) → path_of q.content.summary ≡ path_in q.input
-  path_is n q at = path_told ws parts well right n q.content.summary (record { of_part = q; there = at; is = refl })
+  path_is n q at = path_told ws parts as_read.well right n q.content.summary (record { of_part = q; there = at; is = refl })
 
   home_is : (n : ℕ) (q : PartModel) → slice_get parts n ≡ Some (Some q) → Among q.content.summary.types.entries x.entry → x.entry.key.path ≡ path_in q.input
-  home_is n q at a = of_path (path_of q.content.summary) q.content.summary.types.entries (of_one ws parts well right n q at).own x.entry a ∙ path_is n q at
+  home_is n q at a = of_path (path_of q.content.summary) q.content.summary.types.entries (of_one ws parts as_read.well right n q at).own x.entry a ∙ path_is n q at
 
   -- where its type is one of a part's own
   of_part : (n : ℕ) (q : PartModel) → slice_get parts n ≡ Some (Some q) → SeesPart p q → Among q.content.summary.types.entries x.entry
@@ -85,9 +85,9 @@ module _ (own : DeclaredFunctionsAreOwn) (among : PartsAreAmong) (local : CheckI
       let i = q.input in
       let c = q.content in
       let there : Contains (somes parts) q = among_to (somes parts) q (among_somes parts n q at) in
-      let fits = among ws parts well made q there in
+      let fits = among ws parts as_read made q there in
       let types : c.summary.types.entries ≡ fits.part.checked.types = ap (λ (t : SummaryModel). t.types.entries) fits.part.summary in
-      let theirs : AreOf (path_in i) fits.part.checked.types = subst (λ y. AreOf y fits.part.checked.types) (path_is n q at) (subst (AreOf (path_of c.summary)) types (of_one ws parts well right n q at).own) in
+      let theirs : AreOf (path_in i) fits.part.checked.types = subst (λ y. AreOf y fits.part.checked.types) (path_is n q at) (subst (AreOf (path_of c.summary)) types (of_one ws parts as_read.well right n q at).own) in
       let y = written_method i c fits.input fits.part theirs x.entry (subst (λ es. Among es x.entry) types a) x.member (among_from x.entry.methods x.member x.there) in
       let home = home_is n q at a in
       record {
@@ -102,14 +102,14 @@ module _ (own : DeclaredFunctionsAreOwn) (among : PartsAreAmong) (local : CheckI
 
   of_told : (n : ℕ) → slice_get parts n ≡ Some (Some p) → (t : SummaryModel) → Among p.input.reached t ⊎ Among (p.content.summary ∷ []) t → Among t.types.entries x.entry → IsMethodOfPart (somes parts) p d s w
   of_told n at t (inl a) b =
-      let by = told_by ws parts well right n p.input (right n p at).input t a in
+      let by = told_by ws parts as_read.well right n p.input (right n p at).input t a in
       let q = by.tells.of_part in
       let reached : Among p.input.reached q.content.summary = subst (Among p.input.reached) by.tells.is a in
       let entry : Among q.content.summary.types.entries x.entry = subst (λ (u : SummaryModel). Among u.types.entries x.entry) by.tells.is b in
-      let plan = has_plan ws well in
+      let plan = has_plan ws as_read.well in
       let inside : Contains (reach_paths q.input) x.entry.key.path = among_to (reach_paths q.input) x.entry.key.path (inl (sym (home_is by.number q by.tells.there entry))) in
       of_part by.number q by.tells.there (inr (among_to p.input.reached q.content.summary reached)) entry
-      ((alike local bind ws parts well right plan.0 plan.1 n p at by.number q by.tells.there by.reached reached).types x.entry.key inside)
+      ((alike local bind ws parts as_read.well right plan.0 plan.1 n p at by.number q by.tells.there by.reached reached).types x.entry.key inside)
   of_told n at t (inr (inl e)) b = of_part n p at (inl refl) (subst (λ (u : SummaryModel). Among u.types.entries x.entry) (sym e) b) refl
   of_told n at t (inr (inr never)) b = absurd never
 
@@ -121,4 +121,4 @@ module _ (own : DeclaredFunctionsAreOwn) (among : PartsAreAmong) (local : CheckI
       of_told r.number r.there t.0 (among_cases p.input.reached (p.content.summary ∷ []) t.0 t.1) t.2
 
 pub methods_of_parts : DeclaredFunctionsAreOwn → PartsAreAmong → CheckIsLocal → ImportsBindTheirs → MethodsAreOfParts
-methods_of_parts own among local bind ws parts well made p h d path s w x = method_of own among local bind ws parts well made p d path s w x h
+methods_of_parts own among local bind ws parts as_read made p h d path s w x = method_of own among local bind ws parts as_read made p d path s w x h

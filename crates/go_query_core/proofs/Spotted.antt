@@ -15,7 +15,7 @@ use Rattle.go_expr_core.specs.Laws.{occurrence_place, use_place}
 use Rattle.go_parse_core.specs.Parsing.{IsParse}
 use Rattle.go_import_core.specs.graph_core.Packages.{tree_shown, trees_of}
 use Rattle.go_import_core.specs.graph_core.Sources.{IsRead, SourceModel}
-use Rattle.go_import_core.specs.graph_core.Workspaces.{IsWorkspace}
+use Rattle.go_import_core.specs.graph_core.Workspaces.{AreAllRead}
 use Rattle.go_import_core.specs.graph_core.Assemblies.{tree_at}
 use Rattle.go_import_core.specs.graph_core.Zips.{zip_back}
 use Rattle.go_complete_core.specs.package_core.PreparePackages.{trees_in}
@@ -139,13 +139,13 @@ begun f offset k u spots covers at = record {
 
 -- of snapshots
 
-module _ (s : SnapshotModel) (well : IsWorkspace s.sources) (whole : IsSnapshot s.sources s.parts s.faults) (path name : List ℕ) (f : FoundFile) (at : IsFileAt s.sources s.parts path name f) where
+module _ (s : SnapshotModel) (all : All AreAllRead s.sources) (whole : IsSnapshot s.sources s.parts s.faults) (path name : List ℕ) (f : FoundFile) (at : IsFileAt s.sources s.parts path name f) where
   pub has_spots : PartHasOccurrences → IsInput f.of_part.input → HasSpots f
   has_spots of_part input =
       let right = all_right s.sources s.parts whole.made at.in_workspace.number f.of_part at.in_workspace.there in
       let files : List SourceModel = f.of_part.input.source.1 in
       let low : f.number < length files = slice_get_within files f.number f.source at.in_package in
-      let read : IsRead f.source = subst IsRead (get_or_from_slice_get files f.number f.source f.source at.in_package) (read_there s.sources at.in_workspace.number f.of_part.input.source well right.numbered f.number f.source low) in
+      let read : IsRead f.source = subst IsRead (get_or_from_slice_get files f.number f.source f.source at.in_package) (read_there s.sources at.in_workspace.number f.of_part.input.source all right.numbered f.number f.source low) in
       let parse : IsParse f.source.text f.tree = parsed f.source f.tree read at.tree in
       let tree : slice_get (trees_in f.of_part.input.source) f.number ≡ Some f.tree =
       slice_get-map tree_shown (trees_of files) f.number ∙ ap (λ o. option_map tree_shown o) (tree_at files f.number f.source f.tree right.assembled.trees at.in_package at.tree) in

@@ -12,7 +12,7 @@ use Rattle.std.proofs.lemmas.List.Elements.{All-filter, All-head, All-tail, filt
 use Rattle.std.proofs.lemmas.Map.Keys.{IsDistinct-cons, sorted_head, sorted_tail}
 use Rattle.std.proofs.lemmas.Map.Text.{is_eq-slice_cmp}
 use Rattle.go_graph_core.specs.Sources.{IsRead, SourceModel}
-use Rattle.go_graph_core.specs.Workspaces.{AreAllRead, HaveDistinctNames, IsWorkspace, PackageModel, Puts, by_bytes, files_at, is_path_inside, names_of_files, texts_of_files}
+use Rattle.go_graph_core.specs.Workspaces.{AreAllRead, HaveDistinctNames, PackageModel, Puts, by_bytes, files_at, is_path_inside, names_of_files, texts_of_files}
 use Rattle.go_path_core.specs.text_core.declared.rule.Rule.{Rule}
 use Rattle.go_path_core.specs.text_core.declared.rule.Rule.TheVariants.{M0}
 use Rattle.go_board_core.specs.submit_core.Trees.{TreeModel, is_file_name, tree_rule}
@@ -34,7 +34,7 @@ others_past name fs i x others within at same before =
     before
     ∙ sym (others_more name fs i x within ∙ ap (λ (z : SourceModel). other_files name (take i fs) ++ cond (not (bytes_eq z.name name)) (z ∷ []) []) (sym at) ∙ ap (λ b. other_files name (take i fs) ++ cond (not b) (x ∷ []) []) same ∙ append-nil (other_files name (take i fs)))
 
--- the files of a package of a workspace are read, and so are those of them that are not of a name
+-- where each file of a workspace is read, the files of a package are, and so are those of them that are not of a name
 
 none_read : All IsRead []
 none_read k d lt = absurd (omega arith)
@@ -47,9 +47,9 @@ files_read (p ∷ ps) path all = step (is_at (by_bytes path) p.0) (files_read ps
     step true rest = All-head AreAllRead p ps all
     step false rest = rest
 
-pub left_read : (ps : List PackageModel) (path name : List ℕ) (left : List SourceModel) → IsWorkspace ps → left ≡ other_files name (files_or_none (files_at ps path)) → All IsRead left
-left_read ps path name left well is =
-    subst (All IsRead) (sym is) (All-filter (λ (f : SourceModel). not (bytes_eq f.name name)) IsRead (files_or_none (files_at ps path)) (files_read ps path well.read))
+pub left_read : (ps : List PackageModel) (path name : List ℕ) (left : List SourceModel) → All AreAllRead ps → left ≡ other_files name (files_or_none (files_at ps path)) → All IsRead left
+left_read ps path name left read is =
+    subst (All IsRead) (sym is) (All-filter (λ (f : SourceModel). not (bytes_eq f.name name)) IsRead (files_or_none (files_at ps path)) (files_read ps path read))
 
 -- the names differ
 

@@ -6,7 +6,7 @@ use Rattle.std.proofs.lemmas.List.{length-map}
 use Rattle.std.proofs.lemmas.Option.{slice_get-get_or, slice_get-map, slice_get_within, get_or_from_slice_get}
 use Rattle.go_graph_core.specs.Packages.{IsAssembled}
 use Rattle.go_graph_core.specs.Sources.{IsRead}
-use Rattle.go_graph_core.specs.Workspaces.{PackageModel, AreAllRead, IsWorkspace}
+use Rattle.go_graph_core.specs.Workspaces.{PackageModel, AreAllRead}
 use Rattle.go_graph_core.proofs.Zips.{numbered_at, numbered_back, numbered_length}
 use Rattle.go_emit_core.specs.package_core.PreparePackages.{trees_in}
 use Rattle.go_report_core.specs.Faults as report
@@ -27,10 +27,11 @@ contents_at parts n x h = slice_get-map (option_map (λ (p : PartModel). p.conte
 reports_ordered : (i : InputModel) (c : ContentOf) → IsPart i c → (k : ℕ) (x : FileOf) → slice_get c.files k ≡ Some x → AllPairs report.ComesBefore x.report
 reports_ordered i c made k x at = (let b = numbered_back (IsFileMadeIn c.blocks made.checked.files) 0 (trees_in i.source) c.files k x made.files at in b.2.made_of.reported.ordered)
 
-pub read_there : (ps : List PackageModel) (n : ℕ) (p : PackageModel) → IsWorkspace ps → slice_get ps n ≡ Some p → All IsRead p.1
-read_there ps n p well at = subst AreAllRead (get_or_from_slice_get ps n p p at) (well.read n p (slice_get_within ps n p at))
+-- the files of a package of a workspace that is read
+pub read_there : (ps : List PackageModel) (n : ℕ) (p : PackageModel) → All AreAllRead ps → slice_get ps n ≡ Some p → All IsRead p.1
+read_there ps n p read at = subst AreAllRead (get_or_from_slice_get ps n p p at) (read n p (slice_get_within ps n p at))
 
-module _ (ps : List PackageModel) (parts : List (Option PartModel)) (well : IsWorkspace ps) (all : AreParts ps parts) where
+module _ (ps : List PackageModel) (parts : List (Option PartModel)) (read : All AreAllRead ps) (all : AreParts ps parts) where
   pub as_many : length parts ≡ length ps
   as_many = sym (numbered_length (λ n p x. IsPartOf ps parts n p x) 0 ps parts all)
 
@@ -61,17 +62,17 @@ module _ (ps : List PackageModel) (parts : List (Option PartModel)) (well : IsWo
       → new ≡ old ++ part_faults n 0 part.content.files → AreFaultsTo ps (contents_of parts) (n + 1) new
   part_added n p part old new at there before is =
       let h = entry_at n p (Some part) at there in
-      let every = package_all ps (contents_of parts) n p at (read_there ps n p well at) (Some part.content) (part_faults n 0 part.content.files) (contents_at parts n (Some part) there)
+      let every = package_all ps (contents_of parts) n p at (read_there ps n p read at) (Some part.content) (part_faults n 0 part.content.files) (contents_at parts n (Some part) there)
       (λ c e k x slot. (let same : part.content ≡ c = cc in reports_ordered part.input part.content h.2 k x (subst (λ (y : ContentOf). slice_get y.files k ≡ Some x) (sym same) slot))) refl in
-      next n old new (part_faults n 0 part.content.files) (one_more ps (contents_of parts) n p at (read_there ps n p well at) old (part_faults n 0 part.content.files) before every) is
+      next n old new (part_faults n 0 part.content.files) (one_more ps (contents_of parts) n p at (read_there ps n p read at) old (part_faults n 0 part.content.files) before every) is
     where
       next : (n : ℕ) (old new more : List PlacedFault) → AreFaultsTo ps (contents_of parts) (suc n) (old ++ more) → new ≡ old ++ more → AreFaultsTo ps (contents_of parts) (n + 1) new
       next n old new more h is = (let e : suc n ≡ n + 1 = omega arith in subst (λ m. AreFaultsTo ps (contents_of parts) m new) e (subst (AreFaultsTo ps (contents_of parts) (suc n)) (sym is) h))
 
   pub none_added : (n : ℕ) (p : PackageModel) (old new : List PlacedFault) → slice_get ps n ≡ Some p → slice_get parts n ≡ Some None → AreFaultsTo ps (contents_of parts) n old → AddsUnassembled n p.1 old new → AreFaultsTo ps (contents_of parts) (n + 1) new
   none_added n p old new at there before h =
-      let every = package_all ps (contents_of parts) n p at (read_there ps n p well at) None h.more (contents_at parts n None there) (λ c e k x slot. absurd (let no : None ≡ Some c = e in cc)) h.are in
-      let more = one_more ps (contents_of parts) n p at (read_there ps n p well at) old h.more before every in
+      let every = package_all ps (contents_of parts) n p at (read_there ps n p read at) None h.more (contents_at parts n None there) (λ c e k x slot. absurd (let no : None ≡ Some c = e in cc)) h.are in
+      let more = one_more ps (contents_of parts) n p at (read_there ps n p read at) old h.more before every in
       let e : suc n ≡ n + 1 = omega arith in
       subst (λ m. AreFaultsTo ps (contents_of parts) m new) e (subst (AreFaultsTo ps (contents_of parts) (suc n)) (sym h.is) more)
 

@@ -136,6 +136,10 @@ module _ (ps : List PackageModel) (parts : List (Option PartModel)) (are : ArePa
   pub types_own : part.content.summary.types.path ≡ path_in part.input
   types_own = ap (λ (s : SummaryModel). s.types.path) made_alone.summary
 
+  -- its files are read, where all are
+  pub part_read : All AreAllRead ps → AreAllRead part.input.source
+  part_read read = all_at_place AreAllRead ps k part.input.source read (all_right ps parts are k part there).numbered
+
 -- parts of an earlier workspace
 module _ (ps : List PackageModel) (parts : List (Option PartModel)) (well : IsWorkspace ps) (are : AreParts ps parts) where
   right : AreRight ps parts
@@ -152,10 +156,6 @@ module _ (ps : List PackageModel) (parts : List (Option PartModel)) (well : IsWo
   reached_told k part there =
       let input = (right k part there).input in
       all_from_among (WasTold parts) part.input.reached (λ s at. (let z = zip_of (Tells parts) input.reached.numbers part.input.reached s input.reached.told at in (z.0, z.2)))
-
-  -- its files are read
-  pub part_read : (k : ℕ) (part : PartModel) → slice_get parts k ≡ Some (Some part) → AreAllRead part.input.source
-  part_read k part there = all_at_place AreAllRead ps k part.input.source well.read (right k part there).numbered
 
   -- a part stands at its path
   pub part_stands : (k : ℕ) (part : PartModel) (path : List ℕ) → slice_get parts k ≡ Some (Some part) → path_in part.input ≡ path → IsPartAt ps parts path part

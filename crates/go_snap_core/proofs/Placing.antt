@@ -1,5 +1,5 @@
 -- Where the faults of a package stand whose files do not assemble.
-use Rattle.std.proofs.Common.{◌≡◌, ℕ, ◌+◌, ◌<◌, ◌≤◌, ◌⊎◌, inl, inr, Bool, true, false, ◌==◌, List, [], ◌∷◌, ◌++◌, length, drop, Option, Some, None, Result, Ok, Err, refl, sym, ap, subst, ◌∙◌, arith, append_assoc}
+use Rattle.std.proofs.Common.{◌≡◌, ℕ, ◌+◌, ◌<◌, ◌≤◌, ◌⊎◌, inl, inr, Bool, true, false, ◌==◌, All, List, [], ◌∷◌, ◌++◌, length, drop, Option, Some, None, Result, Ok, Err, refl, sym, ap, subst, ◌∙◌, arith, append_assoc}
 use Rattle.std.specs.Prelude.{slice_get}
 use Rattle.std.specs.Char.{len_utf8}
 use Rattle.std.specs.Str.{chars, IsUtf8}
@@ -24,7 +24,7 @@ use Rattle.go_graph_core.specs.parse_core.Correct.{IsSynFault}
 use Rattle.go_graph_core.specs.declared.assembly.KFault.{KFault}
 use Rattle.go_graph_core.specs.Packages.{IsAssembly}
 use Rattle.go_graph_core.specs.Sources.{SourceModel, IsContent, IsRead, clause_in}
-use Rattle.go_graph_core.specs.Workspaces.{PackageModel, IsWorkspace}
+use Rattle.go_graph_core.specs.Workspaces.{PackageModel, AreAllRead}
 use Rattle.go_emit_core.specs.package_core.PackagePartParts.{PartModel}
 use Rattle.go_snap_core.proofs.WholeWorkspaceLists.{none_is_some, one_at}
 use Rattle.go_snap_core.specs.declared.fault.PlacedFault.{PlacedFault}
@@ -97,9 +97,9 @@ assembly_inside files fault s read at (inr (inr k)) =
     let clause : clause_in s.content ≡ Some k.offset.0 = subst (λ (o : SourceModel). clause_in o.content ≡ Some k.offset.0) same k.offset.1 in
     subst (λ n. n ≤ length s.text) (sym k.offset.3) (clause_inside s.text s.content k.offset.0 read clause)
 
-module _ (ps : List PackageModel) (parts : List (Option PartModel)) (well : IsWorkspace ps) (f : PlacedFault) (none : slice_get parts f.«package» ≡ Some None) (lies : LiesIn ps f) (u : IsUtf8 lies.source.text) where
+module _ (ps : List PackageModel) (parts : List (Option PartModel)) (read : All AreAllRead ps) (f : PlacedFault) (none : slice_get parts f.«package» ≡ Some None) (lies : LiesIn ps f) (u : IsUtf8 lies.source.text) where
   source_read : IsRead lies.source
-  source_read = read_at lies.of_package.1 f.file lies.source (read_there ps f.«package» lies.of_package well lies.there) lies.in_package
+  source_read = read_at lies.of_package.1 f.file lies.source (read_there ps f.«package» lies.of_package read lies.there) lies.in_package
 
   by_reason : (p : PackageModel) → p ≡ lies.of_package → IsOfAssembly p f ⊎ IsOfText p f → f.offset ≤ length lies.source.text
   by_reason p same (inl a) =
@@ -115,4 +115,4 @@ module _ (ps : List PackageModel) (parts : List (Option PartModel)) (well : IsWo
   fault_stands (inr h) = by_reason h.source (one_at ps f.«package» h.source lies.of_package h.there lies.there) h.why
 
 pub unassembled_lie_in_texts : UnassembledFaultsLieInTexts
-unassembled_lie_in_texts ps parts faults well h f among none lies u = fault_stands ps parts well f none lies u ((h.faults_are.same f).0 among)
+unassembled_lie_in_texts ps parts faults read h f among none lies u = fault_stands ps parts read.read f none lies u ((h.faults_are.same f).0 among)

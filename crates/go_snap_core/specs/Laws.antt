@@ -2,7 +2,7 @@
 use Rattle.std.specs.Prelude.{◌≡◌, ◌≢◌, ◌≤◌, ℕ, List, [], ◌∷◌, length, Option, Some, None, All, AllPairs, Contains, slice_get}
 use Rattle.std.specs.Str.{IsUtf8}
 use Rattle.go_names_core.specs.local_core.declared.Fault.{Fault}
-use Rattle.go_graph_core.specs.Workspaces.{PackageModel, IsWorkspace}
+use Rattle.go_graph_core.specs.Workspaces.{PackageModel, IsReadWorkspace, IsWorkspace}
 use Rattle.go_emit_core.specs.package_core.PackagePartParts.{PartModel}
 use Rattle.go_report_core.specs.Faults.{IsSaid}
 use Rattle.go_report_core.specs.usage.Used.{FileUse}
@@ -20,10 +20,10 @@ OneSnapshot =
 abbrev pub FaultsLieInFiles : Type 0
 FaultsLieInFiles = (ps : List PackageModel) (parts : List (Option PartModel)) (faults : List PlacedFault) → IsSnapshot ps parts faults → All (LiesIn ps) faults
 
--- where the files of a package do not assemble, each fault stands in the text of its file, or at its end
+-- where each file has the content of its text, and the files of a package do not assemble, each fault stands in the text of its file, or at its end
 abbrev pub UnassembledFaultsLieInTexts : Type 0
 UnassembledFaultsLieInTexts =
-    (ps : List PackageModel) (parts : List (Option PartModel)) (faults : List PlacedFault) → IsWorkspace ps → IsSnapshot ps parts faults → (f : PlacedFault) → Contains faults f → slice_get parts f.«package» ≡ Some None
+    (ps : List PackageModel) (parts : List (Option PartModel)) (faults : List PlacedFault) → IsReadWorkspace ps → IsSnapshot ps parts faults → (f : PlacedFault) → Contains faults f → slice_get parts f.«package» ≡ Some None
     → (lies : LiesIn ps f) → IsUtf8 lies.source.text → f.offset ≤ length lies.source.text
 
 -- no two faults are the same

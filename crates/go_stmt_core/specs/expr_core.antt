@@ -2,14 +2,12 @@
 pub use Rattle.go_expr_core.proofs.Alike as Alike
 pub use Rattle.go_expr_core.specs.Denoting as Denoting
 pub use Rattle.go_expr_core.specs.Elements as Elements
-pub use Rattle.go_expr_core.specs.Faults as Faults
 pub use Rattle.go_expr_core.proofs.Independence as Independence
 pub use Rattle.go_expr_core.specs.Laws as Laws
 pub use Rattle.go_expr_core.specs.Lists as Lists
 pub use Rattle.go_expr_core.specs.Locality as Locality
 pub use Rattle.go_expr_core.specs.Looks as Looks
 pub use Rattle.go_expr_core.specs.Needed as Needed
-pub use Rattle.go_expr_core.proofs.Occurring as Occurring
 pub use Rattle.go_expr_core.specs.Operators as Operators
 pub use Rattle.go_expr_core.specs.Places as Places
 pub use Rattle.go_expr_core.specs.Respelling as Respelling

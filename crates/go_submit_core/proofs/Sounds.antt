@@ -1,5 +1,5 @@
 -- A batch that one worker gives keeps the published ones sound.
-use Rattle.std.proofs.Common.{◌≡◌, ℕ, ◌+◌, ◌-◌, ◌<◌, List, [], ◌∷◌, ◌++◌, length, take, Option, Some, None, refl, sym, ap, ◌∙◌, subst, ⊎_elim, Bor, arith}
+use Rattle.std.proofs.Common.{◌≡◌, ℕ, ◌+◌, ◌-◌, ◌<◌, All, List, [], ◌∷◌, ◌++◌, length, take, Option, Some, None, refl, sym, ap, ◌∙◌, subst, ⊎_elim, Bor, arith}
 use Rattle.std.specs.Prelude.{slice_get, MatchOption}
 use Rattle.std.specs.Option.{option_copied}
 use Rattle.std.proofs.lemmas.List.{take-append-le, take_all, flat_map_more, length_push}
@@ -65,8 +65,8 @@ pub kept_none : (modules : List (List ℕ)) → modules ≡ [] → IsKept [] Non
 kept_none modules e = record { last_is = refl; sound = record { each = λ k b at. absurd (cc) }; modules_are = e; trees = All-nil (λ (s : Submission). IsWorkspace s.tree.packages) }
 
 -- the files of a package whose part is published are as they are read
-pub part_is_read : (s : SnapshotModel) (path : List ℕ) (p : PartModel) → IsWorkspace s.sources → IsSnapshot s.sources s.parts s.faults → IsPartAt s.sources s.parts path p → AreAllRead p.input.source
-part_is_read s path p well whole at =
+pub part_is_read : (s : SnapshotModel) (path : List ℕ) (p : PartModel) → All AreAllRead s.sources → IsSnapshot s.sources s.parts s.faults → IsPartAt s.sources s.parts path p → AreAllRead p.input.source
+part_is_read s path p all whole at =
     let is : IsPartOf s.sources s.parts (at.number + 0) (path, at.files) (Some p) = numbered_at (λ n q part. IsPartOf s.sources s.parts n q part) 0 s.sources s.parts at.number (path, at.files) (Some p) whole.made at.numbered at.there in
-    let read : AreAllRead (path, at.files) = subst AreAllRead (get_or_from_slice_get s.sources at.number (path, at.files) (path, at.files) at.numbered) (well.read at.number (path, at.files) (slice_get_within s.sources at.number (path, at.files) at.numbered)) in
+    let read : AreAllRead (path, at.files) = subst AreAllRead (get_or_from_slice_get s.sources at.number (path, at.files) (path, at.files) at.numbered) (all at.number (path, at.files) (slice_get_within s.sources at.number (path, at.files) at.numbered)) in
     subst AreAllRead (sym is.1.source) read

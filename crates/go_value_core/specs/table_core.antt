@@ -1,3 +1,3 @@
 -- What the crates above name of go_table_core.
-pub use Rattle.go_table_core.specs.Entries as Entries
-pub use Rattle.go_table_core.specs.Methods as Methods
+pub use Rattle.go_env_core.specs.table_core.Entries as Entries
+pub use Rattle.go_env_core.specs.table_core.Methods as Methods

@@ -1,6 +1,6 @@
 -- Turns, one after another.
-use Rattle.std.proofs.Common.{◌≡◌, ℕ, ◌+◌, ◌-◌, ◌*◌, ◌<◌, ◌≤◌, List, [], ◌∷◌, ◌++◌, Bool, Option, Some, None, sym, ap, subst, ◌∙◌, arith}
-use Rattle.std.specs.Prelude.{IfSome}
+use Rattle.std.proofs.Common.{◌≡◌, ℕ, ◌+◌, ◌-◌, ◌*◌, ◌<◌, ◌≤◌, List, [], ◌∷◌, ◌++◌, Bool, true, false, Option, Some, None, sym, ap, subst, ◌∙◌, arith}
+use Rattle.std.specs.Prelude.{◌≢◌, ◌↔◌, IfSome, ⊤}
 use Rattle.std.proofs.lemmas.List.{append-nil, length-append}
 use Rattle.std.proofs.lemmas.List.Splits.{slice_split_none}
 use Rattle.std.proofs.KnownBytes.{Appends-trans, Consumes-nil, Consumes-trans}
@@ -14,6 +14,33 @@ use Rattle.go_wire_core.specs.Steps.{wire}
 use Rattle.go_wire_core.specs.Ends.{IsEnd, ReadsUpTo, Served, ServedSoFar, most_read}
 use Rattle.go_wire_core.specs.mirrors.Serving.{Going, IsEndOfLines, IsEndOfTurn, IsLine}
 use Rattle.go_wire_core.proofs.InOrder.{going_none, going_more, going_ends, going_so_far, memory_ends, no_line}
+
+-- ---- whether a read failed
+
+abbrev IsSet : Bool → Type 0
+IsSet true = ⊤
+IsSet false = ⊥
+
+-- an end that no read made
+abbrev IsOther : ServeEnd → Type 0
+IsOther ends.Done = ⊤
+IsOther ends.TooLong = ⊤
+IsOther ends.ReadFault = ⊥
+IsOther ends.WriteFault = ⊤
+IsOther ends.Turns = ⊤
+IsOther ends.Memory = ⊤
+
+pub memory_is_other : ends.Memory ≢ ends.ReadFault
+memory_is_other h = subst IsOther h tt
+
+pub turns_are_other : ends.Turns ≢ ends.ReadFault
+turns_are_other h = subst IsOther h tt
+
+-- no read failed, and the end is another
+pub no_read_fault : (end : ServeEnd) (failed : Bool) → failed ≡ false → end ≢ ends.ReadFault → (end ≡ ends.ReadFault) ↔ (failed ≡ true)
+no_read_fault end failed sound other = ((λ h. absurd (other h)), λ h. absurd (subst IsSet (sym h ∙ sound) tt))
+
+-- ---- how much was read
 
 -- one read after another
 pub reads_more : (old mid new : Option (List ℕ)) (before room most : ℕ) → ReadsUpTo before old mid → ReadsUpTo room mid new → before + room ≤ most → ReadsUpTo most old new
@@ -40,6 +67,14 @@ reads_by_end end numbered answers begun d e given mid left old new turn turns lt
     by ends.Memory s = all
 
 module _ {D : Type 0} (numbered : Bool) (answers : D → Request → WireReply → D → Type 0) where
+  -- lines ended serving, so no read did
+  pub lines_are_other : (end : ServeEnd) (ls : List (List ℕ)) (d e : D) (old new : Option (List ℕ)) → IsEndOfLines end numbered answers ls d e old new → end ≢ ends.ReadFault
+  lines_are_other end ls d e old new h same = subst (λ f. IsEndOfLines f numbered answers ls d e old new) same h
+
+  -- a turn ended serving, so it was not for the turns
+  pub turn_is_unspent : (end : ServeEnd) (begun : List ℕ) (given left : Option (List ℕ)) (d e : D) (old new : Option (List ℕ)) → IsEndOfTurn end numbered answers begun given left d e old new → end ≢ ends.Turns
+  turn_is_unspent end begun given left d e old new h same = subst (λ f. IsEndOfTurn f numbered answers begun given left d e old new) same h
+
   -- a piece came, and whatever comes behind it, serving ended
   pub turn_ends : (end : ServeEnd) (begun piece : List ℕ) (given left : Option (List ℕ)) (d e : D) (old new : Option (List ℕ)) → Consumes given left piece
       → ((more : List ℕ) → IsEndOfLines end numbered answers (lines (begun ++ (piece ++ more))) d e old new) → IsEndOfTurn end numbered answers begun given left d e old new

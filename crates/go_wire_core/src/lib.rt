@@ -3,6 +3,7 @@
 //! [`serve`] reads the lines of a connection, asks a [`Desk`] what they ask and writes the lines of its replies. Which desk answers is left open.
 #![tactic(auto)]
 
+mod counting;
 mod desk;
 mod given;
 mod laws;
@@ -15,6 +16,7 @@ mod step;
 mod text;
 mod write;
 
+pub use counting::CountedReader;
 pub use desk::Desk;
 pub use laws::{asks_by_table, asks_in_order, first_come_first, refuses_by_table, worked_lines};
 pub use reply::{FaultPlace, PackageEntry, RunEnd, Symbol, SymbolKind, WireReply};

@@ -1,5 +1,5 @@
 //! Serving the lines of a connection.
-ghost use Rattle.std.specs.Prelude.{◌≡◌, ◌++◌, ◌∷◌, ◌<◌, ◌≤◌, [], ℕ, List, Some, IfOk, IfErr, IfSome, OnOk, IsTrue, ◌↔◌, not, length, is_some, vec_len};
+ghost use Rattle.std.specs.Prelude.{◌≡◌, ◌+◌, ◌++◌, ◌∷◌, ◌<◌, ◌≤◌, [], ℕ, List, Some, IfOk, IfErr, IfSome, OnOk, IsTrue, ◌↔◌, not, length, is_some, vec_len, false, true};
 ghost use Rattle.std.specs.List.{position};
 ghost use Rattle.std.specs.Io.KnownBytes.{Appends, Consumes, Keeps};
 ghost use Rattle.go_wire_core.specs.Lines.{is_blank, is_newline, is_space, lines};
@@ -9,6 +9,7 @@ ghost use Rattle.go_wire_core.specs.Steps.{steps_of};
 ghost use Rattle.go_wire_core.specs.Ends.{IsEnd, ReadsUpTo, Served, most_read};
 ghost use Rattle.go_wire_core.specs.mirrors.Serving.{Going, IsEndOfLines, IsEndOfTurn, IsLine, IsRefusedLong, IsStop, IsUnsent, IsWithin, IsWriteFault};
 
+use crate::counting::CountedReader;
 use crate::desk::Desk;
 use crate::outputs::{flush_out, is_interruption, write_out};
 use crate::reading::step_of;
@@ -244,7 +245,7 @@ fn serve_last<H: Wait, W: Write, D: Desk>(
 fn serve_turn<H: Wait, R: Read, W: Write, D: Desk>(
     rt: &H,
     alloc: Global,
-    reader: &mut R,
+    reader: &mut CountedReader<R>,
     writer: &mut W,
     desk: &mut D,
     numbered: bool,
@@ -255,10 +256,15 @@ fn serve_turn<H: Wait, R: Read, W: Write, D: Desk>(
     requires some { 0 < length buffer.old }
     requires small { length buffer.old ≤ PIECE }
     requires numbered { D.is_numbered desk.old ≡ numbered }
+    requires more { reader.old.reads < 18446744073709551615 }
+    requires sound { reader.old.failed ≡ false }
     ensures same { D.is_numbered desk.new ≡ D.is_numbered desk.old }
-    ensures ok { OnOk result ((came : List ℕ) × Consumes (R.remaining reader.old) (R.remaining reader.new) came × Going numbered D.answers begun.old.items came begun.new.items desk.old desk.new (W.contents writer.old) (W.contents writer.new)) }
-    ensures err { IfErr result (λ end. IsEndOfTurn end numbered D.answers begun.old.items (R.remaining reader.old) (R.remaining reader.new) desk.old desk.new (W.contents writer.old) (W.contents writer.new)) }
-    ensures few { ReadsUpTo PIECE (R.remaining reader.old) (R.remaining reader.new) }
+    ensures ok { OnOk result ((came : List ℕ) × Consumes (R.remaining reader.old.reader) (R.remaining reader.new.reader) came × Going numbered D.answers begun.old.items came begun.new.items desk.old desk.new (W.contents writer.old) (W.contents writer.new)) }
+    ensures err { IfErr result (λ end. IsEndOfTurn end numbered D.answers begun.old.items (R.remaining reader.old.reader) (R.remaining reader.new.reader) desk.old desk.new (W.contents writer.old) (W.contents writer.new)) }
+    ensures counted { reader.new.reads ≡ reader.old.reads + 1 }
+    ensures sound { OnOk result (reader.new.failed ≡ false) }
+    ensures fault { IfErr result (λ end. (end ≡ ServeEnd.ReadFault) ↔ (reader.new.failed ≡ true)) }
+    ensures few { ReadsUpTo PIECE (R.remaining reader.old.reader) (R.remaining reader.new.reader) }
 {
     match reader.read(buffer) {
         Err(error) if is_interruption(error.kind()) => Ok(()),
@@ -286,21 +292,29 @@ fn zeros(alloc: Global, len: usize) -> Result<Vec<u8>, AllocError>
 /// one line, and is written and flushed before the next request is asked. How the bytes come, in which pieces and with which interruptions,
 /// makes no difference, and neither do short writes.
 ///
-/// A turn is one read of at most 65,536 bytes; one that is interrupted counts, and is made again as the next turn. So at most `turns` times
-/// 65,536 bytes are read, and what is behind them stays in the reader. A read may wait, and so may the desk.
+/// A turn is one read of at most 65,536 bytes; one that is interrupted counts, and is made again as the next turn. So at most `turns` reads of
+/// the reader, which nobody has read yet, are made; at most `turns` times 65,536 bytes are read, and what is behind them stays in the reader. A
+/// read may wait, and so may the desk.
+///
+/// The end is [`ServeEnd::Turns`] only where `turns` reads were made, and [`ServeEnd::ReadFault`] just where a read failed.
 ///
 /// What a reader and a writer that tell their bytes have in the end is said for each end by [`ServeEnd`]. Where memory runs out the end is
 /// [`ServeEnd::Memory`]; a reply is never cut for it.
 pub fn serve<H: Wait, R: Read, W: Write, D: Desk>(
     rt: &H,
     alloc: Global,
-    reader: &mut R,
+    reader: &mut CountedReader<R>,
     writer: &mut W,
     desk: &mut D,
     turns: u64,
 ) -> ServeEnd
-    ensures end { IfSome (R.remaining reader.old) (λ bytes. IsEnd result (D.is_numbered desk.old) D.answers bytes (R.remaining reader.new) desk.old desk.new (W.contents writer.old) (W.contents writer.new)) }
-    ensures few { ReadsUpTo (most_read result turns) (R.remaining reader.old) (R.remaining reader.new) }
+    requires unread { reader.old.reads ≡ 0 }
+    requires sound { reader.old.failed ≡ false }
+    ensures end { IfSome (R.remaining reader.old.reader) (λ bytes. IsEnd result (D.is_numbered desk.old) D.answers bytes (R.remaining reader.new.reader) desk.old desk.new (W.contents writer.old) (W.contents writer.new)) }
+    ensures few { ReadsUpTo (most_read result turns) (R.remaining reader.old.reader) (R.remaining reader.new.reader) }
+    ensures reads { reader.new.reads ≤ turns }
+    ensures spent { result ≡ ServeEnd.Turns → reader.new.reads ≡ turns }
+    ensures fault { (result ≡ ServeEnd.ReadFault) ↔ (reader.new.failed ≡ true) }
 {
     let numbered = desk.numbered();
     let mut begun = Vec::new(alloc);

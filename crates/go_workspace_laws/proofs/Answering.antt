@@ -11,7 +11,7 @@ use Rattle.go_emit_core.specs.package_core.PackagePartLaws.{PartHasOccurrences}
 use Rattle.go_graph_core.proofs.Assemblies.{has_tree_at, tree_at}
 use Rattle.go_graph_core.specs.Packages.{IsAssembled, tree_shown, trees_of}
 use Rattle.go_graph_core.specs.Sources.{SourceModel}
-use Rattle.go_graph_core.specs.Workspaces.{PackageModel, IsPackage, IsWorkspace}
+use Rattle.go_graph_core.specs.Workspaces.{PackageModel, IsPackage, IsReadWorkspace}
 use Rattle.go_graph_core.proofs.Zips.{numbered_at}
 use Rattle.go_emit_core.specs.package_core.PreparePackages.{trees_in}
 use Rattle.go_report_core.specs.usage.Used.{FileUse}
@@ -38,7 +38,7 @@ part_there : (ps : List PackageModel) (parts : List (Option PartModel)) (n : ℕ
 part_there ps parts n p None assembled at h = absurd (h assembled)
 part_there ps parts n p (Some part) assembled at h = (part, at, h.1.source)
 
-module _ (of_part : PartHasOccurrences) (ps : List PackageModel) (parts : List (Option PartModel)) (well : IsWorkspace ps) (all : AreParts ps parts) (path name : List ℕ) (n : ℕ) where
+module _ (of_part : PartHasOccurrences) (ps : List PackageModel) (parts : List (Option PartModel)) (as_read : IsReadWorkspace ps) (all : AreParts ps parts) (path name : List ℕ) (n : ℕ) where
   part_of : (number : ℕ) (p : PackageModel) → slice_get ps number ≡ Some p → IsAssembled p.1 → (part : PartModel) × (slice_get parts number ≡ Some (Some part)) × (part.input.source ≡ p)
   part_of number p numbered assembled =
       let entry = numbered_at (λ m q x. IsPartOf ps parts m q x) 0 ps parts number p all numbered in
@@ -55,7 +55,7 @@ module _ (of_part : PartHasOccurrences) (ps : List PackageModel) (parts : List (
       let tree : slice_get (trees_in part.input.source) h.file ≡ Some h.tree =
       subst (λ (p : PackageModel). slice_get (trees_in p) h.file ≡ Some h.tree) (sym found.2) (tree_among path h.files h.file h.source h.tree h.assembled h.in_package h.content) in
       let made = numbered_at (IsFileMadeIn part.content.blocks r.made.checked.files) 0 (trees_in part.input.source) part.content.files h.file h.tree r.made.files tree in
-      let same = stand_there of_part ps parts well all h.number part found.1 h.file h.tree made.0 tree made.1 in
+      let same = stand_there of_part ps parts as_read all h.number part found.1 h.file h.tree made.0 tree made.1 in
       let answer = alike_at occurrence_place use_place (file_occs h.tree) made.0.answers.uses n o (sym same) h.there in (
         answer.0,
         record {
@@ -84,7 +84,7 @@ module _ (of_part : PartHasOccurrences) (ps : List PackageModel) (parts : List (
       let low = slice_get_within files h.number h.source h.in_package in
       let has = has_tree_at files h.number h.source r.assembled.trees low (sym (get_or_from_slice_get files h.number h.source h.source h.in_package)) in
       let tree : slice_get (trees_in part.input.source) h.number ≡ Some has.0 = tree_among part.input.source.0 files h.number h.source has.0 r.assembled h.in_package has.1 in
-      let same = stand_there of_part ps parts well all number part h.in_workspace.there h.number has.0 h.file tree h.made in
+      let same = stand_there of_part ps parts as_read all number part h.in_workspace.there h.number has.0 h.file tree h.made in
       let found = alike_at use_place occurrence_place h.file.answers.uses (file_occs has.0) n u same h.answer in (
         found.0,
         record {
@@ -105,11 +105,11 @@ module _ (of_part : PartHasOccurrences) (ps : List PackageModel) (parts : List (
   -- there is one answer
   one_answer : (u v : FileUse) → IsAnswerAt ps parts path name n u → IsAnswerAt ps parts path name n v → u ≡ v
   one_answer u v h k =
-      let part : h.of_part ≡ k.of_part = one_part_at ps well parts path h.of_part k.of_part h.in_workspace k.in_workspace in
+      let part : h.of_part ≡ k.of_part = one_part_at ps as_read.well parts path h.of_part k.of_part h.in_workspace k.in_workspace in
       let number = k.in_workspace.number in
       let files = k.of_part.input.source.1 in
       let numbered = (all_right ps parts all number k.of_part k.in_workspace.there).numbered in
-      let source : IsPackage k.of_part.input.source = subst IsPackage (get_or_from_slice_get ps number k.of_part.input.source k.of_part.input.source numbered) (well.packages number k.of_part.input.source (slice_get_within ps number k.of_part.input.source numbered)) in
+      let source : IsPackage k.of_part.input.source = subst IsPackage (get_or_from_slice_get ps number k.of_part.input.source k.of_part.input.source numbered) (as_read.well.packages number k.of_part.input.source (slice_get_within ps number k.of_part.input.source numbered)) in
       let there : slice_get files h.number ≡ Some h.source = subst (λ (p : PartModel). slice_get p.input.source.1 h.number ≡ Some h.source) part h.in_package in
       let place : h.number ≡ k.number = one_key (λ (s : SourceModel). s.name) files h.number k.number h.source k.source source.order there k.in_package (h.named ∙ sym k.named) in
       let made : slice_get k.of_part.content.files k.number ≡ Some h.file =
@@ -126,4 +126,4 @@ module _ (of_part : PartHasOccurrences) (ps : List PackageModel) (parts : List (
   }
 
 pub outcomes_are_of_occurrences : PartHasOccurrences → OutcomesAreOfOccurrences
-outcomes_are_of_occurrences of_part ps parts faults well h path name n = answers of_part ps parts well h.made path name n
+outcomes_are_of_occurrences of_part ps parts faults as_read h path name n = answers of_part ps parts as_read h.made path name n

@@ -25,16 +25,16 @@ of_rule rule None f h = absurd (none_there f h)
 of_rule rule (Some p) f h = ap (λ (g : PackageFault). g.rule) (sym (one_there (fault_in p.0 p.1 rule) f h))
 
 pub circles_are_faults : LoopsAreFaults → CheckIsLocal → ImportsBindTheirs → CirclesAreFaults
-circles_are_faults loops local bind ps parts well all n part there made f =
-    let plan = has_plan ps well in
+circles_are_faults loops local bind ps parts as_read all n part there made f =
+    let plan = has_plan ps as_read.well in
     let right = all_right ps parts all in
     let p = package_of part in
     let far = types_told part.input.reached in
     let own = made.checked.types in
     let faults = made.is_checked.type_faults in
     let types = made.is_checked.types in
-    let named = aliases_are_names p (trees_keep_rules ps n part.input.source well (right n part there).numbered) in
-    let outside = means_others ps parts well right local bind plan.0 plan.1 n part there in (
+    let named = aliases_are_names p (trees_keep_rules ps n part.input.source as_read.read (right n part there).numbered) in
+    let outside = means_others ps parts as_read.well right local bind plan.0 plan.1 n part there in (
       (λ h. loops.only p far own faults types named outside f h.0 h.1),
       (λ h. (loops.found p far own faults types named outside f h, of_rule Y1 (file_place_of (outlines_in p) (places.Declared h.0.decl)) f h.4)),
     )

@@ -125,4 +125,4 @@ aliases_are_names p wf k w h =
     (marked_named (alias_mark t) a.1.2 t.type_expr (package_meanings (declared_alone p.shows) p.path p.blocks d.file) (file_at p.path d.file d.outline) a.1.4 rule (names_are_named p.shows p.path p.blocks d.file))
 
 pub aliases_stand_for_names : AliasesStandForNames
-aliases_stand_for_names ps well n source at p is = aliases_are_names p (subst (AllByRecursion Wf_file) (sym is) (trees_keep_rules ps n source well at))
+aliases_stand_for_names ps as_read n source at p is = aliases_are_names p (subst (AllByRecursion Wf_file) (sym is) (trees_keep_rules ps n source as_read.read at))

@@ -7,7 +7,7 @@ use Rattle.go_term_core.specs.declared.term.MemberPlace.TheVariants as places
 use Rattle.go_term_core.specs.Terms.{Term}
 use Rattle.go_graph_core.specs.Packages.{IsAssembled}
 use Rattle.go_graph_core.specs.Plans.{PlanModel, IsPlan}
-use Rattle.go_graph_core.specs.Workspaces.{PackageModel, IsWorkspace}
+use Rattle.go_graph_core.specs.Workspaces.{PackageModel, IsReadWorkspace}
 use Rattle.go_graph_core.proofs.PlanLaws.{has_plan}
 use Rattle.go_select_core.specs.type_core.Built.{IsBuilt, direct_keys}
 use Rattle.go_body_core.specs.table_core.Entries.{Entry, find_entry}
@@ -59,7 +59,7 @@ types_among p others far own faults same t = record {
       same t.faults_are;
 }
 
-module _ (loops : LoopsAreFaults) (local : CheckIsLocal) (bind : ImportsBindTheirs) (ps : List PackageModel) (ws : List (Option WholeOf)) (well : IsWorkspace ps) (all : AreWhole ps ws) (plan : PlanModel) (planned : IsPlan ps plan) where
+module _ (loops : LoopsAreFaults) (local : CheckIsLocal) (bind : ImportsBindTheirs) (ps : List PackageModel) (ws : List (Option WholeOf)) (as_read : IsReadWorkspace ps) (all : AreWhole ps ws) (plan : PlanModel) (planned : IsPlan ps plan) where
   module _ (k : ℕ) (within : k < length plan.order) (p : PackageModel) (w : WholeOf) (numbered : slice_get ps (slice_index plan.order k) ≡ Some p) (h : IsWhole ps ws (slice_index plan.order k) p w) where
     abbrev n : ℕ
     n = slice_index plan.order k
@@ -80,15 +80,15 @@ module _ (loops : LoopsAreFaults) (local : CheckIsLocal) (bind : ImportsBindThei
     abbrev in_front : PackageIn
     in_front = with_others seen fewer
 
-    earlier : (j : ℕ) → j < k → IsToldTo local bind ps ws well all plan planned j
-    earlier j less = told_to local bind ps ws well all plan planned j (omega (arith, less, within))
+    earlier : (j : ℕ) → j < k → IsToldTo local bind ps ws as_read.well all plan planned j
+    earlier j less = told_to local bind ps ws as_read.well all plan planned j (omega (arith, less, within))
 
     far_alike : (x : DeclKey) → Contains paths x.path → far_type others x ≡ far_type fewer x
     far_alike x at = ap (λ (o : Option PackageFacesModel). face_type (face_in_some o x.decl)) (sym (cut_in paths others x.path (among_one paths x.path (among_from paths x.path at))))
 
     same_meanings : package_meanings (shows_in seen) p.0 w.blocks ≡ package_meanings (shows_in in_front) p.0 w.blocks
     same_meanings =
-        meanings_same (Contains paths) p.0 w.blocks (outlines_in seen) (own local bind ps ws well all plan planned k within earlier p w numbered h) (binds local bind ps ws well all plan planned k within earlier p w numbered h)
+        meanings_same (Contains paths) p.0 w.blocks (outlines_in seen) (own local bind ps ws as_read.well all plan planned k within earlier p w numbered h) (binds local bind ps ws as_read.well all plan planned k within earlier p w numbered h)
         seen.shows seen.shows (λ q name at. refl) (far_type others) (far_type fewer) far_alike
 
     -- what is told of others, as what they show
@@ -103,17 +103,17 @@ module _ (loops : LoopsAreFaults) (local : CheckIsLocal) (bind : ImportsBindThei
         let less : t.0 < k = omega (arith, low, before) in
         let a = assembled_by ps plan planned t.0 t.2 in
         let number : slice_index plan.order t.0 ≡ n =
-        one_place ps (slice_index plan.order t.0) n (a.0, a.1) p well a.2 numbered (sym (path_is ps (slice_index plan.order t.0) (a.0, a.1) a.2) ∙ (t.3 ∙ same)) in
+        one_place ps (slice_index plan.order t.0) n (a.0, a.1) p as_read.well a.2 numbered (sym (path_is ps (slice_index plan.order t.0) (a.0, a.1) a.2) ∙ (t.3 ∙ same)) in
         places_differ plan.order t.0 k planned.once less within number
 
-    earlier_apart : (x j : DeclKey) → Earlier local bind ps ws well all plan planned k x.path → Contains (direct_keys (face_type (face_in others x.path x.decl))) j → j.path ≡ p.0 → ⊥
+    earlier_apart : (x j : DeclKey) → Earlier local bind ps ws as_read.well all plan planned k x.path → Contains (direct_keys (face_type (face_in others x.path x.decl))) j → j.path ≡ p.0 → ⊥
     earlier_apart x j e h_uses same =
         let ss = tell (beside n ws) in
-        let mine = well_mine local bind ps ws well all plan planned k within earlier p w numbered h in
+        let mine = well_mine local bind ps ws as_read.well all plan planned k within earlier p w numbered h in
         let is : face_in others x.path x.decl ≡ face_by (told_of e.whole).faces x.decl =
         others_told x
         ∙ (ap (λ (path : List ℕ). face_in (faces_told ss) path x.decl) (sym e.is)
-        ∙ (views_tell ss (told_of e.whole) mine.apart mine.own (in_mine local bind ps ws well all plan planned k within earlier p w numbered h x.path e)).declared x.decl) in
+        ∙ (views_tell ss (told_of e.whole) mine.apart mine.own (in_mine local bind ps ws as_read.well all plan planned k within earlier p w numbered h x.path e)).declared x.decl) in
         let u = face_uses (face_by (told_of e.whole).faces x.decl) j (subst (λ (o : Option TheFace). Contains (direct_keys (face_type o)) j) is h_uses) in
         not_up_to e.place j.path e.before (e.inside.faces x.decl u.0 j u.1 u.2) same
 
@@ -123,7 +123,7 @@ module _ (loops : LoopsAreFaults) (local : CheckIsLocal) (bind : ImportsBindThei
         by : (b : Bool) → is_one_of paths x.path ≡ b → ⊥
         by true is =
             let here : far_type fewer x ≡ face_type (face_in others x.path x.decl) = ap (λ (o : Option PackageFacesModel). face_type (face_in_some o x.decl)) (cut_in paths others x.path is) in
-            elim (found local bind ps ws well all plan planned k within earlier p w numbered h x.path (among_to paths x.path (one_among paths x.path is))) [
+            elim (found local bind ps ws as_read.well all plan planned k within earlier p w numbered h x.path (among_to paths x.path (one_among paths x.path is))) [
               | inl e ↦ earlier_apart x j e (subst (λ (t : Term). Contains (direct_keys t) j) here uses) same
               | inr mine ↦ apart mine
             ]
@@ -134,16 +134,16 @@ module _ (loops : LoopsAreFaults) (local : CheckIsLocal) (bind : ImportsBindThei
         let far = types_beside n ws in
         let faults = h.checked.type_faults in
         let types = types_among seen fewer far w.checked.types faults same_meanings h.checked.types in
-        let named = aliases_are_names in_front (trees_keep_rules ps n p well numbered) in (
+        let named = aliases_are_names in_front (trees_keep_rules ps n p as_read.read numbered) in (
           (λ x. loops.only in_front far w.checked.types faults types named outside f x.0 x.1),
           (λ x. (loops.found in_front far w.checked.types faults types named outside f x, of_rule Y1 (file_place_of (outlines_in seen) (places.Declared x.0.decl)) f x.4)),
         )
 
 pub circles_are_faults_in_all : LoopsAreFaults → CheckIsLocal → ImportsBindTheirs → CirclesAreFaultsInAll
-circles_are_faults_in_all loops local bind ps ws well all n p w numbered there h f =
-    let plan = has_plan ps well in
+circles_are_faults_in_all loops local bind ps ws as_read all n p w numbered there h f =
+    let plan = has_plan ps as_read.well in
     let assembled : IsAssembled p.1 = subst (λ (q : PackageModel). IsAssembled q.1) h.source (whole_back ps ws all n w there).assembled in
     let place = place_of ps plan.0 plan.1 n (p.0, p.1, numbered, assembled) in
     subst (λ m. (at : slice_get ps m ≡ Some p) (g : IsWhole ps ws m p w) → (Contains g.checked.type_faults f × (f.rule ≡ Y1)) ↔ IsOfLoop (package_among ws m p g.imported w.blocks) f) place.2
-    (λ at g. circles loops local bind ps ws well all plan.0 plan.1 place.0 place.1 p w at g f)
+    (λ at g. circles loops local bind ps ws as_read all plan.0 plan.1 place.0 place.1 p w at g f)
     numbered h

@@ -1,18 +1,15 @@
 -- A workspace has parts, and a snapshot.
-use Rattle.std.proofs.Common.{◌≡◌, ℕ, zero, suc, ◌+◌, ◌<◌, ◌≤◌, List, [], ◌∷◌, ◌++◌, length, take, Option, Some, None, Result, Ok, Err, refl, subst, arith}
-use Rattle.std.specs.Prelude.{replicate, slice_get, slice_index, slice_set}
+use Rattle.std.proofs.Common.{◌≡◌, ℕ, zero, suc, ◌+◌, ◌<◌, ◌≤◌, List, [], ◌∷◌, ◌++◌, length, take, Option, Some, None, refl, subst, arith}
+use Rattle.std.specs.Prelude.{replicate, slice_index, slice_set}
 use Rattle.std.proofs.lemmas.List.{take_all}
-use Rattle.std.proofs.lemmas.Option.{get_or_from_slice_get, slice_get_within}
+use Rattle.std.proofs.lemmas.Option.{slice_get_within}
 use Rattle.go_tree_nodes.specs.Trees.{FileTree}
-use Rattle.go_graph_core.specs.declared.assembly.KFault.{KFault}
 use Rattle.go_graph_core.specs.declared.imports.ImportAt.{ImportAt}
 use Rattle.go_graph_core.specs.declared.imports.ImportOutcome.{ImportOutcome}
 use Rattle.go_graph_core.specs.declared.imports.ImportOutcome.TheVariants as outcomes
-use Rattle.go_graph_core.specs.Packages.{IsAssembly, Trees, trees_of}
+use Rattle.go_graph_core.specs.Packages.{Trees, trees_of}
 use Rattle.go_graph_core.specs.Plans.{IsPlan, PlanModel}
-use Rattle.go_graph_core.specs.Workspaces.{IsPackage, IsWorkspace, PackageModel}
-use Rattle.go_graph_core.proofs.AssemblyLaws.{has_assembly}
-use Rattle.go_graph_core.proofs.Places.{some_item}
+use Rattle.go_graph_core.specs.Workspaces.{IsWorkspace, PackageModel}
 use Rattle.go_graph_core.proofs.PlanLaws.{has_plan}
 use Rattle.go_names_core.specs.block_core.declared.imports.Imported.{Imported}
 use Rattle.go_names_core.specs.block_core.declared.imports.Imported.TheVariants as given
@@ -32,13 +29,9 @@ use Rattle.go_snap_core.proofs.WholeWorkspaceInputting.{package_comes, package_r
 use Rattle.go_snap_core.proofs.WholeWorkspaceMaking.{all_made, none_made, one_more}
 use Rattle.go_snap_core.proofs.WholeWorkspaceNext.{next_assembled, next_reached}
 use Rattle.go_snap_core.proofs.WholeWorkspacePartsWhole.{parts_are_whole}
-use Rattle.go_snap_core.specs.declared.fault.PlacedFault.{PlacedFault}
-use Rattle.go_snap_core.specs.Faults.{AreFaults}
 use Rattle.go_snap_core.specs.Snapshots.{contents_of}
-use Rattle.go_snap_core.specs.mirrors.Reports.{AddsUnassembled, AreFaultsTo, assembly_fault, part_faults, text_faults}
-use Rattle.go_snap_core.proofs.Faulty.{all_added, as_many, none_added, none_assembled, part_added}
-use Rattle.go_snap_core.proofs.Reporting.{no_faults}
 use Rattle.go_workspace_laws.specs.existence.Laws.{WorkspacesHaveParts, WorkspacesHaveSnapshots}
+use Rattle.go_workspace_laws.proofs.ExistenceFaults.{all_faults}
 use Rattle.go_workspace_laws.proofs.ExistenceParts.{inputs_have_parts}
 use Rattle.go_workspace_laws.proofs.ExistenceReached.{numbers, numbers_are, numbers_rise}
 use Rattle.go_workspace_laws.proofs.ExistenceTables.{partners, zipped_in}
@@ -125,42 +118,11 @@ module _ (written : ValuesAreAsWritten) (ps : List PackageModel) (well : IsWorks
 pub workspaces_have_parts : ValuesAreAsWritten → WorkspacesHaveParts
 workspaces_have_parts written ps well = (let plan = has_plan ps well in parts_of written ps well plan.0 plan.1)
 
--- faults, package by package
-
-module _ (ps : List PackageModel) (parts : List (Option PartModel)) (well : IsWorkspace ps) (made : AreParts ps parts) where
-  some_file : (n : ℕ) (p : PackageModel) → slice_get ps n ≡ Some p → 0 < length p.1
-  some_file n p at = (subst IsPackage (get_or_from_slice_get ps n p p at) (well.packages n p (slice_get_within ps n p at))).some
-
-  -- of a package whose files do not assemble
-  unassembled : (n : ℕ) (p : PackageModel) (old : List PlacedFault) → slice_get ps n ≡ Some p → slice_get parts n ≡ Some None → (a : Result Trees KFault) → IsAssembly p.1 a → (new : List PlacedFault) × AddsUnassembled n p.1 old new
-  unassembled n p old at none (Ok trees) h = absurd (none_assembled ps parts well made n p at none h.1)
-  unassembled n p old at none (Err fault) h =
-      let more : List PlacedFault = assembly_fault n fault ∷ text_faults n 0 p.1 in
-      (old ++ more, record { more = more; are = record { fault = fault; assembly = h; is = refl }; is = refl })
-
-  one_package : (n : ℕ) (p : PackageModel) (x : Option PartModel) (old : List PlacedFault) → slice_get ps n ≡ Some p → slice_get parts n ≡ Some x → AreFaultsTo ps (contents_of parts) n old → (new : List PlacedFault) × AreFaultsTo ps (contents_of parts) (n + 1) new
-  one_package n p None old at there h =
-      let answer = has_assembly p.1 (some_file n p at) in
-      let new = unassembled n p old at there answer.0 answer.1 in
-      (new.0, none_added ps parts well made n p old new.0 at there h new.1)
-  one_package n p (Some part) old at there h = (old ++ part_faults n 0 part.content.files, part_added ps parts well made n p part old (old ++ part_faults n 0 part.content.files) at there h refl)
-
-  faults_to : (n : ℕ) → n ≤ length ps → (faults : List PlacedFault) × AreFaultsTo ps (contents_of parts) n faults
-  faults_to zero le = ([], no_faults ps (contents_of parts))
-  faults_to (suc n) le =
-      let old = faults_to n (omega (arith, le)) in
-      let p = some_item ps n (omega (arith, le)) in
-      let x = some_item parts n (let many = as_many ps parts well made in omega (arith, le, many)) in
-      let new = one_package n p.0 x.0 old.0 p.1 x.1 old.1 in
-      let more : n + 1 ≡ suc n = omega arith in
-      (new.0, subst (λ m. AreFaultsTo ps (contents_of parts) m new.0) more new.1)
-
-  pub all_faults : (faults : List PlacedFault) × AreFaults ps (contents_of parts) faults
-  all_faults = (let all = faults_to (length ps) (omega arith) in (all.0, all_added ps parts well made all.0 (length ps) refl all.1))
+-- and a snapshot
 
 pub workspaces_have_snapshots : ValuesAreAsWritten → CheckIsLocal → ImportsBindTheirs → WorkspacesHaveSnapshots
 workspaces_have_snapshots written local bind ps well =
     let parts = workspaces_have_parts written ps well in
     let whole = parts_are_whole local bind ps parts.0 well parts.1 in
-    let faults = all_faults ps parts.0 well parts.1 in
+    let faults = all_faults ps (contents_of parts.0) well in
     (parts.0, faults.0, record { made = parts.1; whole = whole.0; is_whole = whole.1; parts_are = whole.2; faults_are = faults.1 })

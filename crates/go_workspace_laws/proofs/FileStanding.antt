@@ -12,7 +12,7 @@ use Rattle.go_graph_core.specs.declared.imports.ImportOutcome.{ImportOutcome}
 use Rattle.go_graph_core.specs.declared.imports.ImportOutcome.TheVariants as outcomes
 use Rattle.go_graph_core.specs.Imports.{IsEdge, IsOutcome, edge}
 use Rattle.go_graph_core.specs.Sources.{SourceModel, IsPlacedSource, IsRead}
-use Rattle.go_graph_core.specs.Workspaces.{AreAllRead, IsPackage, IsWorkspace}
+use Rattle.go_graph_core.specs.Workspaces.{AreAllRead, IsPackage, IsReadWorkspace}
 use Rattle.go_graph_core.proofs.Contents.{placed_content}
 use Rattle.go_names_core.specs.block_core.declared.imports.Imported.{Imported}
 use Rattle.go_names_core.specs.block_core.declared.imports.Imported.TheVariants as given
@@ -46,11 +46,13 @@ is_path =
       subst (All IsElement) (sym whole) (All-cons IsElement the_path [] is_element (All-nil IsElement)),
     )
 
-pub is_workspace : (s : SourceModel) → IsRead s → IsWorkspace (workspace_alone s)
+pub is_workspace : (s : SourceModel) → IsRead s → IsReadWorkspace (workspace_alone s)
 unfolding IsStrictlySortedBy
 is_workspace s read = record {
-  order = (tt, tt);
-  packages = All-cons IsPackage (package_alone s) [] (record { path = is_path; some = omega arith; order = (tt, tt); contents = All-cons IsPlacedSource s [] (placed_content s.text s.content read) (All-nil IsPlacedSource) }) (All-nil IsPackage);
+  well = record {
+    order = (tt, tt);
+    packages = All-cons IsPackage (package_alone s) [] (record { path = is_path; some = omega arith; order = (tt, tt); contents = All-cons IsPlacedSource s [] (placed_content s.text s.content read) (All-nil IsPlacedSource) }) (All-nil IsPackage);
+  };
   read = All-cons AreAllRead (package_alone s) [] (All-cons IsRead s [] read (All-nil IsRead)) (All-nil AreAllRead);
 }
 

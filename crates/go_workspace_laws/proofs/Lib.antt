@@ -52,6 +52,7 @@ pub mod FoldingOperators
 pub mod FoldingWords
 mod ExistenceChains
 mod ExistenceChecks
+mod ExistenceFaults
 mod ExistenceFilling
 mod ExistenceLooped
 mod ExistenceLoops

@@ -36,7 +36,7 @@ module _ (whole : PartsAreWhole) where
       → AreFaults (workspace_alone (source the_name bytes c)) (contents_of parts) faults → HasSnapshot (source the_name bytes c)
   made bytes c parts faults read all are =
       let s : SourceModel = source the_name bytes c in
-      let w = whole (workspace_alone s) parts (is_workspace s read) all in
+      let w = whole (workspace_alone s) parts (is_workspace s read).well all in
       (parts, (faults, record { made = all; whole = w.0; is_whole = w.1; parts_are = w.2; faults_are = are }))
 
   tree_made : (bytes : List ℕ) (e : SynFault) → IsContent bytes (Err e) → HasSnapshot (source the_name bytes (Err e))

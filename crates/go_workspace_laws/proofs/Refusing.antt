@@ -95,16 +95,16 @@ module _ (bytes : List ℕ) (c : Result FileTree SynFault) (read : IsContent byt
 
   pub faults_of_none : (k : KFault) → parts ≡ None ∷ [] → IsAssembly (file ∷ []) (Err k) → AreFaults ps (contents_of parts) (assembly_fault 0 k ∷ text_faults 0 0 (file ∷ []))
   faults_of_none k none why =
-      let well = is_workspace file read in
+      let of_all = (is_workspace file read).read in
       let more : List PlacedFault = assembly_fault 0 k ∷ text_faults 0 0 (file ∷ []) in
       let adds : AddsUnassembled 0 (file ∷ []) [] more = record { more = more; are = record { fault = k; assembly = why; is = refl }; is = refl } in
-      all_added ps parts well all more (0 + 1) (omega arith) (none_added ps parts well all 0 (package_alone file) [] more refl (ap (λ l. slice_get l 0) none) (no_faults ps (contents_of parts)) adds)
+      all_added ps parts of_all all more (0 + 1) (omega arith) (none_added ps parts of_all all 0 (package_alone file) [] more refl (ap (λ l. slice_get l 0) none) (no_faults ps (contents_of parts)) adds)
 
   pub faults_of_part : (part : PartModel) → parts ≡ Some part ∷ [] → AreFaults ps (contents_of parts) (part_faults 0 0 part.content.files)
   faults_of_part part some =
-      let well = is_workspace file read in
-      all_added ps parts well all (part_faults 0 0 part.content.files) (0 + 1) (omega arith)
-      (part_added ps parts well all 0 (package_alone file) part [] (part_faults 0 0 part.content.files) refl (ap (λ l. slice_get l 0) some) (no_faults ps (contents_of parts)) refl)
+      let of_all = (is_workspace file read).read in
+      all_added ps parts of_all all (part_faults 0 0 part.content.files) (0 + 1) (omega arith)
+      (part_added ps parts of_all all 0 (package_alone file) part [] (part_faults 0 0 part.content.files) refl (ap (λ l. slice_get l 0) some) (no_faults ps (contents_of parts)) refl)
 
 -- a package that has no part
 

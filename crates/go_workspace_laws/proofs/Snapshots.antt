@@ -2,7 +2,7 @@
 use Rattle.std.proofs.Common.{◌≡◌, ℕ, suc, List, [], ◌∷◌, All, Option, Some, None, inl, inr, refl, ap}
 use Rattle.std.specs.Prelude.{slice_get}
 use Rattle.std.proofs.lemmas.List.Elements.{All-nil, All-cons, All-append}
-use Rattle.go_graph_core.specs.Workspaces.{PackageModel, IsWorkspace}
+use Rattle.go_graph_core.specs.Workspaces.{PackageModel, IsReadWorkspace}
 use Rattle.govisd_resolve.specs.handle_core.Declarations.{Declaration}
 use Rattle.go_body_core.specs.typexpr_core.EntryAmong.{Among, among_to}
 use Rattle.go_report_core.specs.summary_core.Summaries.{SummaryModel}
@@ -38,27 +38,27 @@ module _ (Q : ObjectOf Declaration → Type 0) (all : List SummaryModel) where
       All-append Q (if_there (object_over all p.input p.content)) (objects_over all ps) (one_all (object_over all p.input p.content) (object_over all p.input p.content) refl (step p (inl refl)))
       (objects_all ps (λ q a. step q (inr a)))
 
-module _ (ps : List PackageModel) (parts : List (Option PartModel)) (well : IsWorkspace ps) (made : AreParts ps parts) (n : ℕ) (part : PartModel) (there : slice_get parts n ≡ Some (Some part)) where
+module _ (ps : List PackageModel) (parts : List (Option PartModel)) (as_read : IsReadWorkspace ps) (made : AreParts ps parts) (n : ℕ) (part : PartModel) (there : slice_get parts n ≡ Some (Some part)) where
   abbrev right : AreRight ps parts
   right = all_right ps parts made
 
   has_input : IsInput part.input
-  has_input = is_input ps parts well right n part there
+  has_input = is_input ps parts as_read.well right n part there
 
   of_grammar : AreOfGrammar part.input
   of_grammar = (let r = right n part there in
       record {
-        grammar = all_keep_rules part.input.source.1 (read_there ps n part.input.source well r.numbered);
-        placed = trees_are_placed ps n part.input.source well r.numbered;
+        grammar = all_keep_rules part.input.source.1 (read_there ps n part.input.source as_read.read r.numbered);
+        placed = trees_are_placed ps n part.input.source as_read.well r.numbered;
       })
 
 pub sound_objects : ObjectsAreWellFormed → FunctionsReferToTheirBodies → SnapshotsHaveSoundObjects
-sound_objects formed refer ps parts faults well h =
+sound_objects formed refer ps parts faults as_read h =
     objects_all (IsSoundObject (somes parts)) (told_by (somes parts)) (somes parts)
     (λ part among o is. (let k = some_at parts part among in
     let made = (all_right ps parts h.made k.0 part k.1).made in
-    let input = has_input ps parts well h.made k.0 part k.1 in
-    let grammar = of_grammar ps parts well h.made k.0 part k.1 in
+    let input = has_input ps parts as_read h.made k.0 part k.1 in
+    let grammar = of_grammar ps parts as_read h.made k.0 part k.1 in
     record {
       part = part;
       there = among_to (somes parts) part among;

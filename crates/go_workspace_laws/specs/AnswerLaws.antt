@@ -9,7 +9,7 @@ use Rattle.go_report_core.specs.expr_core.Laws.{use_place, occurrence_place}
 use Rattle.go_graph_core.specs.Imports.{IsNumbered}
 use Rattle.go_graph_core.specs.Packages.{IsAssembled}
 use Rattle.go_graph_core.specs.Sources.{SourceModel}
-use Rattle.go_graph_core.specs.Workspaces.{PackageModel, IsWorkspace}
+use Rattle.go_graph_core.specs.Workspaces.{PackageModel, IsReadWorkspace}
 use Rattle.go_emit_core.specs.package_core.PreparePackages.{trees_in}
 use Rattle.go_report_core.specs.usage.Used.{FileUse}
 use Rattle.go_emit_core.specs.package_core.PackagePartParts.{FileOf, PartModel}
@@ -19,7 +19,7 @@ use Rattle.go_snap_core.specs.Snapshots.{IsAnswerAt, IsSnapshot}
 -- what the part of a package has of a file stands where the file's occurrences stand, with their roles and in their order
 abbrev pub PlacesAreOfOccurrences : Type 0
 PlacesAreOfOccurrences =
-    (ps : List PackageModel) (parts : List (Option PartModel)) (faults : List PlacedFault) → IsWorkspace ps → IsSnapshot ps parts faults
+    (ps : List PackageModel) (parts : List (Option PartModel)) (faults : List PlacedFault) → IsReadWorkspace ps → IsSnapshot ps parts faults
     → (n : ℕ) (p : PartModel) → slice_get parts n ≡ Some (Some p)
     → (m : ℕ) (t : FileTree) (f : FileOf) → slice_get (trees_in p.input.source) m ≡ Some t → slice_get p.content.files m ≡ Some f
     → map use_place f.answers.uses ≡ map occurrence_place (file_occs t)
@@ -57,5 +57,5 @@ pub record AnswersOccurrences (ps : List PackageModel) (parts : List (Option Par
 -- the occurrences of the files of assembled packages have each one answer, and nothing else has one
 abbrev pub OutcomesAreOfOccurrences : Type 0
 OutcomesAreOfOccurrences =
-    (ps : List PackageModel) (parts : List (Option PartModel)) (faults : List PlacedFault) → IsWorkspace ps → IsSnapshot ps parts faults
+    (ps : List PackageModel) (parts : List (Option PartModel)) (faults : List PlacedFault) → IsReadWorkspace ps → IsSnapshot ps parts faults
     → (path name : List ℕ) (n : ℕ) → AnswersOccurrences ps parts path name n

@@ -7,7 +7,7 @@ use Rattle.go_tree_nodes.specs.Trees.{FileTree, Func, FuncTree, TopTree}
 use Rattle.go_tree_core.specs.declared.occurrence.Occ.{Occ}
 use Rattle.go_tree_core.specs.declared.occurrence.Role.TheVariants as roles
 use Rattle.go_tree_core.specs.Occurrences.{call_at, lines_occs}
-use Rattle.go_graph_core.specs.Workspaces.{PackageModel, IsWorkspace}
+use Rattle.go_graph_core.specs.Workspaces.{PackageModel, IsReadWorkspace}
 use Rattle.govisd_resolve.specs.handle_core.Declarations.{Declaration}
 use Rattle.go_body_core.specs.Notes.{TheUse}
 use Rattle.go_emit_core.specs.package_core.PreparePackages.{trees_in}
@@ -114,4 +114,4 @@ pub record IsSoundObject (parts : List PartModel) (o : ObjectOf Declaration) : T
 -- each object of a snapshot is so
 abbrev pub SnapshotsHaveSoundObjects : Type 0
 SnapshotsHaveSoundObjects =
-    (ps : List PackageModel) (parts : List (Option PartModel)) (faults : List PlacedFault) → IsWorkspace ps → IsSnapshot ps parts faults → All (IsSoundObject (somes parts)) (objects_of (somes parts))
+    (ps : List PackageModel) (parts : List (Option PartModel)) (faults : List PlacedFault) → IsReadWorkspace ps → IsSnapshot ps parts faults → All (IsSoundObject (somes parts)) (objects_of (somes parts))

@@ -1,5 +1,5 @@
 -- What runs of `script` and `serve` do.
-use Rattle.std.proofs.Common.{◌≡◌, ◌≢◌, ◌∙◌, ◌⊎◌, inl, inr, ℕ, List, [], ◌∷◌, Option, None, Result, Ok, Err, refl, ap, ap₂, subst}
+use Rattle.std.proofs.Common.{◌≡◌, ◌≢◌, ◌∙◌, ◌⊎◌, inl, inr, ℕ, Bool, false, List, [], ◌∷◌, Option, None, Result, Ok, Err, refl, ap, ap₂, subst}
 use Rattle.std.specs.Prelude.{codes}
 use Rattle.std.specs.Io.KnownBytes.{Keeps}
 use Rattle.clap.specs.Walk.{Text}
@@ -9,9 +9,10 @@ use Rattle.clap.proofs.OnLiterals.{clap_on_literals}
 use Rattle.govisd.specs.declared.program.Ran.{Ran}
 use Rattle.govisd_words.specs.declared.words.ValueOption.{ValueOption}
 use Rattle.govisd_words.specs.declared.words.ValueOption.TheVariants.{Workers}
+use Rattle.govisd_words.specs.declared.words.Waits.{Waits}
 use Rattle.govisd_words.specs.declared.words.Request.{Request}
 use Rattle.govisd_words.specs.declared.words.Request.TheVariants.{Resolve, Explain, Check, Run, Script, Serve, Help, Version, BadValue}
-use Rattle.govisd_words.specs.Asking.{Asks, ToRefuse, ToScript, ToServe, command_line, asked_by_subcommand as asked_by, refusals, said, script_with, serve_with}
+use Rattle.govisd_words.specs.Asking.{Asks, ToRefuse, ToScript, ToServe, command_line, asked_by_subcommand as asked_by, refusals, said, script_with, serve_with, usual_waits}
 use Rattle.govisd.specs.Daemons.{Scripts, Serves}
 use Rattle.govisd.specs.Runs.{Around, Does, RefusesValue, RefusesNowhere, RefusesWorkers, Runs, ScriptsAlone, ScriptsEach, ServesAsTold, ServesEach}
 use Rattle.govisd.specs.Says.{RunsOut}
@@ -22,8 +23,8 @@ use Rattle.govisd.proofs.RunLemmas.{asked, failed, ran_out}
 same_option : (a b : ValueOption) → ToRefuse a ≡ ToRefuse b → a ≡ b
 same_option a b e = cc
 
-same_address : (a b : Text) (m n : ℕ) (i j : Option ℕ) → ToServe a m i ≡ ToServe b n j → a ≡ b
-same_address a b m n i j e = cc
+same_address : (a b : Text) (m n : ℕ) (i j : Option ℕ) (v w : Waits) (s t : Bool) → ToServe a m i v s ≡ ToServe b n j w t → a ≡ b
+same_address a b m n i j v w s t e = cc
 
 -- one run
 module _ (among : Around) (ran : Ran) (given left out out' err err' : Option (List ℕ)) where
@@ -38,16 +39,16 @@ module _ (among : Around) (ran : Ran) (given left out out' err err' : Option (Li
   scripts Version workers is h = absurd (cc)
   scripts (BadValue option) workers is h = absurd (cc)
 
-  serves : (request : Request) (address : Text) (workers : ℕ) (connections : Option ℕ) → said request ≡ ToServe address workers connections → Does among (Ok request) ran given left out out' err err' → Serves address ran err err' × Keeps out out' × Keeps given left
-  serves Resolve address workers connections is h = absurd (cc)
-  serves (Explain rule json) address workers connections is h = absurd (cc)
-  serves (Run order) address workers connections is h = absurd (cc)
-  serves (Check order) address workers connections is h = absurd (cc)
-  serves (Script count) address workers connections is h = absurd (cc)
-  serves (Serve daemon) address workers connections is h = (subst (λ a. Serves a ran err err') (same_address _ address _ workers _ connections is) h.0, h.1, h.2)
-  serves (Help topic) address workers connections is h = absurd (cc)
-  serves Version address workers connections is h = absurd (cc)
-  serves (BadValue option) address workers connections is h = absurd (cc)
+  serves : (request : Request) (address : Text) (workers : ℕ) (connections : Option ℕ) (waits : Waits) (until : Bool) → said request ≡ ToServe address workers connections waits until → Does among (Ok request) ran given left out out' err err' → Serves address ran err err' × Keeps out out' × Keeps given left
+  serves Resolve address workers connections waits until is h = absurd (cc)
+  serves (Explain rule json) address workers connections waits until is h = absurd (cc)
+  serves (Run order) address workers connections waits until is h = absurd (cc)
+  serves (Check order) address workers connections waits until is h = absurd (cc)
+  serves (Script count) address workers connections waits until is h = absurd (cc)
+  serves (Serve daemon) address workers connections waits until is h = (subst (λ a. Serves a ran err err') (same_address _ address _ workers _ connections _ waits _ until is) h.0, h.1, h.2)
+  serves (Help topic) address workers connections waits until is h = absurd (cc)
+  serves Version address workers connections waits until is h = absurd (cc)
+  serves (BadValue option) address workers connections waits until is h = absurd (cc)
 
   refuses : (request : Request) (option : ValueOption) → said request ≡ ToRefuse option → Does among (Ok request) ran given left out out' err err' → RefusesValue option ran err err' × Keeps out out' × Keeps given left
   refuses Resolve option is h = absurd (cc)
@@ -77,8 +78,8 @@ module _ (among : Around) (ran : Ran) (given left out out' err err' : Option (Li
           ((inl h.0, h.1), h.2)
       by (Err e) asks did = ((inr (ran_out among ran given left out out' err err' e (failed words e none asks) did.0), did.1), did.2)
 
-  served : (words : List Text) (address : Text) (workers : ℕ) (connections : Option ℕ) → refusals words ≡ [] → asked_by words ≡ ToServe address workers connections → Runs among words ran given left out out' err err' → ((Serves address ran err err' ⊎ RunsOut ran err err') × Keeps out out') × Keeps given left
-  served words address workers connections none is r = comes words (Serves address ran err err') (λ request asks did. serves request address workers connections (asks ∙ is) did) none r
+  served : (words : List Text) (address : Text) (workers : ℕ) (connections : Option ℕ) (waits : Waits) (until : Bool) → refusals words ≡ [] → asked_by words ≡ ToServe address workers connections waits until → Runs among words ran given left out out' err err' → ((Serves address ran err err' ⊎ RunsOut ran err err') × Keeps out out') × Keeps given left
+  served words address workers connections waits until none is r = comes words (Serves address ran err err') (λ request asks did. serves request address workers connections waits until (asks ∙ is) did) none r
 
   pub count_refused : (words : List Text) (option : ValueOption) → refusals words ≡ [] → asked_by words ≡ ToRefuse option → Runs among words ran given left out out' err err' → ((RefusesValue option ran err err' ⊎ RunsOut ran err err') × Keeps out out') × Keeps given left
   count_refused words option none is r = comes words (RefusesValue option ran err err') (λ request asks did. refuses request option (asks ∙ is) did) none r
@@ -117,11 +118,11 @@ bad_workers among program count plain none ran given left out out' err err' r =
 
 pub serves_each : (among : Around) → ServesEach among
 serves_each among program address plain ran given left out out' err err' r =
-    served among ran given left out out' err err' (command_line program (codes "serve" ∷ (codes "--listen" ∷ (address ∷ [])))) address 1 None (serve_at program address plain) (serve_at_named program address plain) r
+    served among ran given left out out' err err' (command_line program (codes "serve" ∷ (codes "--listen" ∷ (address ∷ [])))) address 1 None usual_waits false (serve_at program address plain) (serve_at_named program address plain) r
 
 pub serves_told : (among : Around) → ServesAsTold among
 serves_told among program address count most workers connections plain plain' plain'' is is' ran given left out out' err err' r =
-    served among ran given left out out' err err' (command_line program (codes "serve" ∷ (codes "--listen" ∷ (address ∷ (codes "--workers" ∷ (count ∷ (codes "--connections" ∷ (most ∷ [])))))))) address workers connections (serve_told program address count most plain plain' plain'') (serve_told_named program address count most plain plain' plain'' ∙ ap₂ (λ w k. serve_with address w k) is is') r
+    served among ran given left out out' err err' (command_line program (codes "serve" ∷ (codes "--listen" ∷ (address ∷ (codes "--workers" ∷ (count ∷ (codes "--connections" ∷ (most ∷ [])))))))) address workers connections usual_waits false (serve_told program address count most plain plain' plain'') (serve_told_named program address count most plain plain' plain'' ∙ ap₂ (λ w k. serve_with address w k (Ok usual_waits) false) is is') r
 
 pub nowhere : (among : Around) → RefusesNowhere among
 nowhere among program ran given left out out' err err' r =

@@ -45,14 +45,14 @@ same_told a b i j e = cc
 same_topic : (a b : Option Text) → ToHelp a ≡ ToHelp b → a ≡ b
 same_topic a b e = cc
 
-same_folder : (a b : Text) (p q : Option Text) (i j : Style) → ToCheck a p i ≡ ToCheck b q j → a ≡ b
-same_folder a b p q i j e = cc
+same_folder : (a b : Text) (p q : Option Text) (i j : Style) (v w : Option ℕ) → ToCheck a p i v ≡ ToCheck b q j w → a ≡ b
+same_folder a b p q i j v w e = cc
 
-same_path : (a b : Text) (p q : Option Text) (i j : Style) → ToCheck a p i ≡ ToCheck b q j → p ≡ q
-same_path a b p q i j e = cc
+same_path : (a b : Text) (p q : Option Text) (i j : Style) (v w : Option ℕ) → ToCheck a p i v ≡ ToCheck b q j w → p ≡ q
+same_path a b p q i j v w e = cc
 
-same_form : (a b : Text) (p q : Option Text) (i j : Style) → ToCheck a p i ≡ ToCheck b q j → i ≡ j
-same_form a b p q i j e = cc
+same_form : (a b : Text) (p q : Option Text) (i j : Style) (v w : Option ℕ) → ToCheck a p i v ≡ ToCheck b q j w → i ≡ j
+same_form a b p q i j v w e = cc
 
 -- one run
 module _ (among : Around) (ran : Ran) (given left out out' err err' : Option (List ℕ)) where
@@ -80,20 +80,20 @@ module _ (among : Around) (ran : Ran) (given left out out' err err' : Option (Li
   helps (Serve daemon) word is h = absurd (cc)
   helps (BadValue option) word is h = absurd (cc)
 
-  checks : (request : Request) (folder : Text) (path : Option Text) (style : Style) → said request ≡ ToCheck folder path style → Does among (Ok request) ran given left out out' err err' → ChecksFolder among.answers folder style path ran out out' err err' × Keeps given left
-  checks Resolve folder path style is h = absurd (cc)
-  checks (Explain rule json) folder path style is h = absurd (cc)
-  checks (Run order) folder path style is h = absurd (cc)
-  checks (Check order) folder path style is h =
+  checks : (request : Request) (folder : Text) (path : Option Text) (style : Style) (workers : Option ℕ) → said request ≡ ToCheck folder path style workers → Does among (Ok request) ran given left out out' err err' → ChecksFolder among.answers folder style path ran out out' err err' × Keeps given left
+  checks Resolve folder path style workers is h = absurd (cc)
+  checks (Explain rule json) folder path style workers is h = absurd (cc)
+  checks (Run order) folder path style workers is h = absurd (cc)
+  checks (Check order) folder path style workers is h =
       let asked = option_map (λ word. word.now) order.module_path in
-      let here = subst (λ f. ChecksFolder among.answers f order.style asked ran out out' err err') (same_folder _ folder _ path _ style is) h.0 in
-      let formed = subst (λ j. ChecksFolder among.answers folder j asked ran out out' err err') (same_form _ folder _ path _ style is) here in
-      (subst (λ p. ChecksFolder among.answers folder style p ran out out' err err') (same_path _ folder _ path _ style is) formed, h.1)
-  checks (Help topic) folder path style is h = absurd (cc)
-  checks Version folder path style is h = absurd (cc)
-  checks (Script workers) folder path style is h = absurd (cc)
-  checks (Serve daemon) folder path style is h = absurd (cc)
-  checks (BadValue option) folder path style is h = absurd (cc)
+      let here = subst (λ f. ChecksFolder among.answers f order.style asked ran out out' err err') (same_folder _ folder _ path _ style _ workers is) h.0 in
+      let formed = subst (λ j. ChecksFolder among.answers folder j asked ran out out' err err') (same_form _ folder _ path _ style _ workers is) here in
+      (subst (λ p. ChecksFolder among.answers folder style p ran out out' err err') (same_path _ folder _ path _ style _ workers is) formed, h.1)
+  checks (Help topic) folder path style workers is h = absurd (cc)
+  checks Version folder path style workers is h = absurd (cc)
+  checks (Script count) folder path style workers is h = absurd (cc)
+  checks (Serve daemon) folder path style workers is h = absurd (cc)
+  checks (BadValue option) folder path style workers is h = absurd (cc)
 
   pub ran_out : (e : Error) → kind_of e ≡ kind.OutOfMemory → Refuses (kind_of e) ran err err' → RunsOut ran err err'
   ran_out e is h =
@@ -116,8 +116,8 @@ module _ (among : Around) (ran : Ran) (given left out out' err err' : Option (Li
   pub helped : (words : List Text) (word : Option Text) → refusals words ≡ [] → asked_by words ≡ ToHelp word → Runs among words ran given left out out' err err' → (Helps word ran out out' err err' ⊎ (RunsOut ran err err' × Keeps out out')) × Keeps given left
   helped words word none is r = done words (Helps word ran out out' err err') (λ request asks did. helps request word (asks ∙ is) did) none r
 
-  checked : (words : List Text) (folder : Text) (path : Option Text) (style : Style) → refusals words ≡ [] → asked_by words ≡ ToCheck folder path style → Runs among words ran given left out out' err err' → (ChecksFolder among.answers folder style path ran out out' err err' ⊎ (RunsOut ran err err' × Keeps out out')) × Keeps given left
-  checked words folder path style none is r = done words (ChecksFolder among.answers folder style path ran out out' err err') (λ request asks did. checks request folder path style (asks ∙ is) did) none r
+  checked : (words : List Text) (folder : Text) (path : Option Text) (style : Style) (workers : Option ℕ) → refusals words ≡ [] → asked_by words ≡ ToCheck folder path style workers → Runs among words ran given left out out' err err' → (ChecksFolder among.answers folder style path ran out out' err err' ⊎ (RunsOut ran err err' × Keeps out out')) × Keeps given left
+  checked words folder path style workers none is r = done words (ChecksFolder among.answers folder style path ran out out' err err') (λ request asks did. checks request folder path style workers (asks ∙ is) did) none r
 
   found : (json : Bool) (word : Text) (rule : Rule) → rule_of_number word ≡ Some rule → Explains json (Some word) ran out out' err err' ⊎ (RunsOut ran err err' × Keeps out out') → ShowsOrRunsOut (told_text json rule) ran out out' err err'
   found json word rule is (inl h) = subst (λ f. ExplainsFound json word f ran out out' err err') is h
@@ -189,25 +189,25 @@ here : (program : Text) → refusals (command_line program (codes "check" ∷ []
 unfolding clap_on_literals
 here program = refl
 
-here_named : (program : Text) → asked_by (command_line program (codes "check" ∷ [])) ≡ ToCheck (codes ".") None plain_style
+here_named : (program : Text) → asked_by (command_line program (codes "check" ∷ [])) ≡ ToCheck (codes ".") None plain_style None
 unfolding clap_on_literals
 here_named program = refl
 
 pub no_folder : (among : Around) → ChecksHere among
 no_folder among program ran given left out out' err err' r =
-    checked among ran given left out out' err err' (command_line program (codes "check" ∷ [])) (codes ".") None plain_style (here program) (here_named program) r
+    checked among ran given left out out' err err' (command_line program (codes "check" ∷ [])) (codes ".") None plain_style None (here program) (here_named program) r
 
 pub each_folder : (among : Around) → ChecksEach among
 each_folder among program folder plain ran given left out out' err err' r =
-    checked among ran given left out out' err err' (command_line program (codes "check" ∷ (folder ∷ []))) folder None plain_style (check_folder program folder plain) (check_folder_named program folder plain) r
+    checked among ran given left out out' err err' (command_line program (codes "check" ∷ (folder ∷ []))) folder None plain_style None (check_folder program folder plain) (check_folder_named program folder plain) r
 
 pub each_module : (among : Around) → ChecksEachModule among
 each_module among program folder path plain plain' ran given left out out' err err' r =
-    checked among ran given left out out' err err' (command_line program (codes "check" ∷ (folder ∷ (codes "--module" ∷ (path ∷ []))))) folder (Some path) plain_style (check_module program folder path plain plain') (check_module_named program folder path plain plain') r
+    checked among ran given left out out' err err' (command_line program (codes "check" ∷ (folder ∷ (codes "--module" ∷ (path ∷ []))))) folder (Some path) plain_style None (check_module program folder path plain plain') (check_module_named program folder path plain plain') r
 
 pub each_as_json : (among : Around) → ChecksEachAsJson among
 each_as_json among program folder path plain plain' ran given left out out' err err' r =
-    checked among ran given left out out' err err' (command_line program (codes "check" ∷ (folder ∷ (codes "--module" ∷ (path ∷ (codes "--json" ∷ [])))))) folder (Some path) json_style (check_module_json program folder path plain plain') (check_module_json_named program folder path plain plain') r
+    checked among ran given left out out' err err' (command_line program (codes "check" ∷ (folder ∷ (codes "--module" ∷ (path ∷ (codes "--json" ∷ [])))))) folder (Some path) json_style None (check_module_json program folder path plain plain') (check_module_json_named program folder path plain plain') r
 
 pub each_command : (among : Around) → HelpsEach among
 each_command among program name text plain is ran given left out out' err err' r =

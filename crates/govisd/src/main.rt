@@ -4,19 +4,24 @@
 mod daemons;
 mod launches;
 mod program;
+mod watching;
 
+use daemons::Watches;
 use govisd_folders::runs::{RunOrder, run_folder};
 use govisd_folders::{CheckAnswer, Order, check_folder};
 use govisd_words::unread_status;
 use launches::Launches;
 use program::{Checks, run};
-use std::alloc::AllocError;
+use std::alloc::{AllocError, Global};
 use std::io;
 use std::process::ExitCode;
+use std::sync::Arc;
+use std::sync::atomic::AtomicBool;
 use std::thread::Threads;
 use thiserror::Error;
+use watching::watch;
 
-/// The folders of the system, and leave to begin threads that read them.
+/// The folders and the standard input of the system, and leave to begin threads that read them.
 #[derive(Drop)]
 struct Folders<'a, T: Threads> {
     rt: &'a HostRuntime,
@@ -42,6 +47,12 @@ impl<T: Threads> Launches for Folders<'_, T> {
 
     fn launch(&self, order: &RunOrder<'_>) -> Result<CheckAnswer, AllocError> {
         run_folder(self.rt, self.threads, order)
+    }
+}
+
+impl<T: Threads> Watches for Folders<'_, T> {
+    fn watch(&self) -> Result<Arc<AtomicBool, Global>, AllocError> {
+        watch(self.rt.alloc(), self.threads, self.rt.stdin())
     }
 }
 

@@ -8,7 +8,7 @@ ghost use Rattle.govisd_words.specs.Asking.{is_script};
 ghost use Rattle.govisd.specs.Runs.{ChecksEach, ChecksEachAsJson, ChecksEachModule, ChecksFolder, ChecksHere, Does, Explains, Helps, Refuses, RefusesValue, RefusesMade, Resolves, Runs, ShowsText, ShowsMade, ExplainsEach, ExplainsEachAsJson, HelpsAlone, HelpsByFlag, HelpsEach, ListsAll, ListsAllAsJson, RefusesNothing, RefusesNowhere, RefusesOtherCommands, RefusesOthers, RefusesSteps, RefusesWordBehind, RefusesWorkers, ResolvesAlone, RunsAsTold, RunsEach, ScriptsAlone, ScriptsEach, ServesAsTold, ServesEach, TellsVersion, around};
 ghost use Rattle.govisd.specs.Says.{RunsOut, SaysText, SaysUnwritten, WritesAnswer};
 
-use crate::daemons::{script, serve};
+use crate::daemons::{Watches, script, serve};
 use crate::launches::{Launches, launch};
 use clap::Error;
 use clap::error::ErrorKind;
@@ -22,7 +22,7 @@ use govisd_words::{
 use std::alloc::{AllocError, Global};
 use std::convert::AsStr;
 use std::io;
-use std::io::{Read, Write};
+use std::io::{Eprint, Read, Write};
 use std::net::{Net, TcpListener, TcpStream};
 use std::sync::Wait;
 use std::thread::Threads;
@@ -241,8 +241,8 @@ fn refuse_value<E: Write>(err: &mut E, option: ValueOption) -> Ran
 
 // Does what is asked for, but for a script.
 fn answer<
-    C: Checks + Launches,
-    T: Net<Listener = TcpListener, Stream = TcpStream> + Threads + Wait + Clock + Sync,
+    C: Checks + Launches + Watches,
+    T: Net<Listener = TcpListener, Stream = TcpStream> + Threads + Wait + Clock + Eprint + Sync,
     R: Read,
     W: Write,
     E: Write,
@@ -264,7 +264,7 @@ fn answer<
         Request::Explain(word, is_json) => explain_rule(alloc, out, err, word, is_json),
         Request::Check(order) => check(checks, out, err, &order),
         Request::Run(order) => launch(checks, out, err, &order),
-        Request::Serve(daemon) => serve(rt, alloc, err, &daemon),
+        Request::Serve(daemon) => serve(rt, alloc, err, checks, &daemon),
         Request::Help(topic) => help(alloc, out, err, topic),
         Request::Version => show(out, err, version_text()),
         Request::BadValue(option) => refuse_value(err, option),
@@ -276,8 +276,8 @@ fn answer<
 /// first writer, or a refusal. What there is to say beside goes to the second writer.
 pub fn run<
     S: AsStr,
-    C: Checks + Launches,
-    T: Net<Listener = TcpListener, Stream = TcpStream> + Threads + Wait + Clock + Sync,
+    C: Checks + Launches + Watches,
+    T: Net<Listener = TcpListener, Stream = TcpStream> + Threads + Wait + Clock + Eprint + Sync,
     R: Read + Drop,
     W: Write + Drop,
     E: Write,

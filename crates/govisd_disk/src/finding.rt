@@ -436,8 +436,8 @@ pub fn read_folder(
     read_by(rt, &parser, folder, module_path, progress)
 }
 
-/// Reads the Go packages of a folder as [`read_folder`] does. Where there are 65,536 bytes of source and more, several threads parse the files, some megabytes
-/// of source at a time.
+/// Reads the Go packages of a folder as [`read_folder`] does. Where there are 65,536 bytes of source and more, so many workers at most parse the files at once,
+/// some megabytes of source at a time.
 ///
 /// # Errors
 ///
@@ -447,6 +447,7 @@ pub fn read_folder_at_once(
     threads: &impl Threads,
     folder: &str,
     module_path: Option<&str>,
+    workers: usize,
     progress: &mut Progress<'_>,
 ) -> Result<ReadFolder, AllocError>
     ensures { IfOk result (λ r. IsReadOf folder.now (option_map (λ m. m.now) module_path.entry) (read_shown r)) }
@@ -454,6 +455,7 @@ pub fn read_folder_at_once(
     let parser = AtOnce {
         threads,
         alloc: rt.alloc(),
+        workers,
     };
     read_by(rt, &parser, folder, module_path, progress)
 }

@@ -37,10 +37,12 @@ impl Parser for InTurn {
 pub struct AtOnce<'a, T: Threads> {
     pub threads: &'a T,
     pub alloc: Global,
+    /// How many threads parse at once.
+    pub workers: usize,
 }
 
 impl<T: Threads> Parser for AtOnce<'_, T> {
     fn parse(&self, files: Vec<(String, String)>) -> Result<Vec<SourceFile>, AllocError> {
-        read_files_at_once(self.threads, self.alloc, files)
+        read_files_at_once(self.threads, self.alloc, files, self.workers)
     }
 }

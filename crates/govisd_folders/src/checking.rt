@@ -6,6 +6,7 @@ ghost use Rattle.govisd_disk.specs.Finds.{read_shown};
 
 use crate::looks::{Look, look_of};
 use crate::telling::{Page, Report, told};
+use crate::workers::workers_of;
 use go_diagnostic_core::snap_core::{Snapshot, compile};
 use go_folder_core::{Order, named_folder};
 use go_graph_core::Workspace;
@@ -161,7 +162,15 @@ fn check_read(
 ) -> Result<CheckAnswer, AllocError>
     ensures { IfOk result (IsAnswerOfCheck order.now.folder.now order.now.style (option_map (λ m. m.now) order.now.module_path)) }
 {
-    let read = read_folder_at_once(rt, threads, order.folder, order.module_path, progress)?;
+    let count = workers_of(rt, threads, order.workers);
+    let read = read_folder_at_once(
+        rt,
+        threads,
+        order.folder,
+        order.module_path,
+        count,
+        progress,
+    )?;
     let look = look_of(rt, order.style);
     answer_on(rt.alloc(), look, named_folder(order.folder), read)
 }

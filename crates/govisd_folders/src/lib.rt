@@ -13,6 +13,7 @@ mod spots;
 mod telling;
 mod unused;
 mod words;
+mod workers;
 
 pub use checking::{CheckAnswer, check_folder};
 pub use go_folder_core::{Color, Format, Order, Style};

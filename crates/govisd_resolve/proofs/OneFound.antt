@@ -11,8 +11,8 @@ use Rattle.go_block_core.specs.graph_core.declared.imports.ImportOutcome.TheVari
 use Rattle.go_block_core.specs.graph_core.ImportLaws.{HasOneOutcome}
 use Rattle.go_block_core.specs.graph_core.Lists.{AllNumbered}
 use Rattle.go_block_core.specs.graph_core.Packages.{trees_of}
-use Rattle.go_block_core.specs.graph_core.Sources.{IsPlacedSource, IsRead}
-use Rattle.go_block_core.specs.graph_core.Workspaces.{AreAllRead, IsPackage, IsWorkspace, PackageModel}
+use Rattle.go_block_core.specs.graph_core.Sources.{IsPlacedSource}
+use Rattle.go_block_core.specs.graph_core.Workspaces.{IsPackage, IsWorkspace, PackageModel}
 use Rattle.go_block_core.specs.declared.imports.Imported.{Imported}
 use Rattle.go_block_core.specs.declared.imports.Imported.TheVariants as given
 use Rattle.go_block_core.specs.Blocks.{BlocksModel}
@@ -81,7 +81,6 @@ is_workspace bytes f file =
     record {
       order = (tt, tt);
       packages = All-cons IsPackage (package_alone s) [] (record { path = is_path; some = omega arith; order = (tt, tt); contents = All-cons IsPlacedSource s [] (length bytes, file.parse.placed) (all_none IsPlacedSource) }) (all_none IsPackage);
-      read = All-cons AreAllRead (package_alone s) [] (All-cons IsRead s [] file.parse (all_none IsRead)) (all_none AreAllRead);
     }
 
 -- what its imports come to

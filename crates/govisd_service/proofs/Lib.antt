@@ -1,5 +1,6 @@
-mod Serving
+mod LinesServed
 mod Unserved
 pub mod Crossing
 mod DesksMany
 mod DesksOpening
+mod Doors

@@ -1,3 +1,4 @@
 pub mod Ends
+pub mod Notices
 pub mod Threads
 pub mod desks

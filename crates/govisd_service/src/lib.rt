@@ -3,12 +3,16 @@
 
 mod connections;
 pub mod desks;
+mod door;
 mod laws;
+mod notices;
 mod script;
 mod workers;
 
 pub use connections::{run_serve, serve_connection};
+pub use door::Serving;
 pub use laws::halls_cross;
+pub use notices::{Notice, Tells};
 pub use script::{Served, run_script};
 
 /// The turns of a script and of a connection: reads of at most 65,536 bytes each.
@@ -27,7 +31,7 @@ pub mod hall {
 
 /// What the crates above name of `go_hall_core`.
 pub mod hall_core {
-    pub use go_hall::hall_core::{Errand, Named, Seen, Stamps, Submits};
+    pub use go_hall::hall_core::{Named, Stamps, Submits};
 }
 
 /// What the crates above name of `go_sched_core`.

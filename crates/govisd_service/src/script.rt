@@ -1,5 +1,5 @@
 //! A script: the lines of many sessions, served one after another.
-ghost use Rattle.std.specs.Prelude.{◌≡◌, ◌<◌, IfSome};
+ghost use Rattle.std.specs.Prelude.{◌≡◌, ◌<◌, false, IfSome};
 ghost use Rattle.govisd_service.specs.Ends.{IsScript};
 
 use crate::desks::ScriptDesk;
@@ -7,7 +7,7 @@ use crate::workers::start;
 use crate::{PARTS, TURNS};
 use go_hall::Hall;
 use go_hall::hall_core::{Named, Stamps};
-use go_wire_core::{ServeEnd, serve};
+use go_wire_core::{CountedReader, ServeEnd, serve};
 use std::alloc::Global;
 use std::io::{Read, Write};
 use std::marker::Brand;
@@ -41,15 +41,17 @@ fn unserved<R: Read + Drop, W: Write + Drop>(reader: R, writer: W) -> Served<R, 
 }
 
 // Serves the lines of a script in a hall that has workers.
-#[tactic(auto, using(crate::proofs::Serving::script_served, crate::proofs::Unserved::none_served))]
+#[tactic(auto, using(crate::proofs::LinesServed::script_served, crate::proofs::Unserved::none_served))]
 fn serve_lines<L: Named, H: Wait, R: Read, W: Write>(
     rt: &H,
     alloc: Global,
     hall: &Hall<L>,
-    reader: &mut R,
+    reader: &mut CountedReader<R>,
     writer: &mut W,
 ) -> ServeEnd
-    ensures { IfSome (R.remaining reader.old) (λ bytes. IsScript result bytes (R.remaining reader.new) (W.contents writer.old) (W.contents writer.new)) }
+    requires unread { reader.old.reads ≡ 0 }
+    requires sound { reader.old.failed ≡ false }
+    ensures { IfSome (R.remaining reader.old.reader) (λ bytes. IsScript result bytes (R.remaining reader.new.reader) (W.contents writer.old) (W.contents writer.new)) }
 {
     let Ok(mut desk) = ScriptDesk::new(alloc, hall) else {
         return ServeEnd::Memory;
@@ -69,12 +71,12 @@ fn serve_script<L: Named, H: Wait, R: Read + Drop, W: Write + Drop>(
 ) -> Served<R, W>
     ensures { IfSome (R.remaining reader) (λ bytes. IsScript result.end bytes (R.remaining result.reader) (W.contents writer) (W.contents result.writer)) }
 {
-    let mut reader = reader;
+    let mut reader = CountedReader::new(reader);
     let mut writer = writer;
     let end = serve_lines(rt, alloc, hall, &mut reader, &mut writer);
     Served {
         end,
-        reader,
+        reader: reader.into_reader(),
         writer,
     }
 }

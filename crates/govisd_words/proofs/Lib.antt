@@ -1,3 +1,4 @@
+pub mod AddressLemmas
 pub mod CommandLemmas
 pub mod CountLemmas
 pub mod PlainWords

@@ -1,5 +1,5 @@
 -- What clap makes of words that are no flags.
-use Rattle.std.proofs.Common.{◌≡◌, ◌∙◌, ◌&&◌, ℕ, Bool, true, false, not, List, [], ◌∷◌, get_or, fold, Some, None, refl, ap, ap₂}
+use Rattle.std.proofs.Common.{◌≡◌, ◌∙◌, ◌&&◌, ℕ, Bool, true, false, not, List, [], ◌∷◌, get_or, fold, Some, None, Ok, refl, ap, ap₂}
 use Rattle.std.specs.Prelude.{◌==◌, codes, if◌then◌else◌, option_and_then}
 use Rattle.std.specs.Option.{option_map_or}
 use Rattle.std.specs.Str.{bytes_eq}
@@ -10,7 +10,7 @@ use Rattle.clap.specs.Kinds.{Kinds, or_else}
 use Rattle.clap.specs.Faults.{bundle_fault, check_fault, defaults_fault, flag_word_fault, level_fault, other_fault, settle_fault, step_fault, turn_fault, walk_fault, word_fault}
 use Rattle.clap.specs.declared.error.kind.ErrorKind.TheVariants as kind
 use Rattle.clap.proofs.OnLiterals.{clap_on_literals}
-use Rattle.govisd_words.specs.Asking.{ToCheck, ToExplain, ToHelp, ToRun, ToServe, explain_app, govisd_app, is_plain, command_line, asked_by_subcommand, check_in, explain_in, refusals, run_in, run_with, script_in, script_with, serve_in, serve_with}
+use Rattle.govisd_words.specs.Asking.{ToCheck, ToExplain, ToHelp, ToRun, ToServe, explain_app, govisd_app, is_plain, command_line, asked_by_subcommand, check_in, explain_in, refusals, run_in, run_with, script_in, script_with, serve_in, serve_with, usual_waits}
 use Rattle.govisd_words.specs.Counts.{connections_in, steps_in, workers_in}
 use Rattle.govisd_words.specs.Styles.{json_style, plain_style}
 
@@ -157,7 +157,7 @@ pub check_folder : (program folder : Text) → is_plain folder ≡ true → refu
 unfolding clap_on_literals
 check_folder program folder plain = ap (λ k. or_else k []) (one_word (sub 2) folder plain)
 
-pub check_folder_named : (program folder : Text) → is_plain folder ≡ true → asked_by_subcommand (command_line program (codes "check" ∷ (folder ∷ []))) ≡ ToCheck folder None plain_style
+pub check_folder_named : (program folder : Text) → is_plain folder ≡ true → asked_by_subcommand (command_line program (codes "check" ∷ (folder ∷ []))) ≡ ToCheck folder None plain_style None
 unfolding clap_on_literals
 check_folder_named program folder plain =
     ap (λ (w : Walk). check_in (finished (sub 2).rules w.held)) (passed (sub 2).rules [] 1 folder nothing_held refl plain)
@@ -166,7 +166,7 @@ pub check_json : (program folder : Text) → is_plain folder ≡ true → refusa
 unfolding clap_on_literals
 check_json program folder plain = ap (λ k. or_else k []) (word_then (sub 2) folder (codes "--json" ∷ []) plain)
 
-pub check_json_named : (program folder : Text) → is_plain folder ≡ true → asked_by_subcommand (command_line program (codes "check" ∷ (folder ∷ (codes "--json" ∷ [])))) ≡ ToCheck folder None json_style
+pub check_json_named : (program folder : Text) → is_plain folder ≡ true → asked_by_subcommand (command_line program (codes "check" ∷ (folder ∷ (codes "--json" ∷ [])))) ≡ ToCheck folder None json_style None
 unfolding clap_on_literals
 check_json_named program folder plain =
     ap (λ (w : Walk). check_in (finished (sub 2).rules (walked (sub 2).rules [] w (codes "--json")).held)) (passed (sub 2).rules [] 1 folder nothing_held refl plain)
@@ -180,7 +180,7 @@ unfolding clap_on_literals
 check_module program folder path plain plain' =
     ap (λ k. or_else k []) (word_then (sub 2) folder (codes "--module" ∷ (path ∷ [])) plain ∙ value_last (sub 2) (codes "module") 2 (held_behind folder) path plain')
 
-pub check_module_named : (program folder path : Text) → is_plain folder ≡ true → is_plain path ≡ true → asked_by_subcommand (command_line program (codes "check" ∷ (folder ∷ (codes "--module" ∷ (path ∷ []))))) ≡ ToCheck folder (Some path) plain_style
+pub check_module_named : (program folder path : Text) → is_plain folder ≡ true → is_plain path ≡ true → asked_by_subcommand (command_line program (codes "check" ∷ (folder ∷ (codes "--module" ∷ (path ∷ []))))) ≡ ToCheck folder (Some path) plain_style None
 unfolding clap_on_literals
 check_module_named program folder path plain plain' =
     ap (λ (w : Walk). check_in (finished (sub 2).rules (walked (sub 2).rules [] (walked (sub 2).rules [] w (codes "--module")) path).held)) (passed (sub 2).rules [] 1 folder nothing_held refl plain)
@@ -191,7 +191,7 @@ unfolding clap_on_literals
 check_module_json program folder path plain plain' =
     ap (λ k. or_else k []) (word_then (sub 2) folder (codes "--module" ∷ (path ∷ (codes "--json" ∷ []))) plain ∙ value_then (sub 2) (codes "module") 2 (held_behind folder) path (codes "--json" ∷ []) plain')
 
-pub check_module_json_named : (program folder path : Text) → is_plain folder ≡ true → is_plain path ≡ true → asked_by_subcommand (command_line program (codes "check" ∷ (folder ∷ (codes "--module" ∷ (path ∷ (codes "--json" ∷ [])))))) ≡ ToCheck folder (Some path) json_style
+pub check_module_json_named : (program folder path : Text) → is_plain folder ≡ true → is_plain path ≡ true → asked_by_subcommand (command_line program (codes "check" ∷ (folder ∷ (codes "--module" ∷ (path ∷ (codes "--json" ∷ [])))))) ≡ ToCheck folder (Some path) json_style None
 unfolding clap_on_literals
 check_module_json_named program folder path plain plain' =
     ap (λ (w : Walk). check_in (finished (sub 2).rules (walked (sub 2).rules [] (walked (sub 2).rules [] (walked (sub 2).rules [] w (codes "--module")) path) (codes "--json")).held)) (passed (sub 2).rules [] 1 folder nothing_held refl plain)
@@ -211,7 +211,7 @@ pub json_check : (program folder : Text) → is_plain folder ≡ true → refusa
 unfolding clap_on_literals
 json_check program folder plain = ap (λ k. or_else k []) (word_last (sub 2) held_json folder plain)
 
-pub json_check_named : (program folder : Text) → is_plain folder ≡ true → asked_by_subcommand (command_line program (codes "check" ∷ (codes "--json" ∷ (folder ∷ [])))) ≡ ToCheck folder None json_style
+pub json_check_named : (program folder : Text) → is_plain folder ≡ true → asked_by_subcommand (command_line program (codes "check" ∷ (codes "--json" ∷ (folder ∷ [])))) ≡ ToCheck folder None json_style None
 unfolding clap_on_literals
 json_check_named program folder plain = ap (λ (w : Walk). check_in (finished (sub 2).rules w.held)) (passed (sub 2).rules [] 1 folder held_json refl plain)
 
@@ -220,7 +220,7 @@ unfolding clap_on_literals
 module_check program folder path plain plain' =
     ap (λ k. or_else k []) (value_then (sub 2) (codes "module") 1 held_module path (folder ∷ []) plain' ∙ word_last (sub 2) (held_path path) folder plain)
 
-pub module_check_named : (program folder path : Text) → is_plain folder ≡ true → is_plain path ≡ true → asked_by_subcommand (command_line program (codes "check" ∷ (codes "--module" ∷ (path ∷ (folder ∷ []))))) ≡ ToCheck folder (Some path) plain_style
+pub module_check_named : (program folder path : Text) → is_plain folder ≡ true → is_plain path ≡ true → asked_by_subcommand (command_line program (codes "check" ∷ (codes "--module" ∷ (path ∷ (folder ∷ []))))) ≡ ToCheck folder (Some path) plain_style None
 unfolding clap_on_literals
 module_check_named program folder path plain plain' =
     ap (λ (w : Walk). check_in (finished (sub 2).rules (walked (sub 2).rules [] w folder).held)) (value_passed (sub 2) [] (codes "module") 1 held_module path plain')
@@ -265,7 +265,7 @@ pub serve_at : (program address : Text) → is_plain address ≡ true → refusa
 unfolding clap_on_literals
 serve_at program address plain = ap (λ k. or_else k []) (value_last (sub 5) (codes "listen") 1 held_listen address plain)
 
-pub serve_at_named : (program address : Text) → is_plain address ≡ true → asked_by_subcommand (command_line program (codes "serve" ∷ (codes "--listen" ∷ (address ∷ [])))) ≡ ToServe address 1 None
+pub serve_at_named : (program address : Text) → is_plain address ≡ true → asked_by_subcommand (command_line program (codes "serve" ∷ (codes "--listen" ∷ (address ∷ [])))) ≡ ToServe address 1 None usual_waits false
 unfolding clap_on_literals
 serve_at_named program address plain = ap (λ (w : Walk). serve_in (finished (sub 5).rules w.held)) (value_passed (sub 5) [] (codes "listen") 1 held_listen address plain)
 
@@ -277,7 +277,7 @@ serve_told program address count most plain plain' plain'' =
     ∙ (value_then (sub 5) (codes "workers") 1 (held_address address) count (codes "--connections" ∷ (most ∷ [])) plain'
     ∙ value_last (sub 5) (codes "connections") 1 (held_count address count) most plain''))
 
-pub serve_told_named : (program address count most : Text) → is_plain address ≡ true → is_plain count ≡ true → is_plain most ≡ true → asked_by_subcommand (command_line program (codes "serve" ∷ (codes "--listen" ∷ (address ∷ (codes "--workers" ∷ (count ∷ (codes "--connections" ∷ (most ∷ [])))))))) ≡ serve_with address (workers_in (Some count)) (connections_in (Some most))
+pub serve_told_named : (program address count most : Text) → is_plain address ≡ true → is_plain count ≡ true → is_plain most ≡ true → asked_by_subcommand (command_line program (codes "serve" ∷ (codes "--listen" ∷ (address ∷ (codes "--workers" ∷ (count ∷ (codes "--connections" ∷ (most ∷ [])))))))) ≡ serve_with address (workers_in (Some count)) (connections_in (Some most)) (Ok usual_waits) false
 unfolding clap_on_literals
 serve_told_named program address count most plain plain' plain'' =
     ap (λ (w : Walk). serve_in (finished (sub 5).rules (walked (sub 5).rules [] (walked (sub 5).rules [] (walked (sub 5).rules [] (walked (sub 5).rules [] w (codes "--workers")) count) (codes "--connections")) most).held)) (value_passed (sub 5) [] (codes "listen") 1 held_listen address plain)
@@ -288,7 +288,7 @@ pub run_folder : (program folder : Text) → is_plain folder ≡ true → refusa
 unfolding clap_on_literals
 run_folder program folder plain = ap (λ k. or_else k []) (one_word (sub 6) folder plain)
 
-pub run_folder_named : (program folder : Text) → is_plain folder ≡ true → asked_by_subcommand (command_line program (codes "run" ∷ (folder ∷ []))) ≡ ToRun folder None None 1000000000
+pub run_folder_named : (program folder : Text) → is_plain folder ≡ true → asked_by_subcommand (command_line program (codes "run" ∷ (folder ∷ []))) ≡ ToRun folder None None 1000000000 None
 unfolding clap_on_literals
 run_folder_named program folder plain =
     ap (λ (w : Walk). run_in (finished (sub 6).rules w.held)) (passed (sub 6).rules [] 1 folder nothing_held refl plain)
@@ -302,7 +302,7 @@ unfolding clap_on_literals
 run_steps program folder count plain plain' =
     ap (λ k. or_else k []) (word_then (sub 6) folder (codes "--steps" ∷ (count ∷ [])) plain ∙ value_last (sub 6) (codes "steps") 2 (held_steps folder) count plain')
 
-pub run_steps_named : (program folder count : Text) → is_plain folder ≡ true → is_plain count ≡ true → asked_by_subcommand (command_line program (codes "run" ∷ (folder ∷ (codes "--steps" ∷ (count ∷ []))))) ≡ run_with folder None None (steps_in (Some count))
+pub run_steps_named : (program folder count : Text) → is_plain folder ≡ true → is_plain count ≡ true → asked_by_subcommand (command_line program (codes "run" ∷ (folder ∷ (codes "--steps" ∷ (count ∷ []))))) ≡ run_with folder None None (steps_in (Some count)) (Some None)
 unfolding clap_on_literals
 run_steps_named program folder count plain plain' =
     ap (λ (w : Walk). run_in (finished (sub 6).rules (walked (sub 6).rules [] (walked (sub 6).rules [] w (codes "--steps")) count).held)) (passed (sub 6).rules [] 1 folder nothing_held refl plain)
@@ -327,7 +327,7 @@ run_told program folder path main count plain of_path of_main of_count =
     ∙ (value_then (sub 6) (codes "main") 2 (held_of_main folder path) main (codes "--steps" ∷ (count ∷ [])) of_main
     ∙ value_last (sub 6) (codes "steps") 2 (held_of_steps folder path main) count of_count)))
 
-pub run_told_named : (program folder path main count : Text) → is_plain folder ≡ true → is_plain path ≡ true → is_plain main ≡ true → is_plain count ≡ true → asked_by_subcommand (command_line program (codes "run" ∷ (folder ∷ (codes "--module" ∷ (path ∷ (codes "--main" ∷ (main ∷ (codes "--steps" ∷ (count ∷ []))))))))) ≡ run_with folder (Some path) (Some main) (steps_in (Some count))
+pub run_told_named : (program folder path main count : Text) → is_plain folder ≡ true → is_plain path ≡ true → is_plain main ≡ true → is_plain count ≡ true → asked_by_subcommand (command_line program (codes "run" ∷ (folder ∷ (codes "--module" ∷ (path ∷ (codes "--main" ∷ (main ∷ (codes "--steps" ∷ (count ∷ []))))))))) ≡ run_with folder (Some path) (Some main) (steps_in (Some count)) (Some None)
 unfolding clap_on_literals
 run_told_named program folder path main count plain of_path of_main of_count =
     ap (λ (w : Walk). run_in (finished (sub 6).rules (walked (sub 6).rules [] (walked (sub 6).rules [] (walked (sub 6).rules [] (walked (sub 6).rules [] (walked (sub 6).rules [] (walked (sub 6).rules [] w (codes "--module")) path) (codes "--main")) main) (codes "--steps")) count).held)) (passed (sub 6).rules [] 1 folder nothing_held refl plain)

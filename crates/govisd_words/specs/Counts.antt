@@ -33,12 +33,29 @@ abbrev pub workers_in : Option (List ℕ) → Option ℕ
 workers_in None = Some 1
 workers_in (Some word) = option_and_then in_workers (number_of word)
 
+-- how many threads are asked for: none where none are told, and nothing where what is told is no number from 1 to 64
+abbrev pub threads_in : Option (List ℕ) → Option (Option ℕ)
+threads_in None = Some None
+threads_in (Some word) = option_map (λ n. Some n) (workers_in (Some word))
+
 -- after how many connections there is an end: after none where none are told, and nothing where what is told is no number below 2^64
 abbrev pub connections_in : Option (List ℕ) → Option (Option ℕ)
 connections_in None = Some None
 connections_in (Some word) = option_map (λ n. Some n) (number_of word)
 
--- after how many steps a run stops: after 1,000,000,000 where none are told, and nothing where what is told is no number below 2^64
+-- a number: this one where none is told, and nothing where what is told is no number below 2^64
+abbrev pub number_or : ℕ → Option (List ℕ) → Option ℕ
+number_or unless None = Some unless
+number_or unless (Some word) = number_of word
+
+-- how many seconds a peer may send nothing
+abbrev pub idle_in : Option (List ℕ) → Option ℕ
+idle_in = number_or 3600
+
+-- how many seconds a peer may leave a reply unread
+abbrev pub stall_in : Option (List ℕ) → Option ℕ
+stall_in = number_or 60
+
+-- after how many steps a run stops
 abbrev pub steps_in : Option (List ℕ) → Option ℕ
-steps_in None = Some 1000000000
-steps_in (Some word) = number_of word
+steps_in = number_or 1000000000

@@ -10,7 +10,7 @@ use Rattle.go_wire_core.specs.declared.serving.ServeEnd.TheVariants as served
 use Rattle.govisd_resolve.specs.declared.run.ResolveEnd.{ResolveEnd}
 use Rattle.govisd_resolve.specs.declared.run.ResolveEnd.TheVariants.{Clean, Faults, ReadFault, WriteFault, Memory}
 use Rattle.govisd_words.specs.declared.words.ValueOption.{ValueOption}
-use Rattle.govisd_words.specs.declared.words.ValueOption.TheVariants.{Workers, Connections, Steps, Form, Colors}
+use Rattle.govisd_words.specs.declared.words.ValueOption.TheVariants.{Workers, Connections, Idle, Stall, Steps, Form, Colors}
 
 -- what the program takes, and its exit statuses
 abbrev pub program_help_text : List ℕ
@@ -20,19 +20,19 @@ abbrev pub resolve_help_text : List ℕ
 resolve_help_text = codes "Reads a Go file from standard input, and writes what each name in it denotes\n\nUsage: govisd resolve\n\nOptions:\n  -h, --help  Writes this text\n\nThe file is taken as the one file of a package that stands alone, so each import\nin it is refused. It may have 1,048,576 bytes of UTF-8.\nWritten is a line for each identifier that is used, in order of place: its\noffset in bytes from 0, its role, the identifier, and the declaration that it\ndenotes or the rule that it breaks. After these stand the other faults, as\nfault OFFSET RULE.\n\nExample:\n  govisd resolve < a.go\n\nExit status: 0 where the source has no fault, 1 where it has one or the run\nfailed, 2 where the command line is refused\n"
 
 abbrev pub check_help_text : List ℕ
-check_help_text = codes "Checks the Go packages of a folder, and tells what is wrong and where\n\nUsage: govisd check [OPTIONS] [FOLDER]\n\nArguments:\n  [FOLDER]  The folder, with all folders in it. Without it, the one that govisd\n            runs in. FOLDER/... is the same. It may be a Go file: then only the\n            faults of this file are told\n\nOptions:\n  --module <PATH>  The import path of the module. Without it, the one that the\n                   first go.mod in the folder or above it names; where there is\n                   no go.mod, the name of the folder\n  --all            Tells also the faults that follow from others\n  --format <FORM>  text, json, github or sarif. Without it, text\n  --json           The same as --format json\n  --source         Shows the lines of the source, as on a terminal\n  --color <WHEN>   auto, always or never. Without it, auto\n  -h, --help       Writes this text\n\nEach fault is told as FILE:LINE:COLUMN: RULE and what is wrong. Lines and bytes\nare counted from 1. govisd explain RULE says more of a rule. A fault that\nfollows from another one is counted, and told with --all. A variable that\nnothing uses is noted, and not counted.\nWith --format json each fault is an object in a line, those that follow too.\nThe .go files of a folder are a package, but for tests (_test.go) and names that\nbegin with . or _; so named folders, testdata and vendor are passed over. Where\na go.mod lies above the folder, all packages of its module are read, and those\nin the folder are told. A file that cannot be read is named on standard error,\nand its package is not checked (K4). Nothing is written into the folder.\nOnly packages of the module are known: an import of the standard library or of\nanother module is I2. Build constraints are not read.\n\nExamples:\n  govisd check\n  govisd check ./cart\n  govisd check cart/cart.go\n  govisd check shop --module example.com/shop --json\n\nExit status: 0 where there is no fault, 1 where there is one or something was\nleft out, 2 where nothing was checked\n"
+check_help_text = codes "Checks the Go packages of a folder, and tells what is wrong and where\n\nUsage: govisd check [OPTIONS] [FOLDER]\n\nArguments:\n  [FOLDER]  The folder, with all folders in it. Without it, the one that govisd\n            runs in. FOLDER/... is the same. It may be a Go file: then only the\n            faults of this file are told\n\nOptions:\n  --module <PATH>  The import path of the module. Without it, the one that the\n                   first go.mod in the folder or above it names; where there is\n                   no go.mod, the name of the folder\n  --all            Tells also the faults that follow from others\n  --format <FORM>  text, json, github or sarif. Without it, text\n  --json           The same as --format json\n  --source         Shows the lines of the source, as on a terminal\n  --color <WHEN>   auto, always or never. Without it, auto\n  --workers <N>    How many threads work at once, 1 to 64. Without it, as\n                   many as there are processors, 8 at most\n  -h, --help       Writes this text\n\nEach fault is told as FILE:LINE:COLUMN: RULE and what is wrong. Lines and bytes\nare counted from 1. govisd explain RULE says more of a rule. A fault that\nfollows from another one is counted, and told with --all. A variable that\nnothing uses is noted, and not counted.\nWith --format json each fault is an object in a line, those that follow too.\nThe .go files of a folder are a package, but for tests (_test.go) and names that\nbegin with . or _; so named folders, testdata and vendor are passed over. Where\na go.mod lies above the folder, all packages of its module are read, and those\nin the folder are told. A file that cannot be read is named on standard error,\nand its package is not checked (K4). Nothing is written into the folder.\nOnly packages of the module are known: an import of the standard library or of\nanother module is I2. Build constraints are not read.\n\nExamples:\n  govisd check\n  govisd check ./cart\n  govisd check cart/cart.go\n  govisd check shop --module example.com/shop --json\n\nExit status: 0 where there is no fault, 1 where there is one or something was\nleft out, 2 where nothing was checked\n"
 
 abbrev pub explain_help_text : List ℕ
 explain_help_text = codes "Says what a rule means, with an example that breaks it and how to mend it\n\nUsage: govisd explain [OPTIONS] [RULE]\n\nArguments:\n  [RULE]  The name of a rule, as N1 or n1. Without it all rules are listed, one\n          a line\n\nOptions:\n  --json      Tells each rule as a JSON object in a line, with the members\n              example, meaning, mending and rule\n  -h, --help  Writes this text\n\nExamples:\n  govisd explain N1\n  govisd explain\n  govisd explain --json\n\nExit status: 0, or 2 where no rule has this name\n"
 
 abbrev pub run_help_text : List ℕ
-run_help_text = codes "Compiles the Go packages of a folder, and runs one\n\nUsage: govisd run [OPTIONS] [FOLDER]\n\nArguments:\n  [FOLDER]  The folder, as govisd check takes it. Without it, the one that\n            govisd runs in\n\nOptions:\n  --module <PATH>  The import path of the module, as for govisd check\n  --main <PATH>    The import path of the package that is run. Without it, the\n                   one in the folder that is named main\n  --steps <N>      Stops after so many steps, one for each instruction. Without\n                   it, after 1,000,000,000\n  -h, --help       Writes this text\n\nWhat the program prints goes to standard output, and what it panics with to\nstandard error, as panic: 5. Where it is not run, standard error says why:\nfaults are told as govisd check tells them.\n\nExamples:\n  govisd run primes\n  govisd run shop --main example.com/shop/cmd\n\nExit status: 0 where the program ended, 1 where it was not run, 2 where it\npanicked or the command line is refused, 3 where its steps were spent\n"
+run_help_text = codes "Compiles the Go packages of a folder, and runs one\n\nUsage: govisd run [OPTIONS] [FOLDER]\n\nArguments:\n  [FOLDER]  The folder, as govisd check takes it. Without it, the one that\n            govisd runs in\n\nOptions:\n  --module <PATH>  The import path of the module, as for govisd check\n  --main <PATH>    The import path of the package that is run. Without it, the\n                   one in the folder that is named main\n  --steps <N>      Stops after so many steps, one for each instruction. Without\n                   it, after 1,000,000,000\n  --workers <N>    How many threads work at once, 1 to 64. Without it, as\n                   many as there are processors, 8 at most\n  -h, --help       Writes this text\n\nWhat the program prints goes to standard output, and what it panics with to\nstandard error, as panic: 5. Where it is not run, standard error says why:\nfaults are told as govisd check tells them.\n\nExamples:\n  govisd run primes\n  govisd run shop --main example.com/shop/cmd\n\nExit status: 0 where the program ended, 1 where it was not run, 2 where it\npanicked or the command line is refused, 3 where its steps were spent\n"
 
 abbrev pub script_help_text : List ℕ
 script_help_text = codes "Serves Go sessions by lines of JSON on standard input and output\n\nUsage: govisd script [OPTIONS]\n\nOptions:\n  --workers <N>  How many packages are compiled at once, 1 to 64. Without it, 1\n  -h, --help     Writes this text\n\nEach line is one request of a session, whose number, 1 to 32, is its member \"s\".\nEach is answered by one line, in order.\n\nExample:\n  printf '{\"cmd\":\"open\",\"module\":\"example.com/a\",\"s\":1}\\n' | govisd script\n\nExit status: 0 where the input ended, 1 where a line was too long, reading or\nwriting failed, or memory or threads ran out, 2 where the command line is\nrefused\n"
 
 abbrev pub serve_help_text : List ℕ
-serve_help_text = codes "Serves Go sessions by lines of JSON over TCP\n\nUsage: govisd serve [OPTIONS] --listen <ADDRESS>\n\nOptions:\n  --listen <ADDRESS>  An address and a port, as 127.0.0.1:7000. With port 0 the\n                      system chooses one\n  --workers <N>       How many packages are compiled at once, 1 to 64. Without\n                      it, 1\n  --connections <K>   Ends once so many connections came and have ended. Without\n                      it, there is no end\n  -h, --help          Writes this text\n\nOnce it listens, it says so on standard error, with the address and the port:\ngovisd: listening on 127.0.0.1:7000. Each line of a connection is one request,\nanswered by one line, in order. A connection has one session at a time, which\nends with it. At most 32 connections are served at once: another is told\n{\"err\":\"O4\"} and closed. Whoever reaches the address may open sessions: nobody\nis asked for a name.\n\nExample:\n  govisd serve --listen 127.0.0.1:7000 --workers 4\n\nExit status: 0 after the last connection, 1 where the address cannot be listened\non, a connection cannot be accepted, or memory or threads ran out, 2 where the\ncommand line is refused\n"
+serve_help_text = codes "Serves Go sessions by lines of JSON over TCP\n\nUsage: govisd serve [OPTIONS] --listen <ADDRESS>\n\nOptions:\n  --listen <ADDRESS>  An address and a port, as 127.0.0.1:7000. With port 0 the\n                      system chooses one. A port alone, as :7000, is that of\n                      each address of the machine\n  --workers <N>       How many packages are compiled at once, 1 to 64. Without\n                      it, 1\n  --connections <K>   Takes so many connections and no more, and ends once they\n                      have ended. Without it, there is no end\n  --idle <SECONDS>    Closes a connection that sends nothing for so long while\n                      it waits for no reply. 0 is never. Without it, 3600\n  --stall <SECONDS>   Closes a connection that reads nothing of a reply for so\n                      long. 0 is never. Without it, 60\n  --until-input-ends  Ends once standard input has ended: a connection that\n                      waits for no reply is closed, another behind its reply\n  -h, --help          Writes this text\n\nOnce it listens, it says so on standard error, with the address and the port:\ngovisd: listening on 127.0.0.1:7000. Each line of a connection is one request,\nanswered by one line, in order. A connection has one session at a time, which\nends with it. At most 32 connections are served at once: another is told\n{\"err\":\"O4\"} and closed. Whoever reaches the address may open sessions: nobody\nis asked for a name. Standard error also tells, once each, what only a new start\nor more memory helps against: the first O4, H1 and M0 of a build.\n\nExample:\n  govisd serve --listen 127.0.0.1:7000 --workers 4\n\nExit status: 0 after the last connection or the end of its input, 1 where the\naddress cannot be listened on, a connection cannot be accepted, or memory or\nthreads ran out, 2 where the command line or the address is refused\n"
 
 -- what a command takes, by its name
 abbrev pub help_of : List ℕ → Option (List ℕ)
@@ -73,6 +73,8 @@ unwritten_text _ = codes "govisd: standard output cannot be written\n"
 abbrev pub bad_value_text : ValueOption → List ℕ
 bad_value_text Workers = codes "govisd: --workers takes a number from 1 to 64\ngovisd: the command line is refused\n"
 bad_value_text Connections = codes "govisd: --connections takes a number from 0 to 18446744073709551615\ngovisd: the command line is refused\n"
+bad_value_text Idle = codes "govisd: --idle takes a number from 0 to 18446744073709551615\ngovisd: the command line is refused\n"
+bad_value_text Stall = codes "govisd: --stall takes a number from 0 to 18446744073709551615\ngovisd: the command line is refused\n"
 bad_value_text Steps = codes "govisd: --steps takes a number from 0 to 18446744073709551615\ngovisd: the command line is refused\n"
 bad_value_text Form = codes "govisd: --format takes text, json, github or sarif\ngovisd: the command line is refused\n"
 bad_value_text Colors = codes "govisd: --color takes auto, always or never\ngovisd: the command line is refused\n"

@@ -1,12 +1,12 @@
 //! What the words of a command line ask for.
 ghost use Rattle.std.specs.Prelude.{◌≡◌, [], IfOk, codes, false, map, option_map, unwrap_or};
 ghost use Rattle.clap.specs.Walk.{first_of};
-ghost use Rattle.govisd_words.specs.Counts.{connections_in, in_workers, number_of, steps_in, workers_in};
+ghost use Rattle.govisd_words.specs.Counts.{connections_in, idle_in, in_workers, number_of, number_or, stall_in, steps_in, threads_in, workers_in};
 ghost use Rattle.clap.specs.Words.{app_of, found_of, rows_of};
 ghost use Rattle.clap.specs.declared.builder.command.Command.TheViews.{out-Command as fields_of};
 ghost use Rattle.go_folder_core.specs.declared.orders.Format.TheVariants as format;
 ghost use Rattle.govisd_words.specs.Styles.{color_in, color_named, format_in, format_named, style_of};
-ghost use Rattle.govisd_words.specs.Asking.{Asks, Forms, asked_in, check_app, check_in, command_behind, explain_app, explain_in, govisd_app, source_app, help_app, if_command, json_app, main_app, names_checker, names_command, order_in, said, said_daemon, said_order, said_run, run_app, run_in, run_of_steps, script_app, script_in, serve_app, serve_in, shown_app, style_in};
+ghost use Rattle.govisd_words.specs.Asking.{Asks, Forms, asked_in, check_app, check_by, check_in, command_behind, explain_app, explain_in, govisd_app, source_app, help_app, if_command, json_app, main_app, names_checker, names_command, order_in, said, said_daemon, said_order, said_run, run_app, run_in, run_of_steps, script_app, script_in, serve_app, serve_in, served_app, shown_app, style_in, waiting_app, waits_in};
 
 use clap::error::ErrorKind;
 use clap::{Arg, ArgAction, ArgMatches, Command, Error};
@@ -23,6 +23,19 @@ pub struct Daemon<'a> {
     pub workers: usize,
     /// After how many connections it ends; if none is given, it does not.
     pub connections: Option<u64>,
+    /// How long it waits for its peers.
+    pub waits: Waits,
+    /// Whether it ends once its standard input has ended.
+    pub until_input_ends: bool,
+}
+
+/// How long a daemon waits for its peers, in seconds. 0 is without end.
+#[derive(Clone, Copy, Debug, PartialEq, Eq)]
+pub struct Waits {
+    /// How long a peer may send nothing while it waits for no reply.
+    pub idle: u64,
+    /// How long a peer may leave a reply unread.
+    pub stall: u64,
 }
 
 /// An option with a value behind it that not every word is.
@@ -32,6 +45,10 @@ pub enum ValueOption {
     Workers,
     /// `--connections`, which takes any number below 2^64.
     Connections,
+    /// `--idle`, which takes any number below 2^64.
+    Idle,
+    /// `--stall`, which takes any number below 2^64.
+    Stall,
     /// `--steps`, which takes any number below 2^64.
     Steps,
     /// `--format`, which takes the name of a form.
@@ -103,14 +120,15 @@ fn source_command<'a>(alloc: Global) -> Result<Command<'a>, AllocError>
     json_command(alloc)?.arg(all)?.arg(source)
 }
 
-// The same with the form in which the faults are written, and when that has colours.
+// The same with the form in which the faults are written, when that has colours, and a number of threads.
 fn check_command<'a>(alloc: Global) -> Result<Command<'a>, AllocError>
     ensures shape { IfOk result (λ c. app_of c ≡ check_app) }
     ensures local { IfOk result (λ c. (fields_of c).has_globals ≡ false) }
 {
     let form = Arg::new(alloc, "format").long("format");
     let color = Arg::new(alloc, "color").long("color");
-    source_command(alloc)?.arg(form)?.arg(color)
+    let workers = Arg::new(alloc, "workers").long("workers");
+    source_command(alloc)?.arg(form)?.arg(color)?.arg(workers)
 }
 
 // The command `help`, with the name of a command.
@@ -133,13 +151,14 @@ fn main_command<'a>(alloc: Global) -> Result<Command<'a>, AllocError>
     Command::new(alloc, "run").arg(root)?.arg(path)?.arg(main)
 }
 
-// The same with a number of steps.
+// The same with a number of steps and one of threads.
 fn run_command<'a>(alloc: Global) -> Result<Command<'a>, AllocError>
     ensures shape { IfOk result (λ c. app_of c ≡ run_app) }
     ensures local { IfOk result (λ c. (fields_of c).has_globals ≡ false) }
 {
     let steps = Arg::new(alloc, "steps").long("steps");
-    main_command(alloc)?.arg(steps)
+    let workers = Arg::new(alloc, "workers").long("workers");
+    main_command(alloc)?.arg(steps)?.arg(workers)
 }
 
 // The command `script`, with a number of workers.
@@ -152,8 +171,8 @@ fn script_command<'a>(alloc: Global) -> Result<Command<'a>, AllocError>
 }
 
 // The command `serve`, with an address, a number of workers and one of connections.
-fn serve_command<'a>(alloc: Global) -> Result<Command<'a>, AllocError>
-    ensures shape { IfOk result (λ c. app_of c ≡ serve_app) }
+fn served_command<'a>(alloc: Global) -> Result<Command<'a>, AllocError>
+    ensures shape { IfOk result (λ c. app_of c ≡ served_app) }
     ensures local { IfOk result (λ c. (fields_of c).has_globals ≡ false) }
 {
     let listen = Arg::new(alloc, "listen").long("listen").required(true);
@@ -163,6 +182,27 @@ fn serve_command<'a>(alloc: Global) -> Result<Command<'a>, AllocError>
         .arg(listen)?
         .arg(workers)?
         .arg(connections)
+}
+
+// The same with two numbers of seconds.
+fn waiting_command<'a>(alloc: Global) -> Result<Command<'a>, AllocError>
+    ensures shape { IfOk result (λ c. app_of c ≡ waiting_app) }
+    ensures local { IfOk result (λ c. (fields_of c).has_globals ≡ false) }
+{
+    let idle = Arg::new(alloc, "idle").long("idle");
+    let stall = Arg::new(alloc, "stall").long("stall");
+    served_command(alloc)?.arg(idle)?.arg(stall)
+}
+
+// The same with whether it ends with its input.
+fn serve_command<'a>(alloc: Global) -> Result<Command<'a>, AllocError>
+    ensures shape { IfOk result (λ c. app_of c ≡ serve_app) }
+    ensures local { IfOk result (λ c. (fields_of c).has_globals ≡ false) }
+{
+    let until = Arg::new(alloc, "until-input-ends")
+        .long("until-input-ends")
+        .action(ArgAction::Count);
+    waiting_command(alloc)?.arg(until)
 }
 
 // The program with its commands on sources.
@@ -196,7 +236,7 @@ fn command<'a>(alloc: Global) -> Result<Command<'a>, AllocError>
 }
 
 // The number that a word writes.
-fn number_of(word: &str) -> Option<u64>
+pub(crate) fn number_of(word: &str) -> Option<u64>
     ensures { result ≡ number_of word.now }
 {
     word.parse::<u64>().ok()
@@ -248,6 +288,26 @@ fn workers_told(found: &ArgMatches<'_>) -> Option<usize>
     workers_of(found.get_str("workers"))
 }
 
+// So many threads: none where none are told, and nothing where what is told is not 1 to 64.
+fn threads_of(word: Option<&str>) -> Option<Option<usize>>
+    ensures { result ≡ threads_in (option_map (λ w. w.now) word.entry) }
+{
+    match word {
+        None => Some(None),
+        Some(word) => match workers_of(Some(word)) {
+            Some(count) => Some(Some(count)),
+            None => None,
+        },
+    }
+}
+
+// The threads that are told behind a command on a folder.
+fn threads_told(found: &ArgMatches<'_>) -> Option<Option<usize>>
+    ensures { result ≡ threads_in (first_of (codes "workers") (rows_of (found_of found.now))) }
+{
+    threads_of(found.get_str("workers"))
+}
+
 // The connections that are told behind a command.
 fn connections_told(found: &ArgMatches<'_>) -> Option<Option<u64>>
     ensures { result ≡ connections_in (first_of (codes "connections") (rows_of (found_of found.now))) }
@@ -255,13 +315,40 @@ fn connections_told(found: &ArgMatches<'_>) -> Option<Option<u64>>
     connections_of(found.get_str("connections"))
 }
 
-// After so many steps: 1,000,000,000 where none are told, and nothing where what is told is no number.
-fn steps_of(word: Option<&str>) -> Option<u64>
-    ensures { result ≡ steps_in (option_map (λ w. w.now) word.entry) }
+// A number: this one where none is told, and nothing where what is told is no number.
+fn number_or(word: Option<&str>, unless: u64) -> Option<u64>
+    ensures { result ≡ number_or unless (option_map (λ w. w.now) word.entry) }
 {
     match word {
-        None => Some(1_000_000_000),
+        None => Some(unless),
         Some(word) => number_of(word),
+    }
+}
+
+// The seconds that a peer may send nothing, as they are told behind a command.
+fn idle_told(found: &ArgMatches<'_>) -> Option<u64>
+    ensures { result ≡ idle_in (first_of (codes "idle") (rows_of (found_of found.now))) }
+{
+    number_or(found.get_str("idle"), 3600)
+}
+
+// The seconds that a peer may leave a reply unread, as they are told behind a command.
+fn stall_told(found: &ArgMatches<'_>) -> Option<u64>
+    ensures { result ≡ stall_in (first_of (codes "stall") (rows_of (found_of found.now))) }
+{
+    number_or(found.get_str("stall"), 60)
+}
+
+// How long a daemon waits, as it is told behind a command.
+fn waits_told(found: &ArgMatches<'_>) -> Result<Waits, ValueOption>
+    ensures { result ≡ waits_in (rows_of (found_of found.now)) }
+{
+    match idle_told(found) {
+        Some(idle) => match stall_told(found) {
+            Some(stall) => Ok(Waits { idle, stall }),
+            None => Err(ValueOption::Stall),
+        },
+        None => Err(ValueOption::Idle),
     }
 }
 
@@ -269,13 +356,13 @@ fn steps_of(word: Option<&str>) -> Option<u64>
 fn steps_told(found: &ArgMatches<'_>) -> Option<u64>
     ensures { result ≡ steps_in (first_of (codes "steps") (rows_of (found_of found.now))) }
 {
-    steps_of(found.get_str("steps"))
+    number_or(found.get_str("steps"), 1_000_000_000)
 }
 
 // The run of so many steps that is asked for, by what stands behind the command.
 #[tactic(auto, using(crate::proofs::WordLemmas::value_in_rows))]
-fn run_for<'a>(found: &ArgMatches<'a>, steps: u64) -> RunOrder<'a>
-    ensures { said_run result ≡ run_of_steps steps (rows_of (found_of found.now)) }
+fn run_for<'a>(found: &ArgMatches<'a>, steps: u64, workers: Option<usize>) -> RunOrder<'a>
+    ensures { said_run result ≡ run_of_steps steps workers (rows_of (found_of found.now)) }
 {
     let folder = found.get_str("folder").unwrap_or(".");
     let module_path = found.get_str("module");
@@ -285,6 +372,7 @@ fn run_for<'a>(found: &ArgMatches<'a>, steps: u64) -> RunOrder<'a>
         module_path,
         main_path,
         steps,
+        workers,
     }
 }
 
@@ -293,7 +381,10 @@ fn run_of<'a>(found: &ArgMatches<'a>) -> Request<'a>
     ensures { said result ≡ run_in (rows_of (found_of found.now)) }
 {
     match steps_told(found) {
-        Some(steps) => Request::Run(run_for(found, steps)),
+        Some(steps) => match threads_told(found) {
+            Some(workers) => Request::Run(run_for(found, steps, workers)),
+            None => Request::BadValue(ValueOption::Workers),
+        },
         None => Request::BadValue(ValueOption::Steps),
     }
 }
@@ -321,13 +412,19 @@ fn serve_of<'a>(found: &ArgMatches<'a>) -> Request<'a>
     ensures { said result ≡ serve_in (rows_of (found_of found.now)) }
 {
     let address = address_told(found);
+    let until_input_ends = found.get_count("until-input-ends") > 0;
     match workers_told(found) {
         Some(workers) => match connections_told(found) {
-            Some(connections) => Request::Serve(Daemon {
-                address,
-                workers,
-                connections,
-            }),
+            Some(connections) => match waits_told(found) {
+                Ok(waits) => Request::Serve(Daemon {
+                    address,
+                    workers,
+                    connections,
+                    waits,
+                    until_input_ends,
+                }),
+                Err(option) => Request::BadValue(option),
+            },
             None => Request::BadValue(ValueOption::Connections),
         },
         None => Request::BadValue(ValueOption::Workers),
@@ -427,14 +524,27 @@ fn style_told(found: &ArgMatches<'_>, format: Format, color: Color) -> Style
 
 // The check that is asked for, by what stands behind the command.
 #[tactic(auto, using(crate::proofs::WordLemmas::value_in_rows))]
-fn order_of<'a>(found: &ArgMatches<'a>, style: Style) -> Order<'a>
-    ensures { said_order result ≡ order_in style (rows_of (found_of found.now)) }
+fn order_of<'a>(found: &ArgMatches<'a>, style: Style, workers: Option<usize>) -> Order<'a>
+    ensures { said_order result ≡ order_in style workers (rows_of (found_of found.now)) }
 {
     Order {
         folder: found.get_str("folder").unwrap_or("."),
         module_path: found.get_str("module"),
         style,
+        workers,
     }
+}
+
+// The check by so many threads that is asked for.
+fn check_by<'a>(
+    found: &ArgMatches<'a>,
+    format: Format,
+    color: Color,
+    workers: Option<usize>,
+) -> Request<'a>
+    ensures { said result ≡ check_by format color workers (rows_of (found_of found.now)) }
+{
+    Request::Check(order_of(found, style_told(found, format, color), workers))
 }
 
 // The check that is asked for, where the words behind its options are such that they take.
@@ -443,7 +553,10 @@ fn check_of<'a>(found: &ArgMatches<'a>) -> Request<'a>
 {
     match format_told(found) {
         Some(format) => match color_told(found) {
-            Some(color) => Request::Check(order_of(found, style_told(found, format, color))),
+            Some(color) => match threads_told(found) {
+                Some(workers) => check_by(found, format, color, workers),
+                None => Request::BadValue(ValueOption::Workers),
+            },
             None => Request::BadValue(ValueOption::Colors),
         },
         None => Request::BadValue(ValueOption::Form),

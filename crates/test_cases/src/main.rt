@@ -3,14 +3,16 @@
 //! `test_cases KIND FILE.. [-- KIND FILE..]..` reads of each file a text, a table of cases or the archive of a workspace, and writes the answers of
 //! the kind before it in lines. The kinds for texts and tables are at the head of data/cases.txt, and those for snapshots of workspaces in
 //! `test_snapshot`. Of the kind `script` a file has the lines of sessions, which are served as `govisd script` does, and `broken` serves it where reading or
-//! writing fails. Of the kind `check` it is a folder, which is checked as the module `example.com/FOLDER`. The status is 2 where there is no kind, and 1 where
-//! a file cannot be read.
+//! writing fails. Of the kind `loopback` it has the lines of a connection, which a daemon serves whose listener is in memory. Of the kind `check` it is a
+//! folder, which is checked as the module `example.com/FOLDER`. The status is 2 where there is no kind, and 1 where a file cannot be read.
 #![tactic(auto)]
 
+mod loopback;
 mod script;
 
 use govisd_folders::{Color, Format, Order, Style, check_folder};
 use std::alloc::{AllocError, Global};
+use std::io::Eprint;
 use std::process::ExitCode;
 use std::sync::Wait;
 use std::thread::Threads;
@@ -58,6 +60,7 @@ fn order_of<'a>(folder: &'a str, module_path: &'a str) -> Order<'a> {
             color: Color::Never,
             source: false,
         },
+        workers: Some(2),
     }
 }
 
@@ -71,7 +74,7 @@ fn show_check(rt: &HostRuntime, threads: &impl Threads, folder: &str) -> io::Res
 
 /// Takes a word: `--` ends a kind and its files, a word without a kind before it is the kind, and each behind it a file. Gives the number of the word
 /// that is the kind then, and 0 for none.
-fn show_word<T: Threads + Wait + Clock + Sync>(
+fn show_word<T: Threads + Wait + Clock + Eprint + Sync>(
     rt: &HostRuntime,
     threads: &T,
     words: &[String],
@@ -95,6 +98,7 @@ fn show_word<T: Threads + Wait + Clock + Sync>(
     match name.as_str() {
         "script" => script::show_script(rt, threads, word.as_str())?,
         "broken" => script::show_faults(rt, threads, word.as_str())?,
+        "loopback" => loopback::show_loopback(rt, threads, word.as_str())?,
         "check" => show_check(rt, threads, word.as_str())?,
         name => *last = show(rt, name, word.as_str(), last.as_slice())?,
     }

@@ -1,5 +1,5 @@
 //! Scripts of sessions: what is replied to their lines, by however many workers, in whatever pieces their bytes come, and where reading or writing fails.
-use go_wire_core::{Desk, Request, ServeEnd, WireReply, serve};
+use go_wire_core::{CountedReader, Desk, Request, ServeEnd, WireReply, serve};
 use govisd_service::{Served, run_script};
 use std::alloc::Global;
 use std::io::{ErrorKind, Read, Write};
@@ -232,13 +232,15 @@ impl Desk for Nobody {
 
 /// How many reads are made of blank lines without end, and how many bytes are written for them, or none where serving ends otherwise than for its turns.
 fn blank_turns<T: Wait>(threads: &T, alloc: Global) -> Option<(usize, usize)> {
-    let mut reader = Blanks { reads: 0 };
+    let mut reader = CountedReader::new(Blanks { reads: 0 });
     let mut writer = Replies {
         bytes: Vec::new(alloc),
         room: usize::MAX,
     };
-    match serve(threads, alloc, &mut reader, &mut writer, &mut Nobody, TURNS) {
-        ServeEnd::Turns => Some((reader.reads, writer.bytes.len())),
+    let end = serve(threads, alloc, &mut reader, &mut writer, &mut Nobody, TURNS);
+    let Blanks { reads } = reader.into_reader();
+    match end {
+        ServeEnd::Turns => Some((reads, writer.bytes.len())),
         _ => None,
     }
 }

@@ -4,10 +4,10 @@ use crate::words::{add_board, add_generations, add_reply, add_ticket};
 use go_batch_core::{ReadPart, rebuild};
 use go_path_core::Module;
 use go_path_core::text_core::{Rule, add};
-use go_submit_core::Ticket;
-use govisd_service::sched_core::{
+use go_sched_core::{
     Action, Committed, Core, Event, MAX_EVENTS, Ran, Reply, SessionId, run_events,
 };
+use go_submit_core::Ticket;
 use std::alloc::{AllocError, Global};
 use test_probe::show::Lines;
 

@@ -1,6 +1,7 @@
-//! The program `test_events`: what the core machine replies to lists of events, and what the workers of halls do behind gates of other kinds than the open one.
+//! The program `test_events`: what the core machine replies to lists of events, and what it does for batches that are measured.
 //!
-//! `test_events FILE..` writes the replies to the lists of each file, and then what workers do behind gates. The status is 1 where a file cannot be read.
+//! `test_events FILE..` writes the replies to the lists of each file. Words after `--` say what is measured (`measured`); what was done is written after the
+//! lists. The status is 1 where a file cannot be read or a rule refuses something, and 2 where those words are others.
 //!
 //! A text of lists has for each list a line `# TITLE`, and behind it a line `> COMMAND` for each step of a new core:
 //!
@@ -19,14 +20,22 @@
 //! (`changed`), and whether the core says so (`known`). Then a new core is run over the same events: each step prepared and then committed, and all at once.
 #![tactic(auto)]
 
-mod doors;
 mod lists;
-mod scenes;
+mod measured;
 mod trees;
 mod words;
 
+use crate::measured::{Order, run};
+use std::process::ExitCode;
 use std::{env, fs, io};
 use test_probe::show::Lines;
+
+/// What stands between the files and the words of what is measured.
+const BREAK: &str = "--";
+
+/// What the program is told.
+const USAGE: &str =
+    "usage: test_events FILE.. [-- batches|trees|parts near|spread body|constant first|middle|last kept|rebuilt|compiled PACKAGES IMPORTS TIMES]\n";
 
 /// Writes what is replied to the lists of a file.
 fn show_lists(rt: &HostRuntime, file: &str) -> io::Result<()> {
@@ -37,13 +46,31 @@ fn show_lists(rt: &HostRuntime, file: &str) -> io::Result<()> {
     print!(rt; "{lines}")
 }
 
-fn main(rt: HostRuntime) -> io::Result<()> {
-    let files: Vec<String> = env::args(&rt)?.collect(rt.alloc())?;
-    for number in 1..files.len() {
-        show_lists(&rt, files[number].as_str())?;
+/// Does what is measured, and writes what was done.
+fn measure(rt: &HostRuntime, words: &[String]) -> io::Result<ExitCode> {
+    let Some(order) = Order::read(words) else {
+        eprint!(rt; "{USAGE}")?;
+        return Ok(ExitCode::from(2));
+    };
+    match run(rt.alloc(), order) {
+        Ok(counts) => {
+            print!(rt; "{counts}")?;
+            Ok(ExitCode::from(0))
+        }
+        Err(rule) => {
+            eprint!(rt; "refused {rule}\n")?;
+            Ok(ExitCode::from(1))
+        }
     }
-    let mut out = Lines::new(rt.alloc());
-    scenes::show_gates(&rt, rt.alloc(), &mut out);
-    let lines = out.finish()?;
-    print!(rt; "{lines}")
+}
+
+fn main(rt: HostRuntime) -> io::Result<ExitCode> {
+    let words: Vec<String> = env::args(&rt)?.collect(rt.alloc())?;
+    for number in 1..words.len() {
+        if words[number].as_str() == BREAK {
+            return measure(&rt, &words.as_slice()[number..]);
+        }
+        show_lists(&rt, words[number].as_str())?;
+    }
+    Ok(ExitCode::from(0))
 }

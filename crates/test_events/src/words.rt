@@ -1,5 +1,5 @@
 //! Replies, tickets and batches in words.
-use govisd_service::sched_core::{Action, Core, Event, Reply, TicketState};
+use go_sched_core::{Action, Core, Reply, TicketState};
 use test_probe::show::Lines;
 
 /// Adds an action: its number, its generation, its package, and what the package's last published part is to it.
@@ -98,41 +98,6 @@ pub(crate) fn add_generations(out: &mut Lines, core: &Core) {
                 out.count(" made in ", part.made_in() as usize, "");
             }
         }
-    }
-    out.add("\n");
-}
-
-/// The kind of an event, as it is counted.
-fn kind_of(event: &Event) -> &'static str {
-    match event {
-        Event::Open(_) => " opens ",
-        Event::Close(_) => " closes ",
-        Event::Submit(_, _) => " submits ",
-        Event::Take => " takes ",
-        Event::Finish(_, _) => " finishes ",
-        Event::GiveBack(_) => " given back ",
-    }
-}
-
-/// Adds how often each kind of event stands in a history, in a line.
-pub(crate) fn add_history(out: &mut Lines, history: &[Event]) {
-    let kinds: &[&str] = &[
-        " opens ",
-        " submits ",
-        " takes ",
-        " finishes ",
-        " given back ",
-        " closes ",
-    ];
-    out.add("history:");
-    for kind in kinds {
-        let mut count = 0usize;
-        for event in history {
-            if kind_of(event) == *kind {
-                count = count.saturating_add(1);
-            }
-        }
-        out.count(kind, count, "");
     }
     out.add("\n");
 }

@@ -45,29 +45,29 @@ placed_there part p is all =
 pub placed_at : (parts : List (Option PartModel)) (n : ℕ) (part : Option PartModel) → All IfPlaced parts → n < length parts → part ≡ get_or parts n part → IfPlaced part
 placed_at parts n part all lt is = subst IfPlaced (sym is) (all n part lt)
 
-module _ (ps : List PackageModel) (parts : List (Option PartModel)) (well : IsWorkspace ps) (are : AreParts ps parts) where
+module _ (ps : List PackageModel) (parts : List (Option PartModel)) (are : AreParts ps parts) where
   -- a part is of the package of its number
   of_package : (n : ℕ) (p : PartModel) → slice_get parts n ≡ Some (Some p) → slice_get ps n ≡ Some p.input.source
   of_package n p at = (let b = numbered_back (λ m q x. IsPartOf ps parts m q x) 0 ps parts n (Some p) are at in b.1 ∙ ap Some (sym b.2.1.source))
 
-  -- the files of a part have what their texts say
-  pub part_is_read : (path : List ℕ) (p : PartModel) → IsPartAt ps parts path p → AreAllRead p.input.source
-  part_is_read path p h =
+  -- where the files of all packages have what their texts say, so have those of a part
+  pub part_is_read : All AreAllRead ps → (path : List ℕ) (p : PartModel) → IsPartAt ps parts path p → AreAllRead p.input.source
+  part_is_read all path p h =
       let at : slice_get ps h.number ≡ Some p.input.source = of_package h.number p h.there in
-      subst AreAllRead (get_or_from_slice_get ps h.number p.input.source p.input.source at) (well.read h.number p.input.source (slice_get_within ps h.number p.input.source at))
+      subst AreAllRead (get_or_from_slice_get ps h.number p.input.source p.input.source at) (all h.number p.input.source (slice_get_within ps h.number p.input.source at))
 
   -- so is what it was made from, where a look-up by path finds it
-  pub input_is_read : (path : List ℕ) (r : Option (Bor InputModel)) → MatchOption r ((q : PartModel) → ¬ IsPartAt ps parts path q) (λ i. (q : PartModel) × IsPartAt ps parts path q × (i.now ≡ q.input)) → IfSome r (λ i. AreAllRead i.now.source)
-  input_is_read path None told = tt
-  input_is_read path (Some i) told = subst (λ (j : InputModel). AreAllRead j.source) (sym told.2) (part_is_read path told.0 told.1)
+  pub input_is_read : All AreAllRead ps → (path : List ℕ) (r : Option (Bor InputModel)) → MatchOption r ((q : PartModel) → ¬ IsPartAt ps parts path q) (λ i. (q : PartModel) × IsPartAt ps parts path q × (i.now ≡ q.input)) → IfSome r (λ i. AreAllRead i.now.source)
+  input_is_read all path None told = tt
+  input_is_read all path (Some i) told = subst (λ (j : InputModel). AreAllRead j.source) (sym told.2) (part_is_read all path told.0 told.1)
 
-  placed_in : (n : ℕ) (part : Option PartModel) → slice_get parts n ≡ Some part → IfPlaced part
-  placed_in n None at = All-nil HasPlaced
-  placed_in n (Some p) at = All-cons HasPlaced p [] (trees_are_placed ps n p.input.source well (of_package n p at)) (All-nil HasPlaced)
+  placed_in : IsWorkspace ps → (n : ℕ) (part : Option PartModel) → slice_get parts n ≡ Some part → IfPlaced part
+  placed_in well n None at = All-nil HasPlaced
+  placed_in well n (Some p) at = All-cons HasPlaced p [] (trees_are_placed ps n p.input.source well (of_package n p at)) (All-nil HasPlaced)
 
   -- the trees of all parts are placed
-  pub parts_are_placed : All IfPlaced parts
-  parts_are_placed = λ n d lt. placed_in n (get_or parts n d) (slice_get-get_or parts n d lt)
+  pub parts_are_placed : IsWorkspace ps → All IfPlaced parts
+  parts_are_placed well = λ n d lt. placed_in well n (get_or parts n d) (slice_get-get_or parts n d lt)
 
 -- the parts of a workspace, the last one first, are its parts
 pub are_parts_of : (ps qs : List PackageModel) (parts : List (Option PartModel)) (given : List PartModel) → AreParts ps parts → qs ≡ ps → given ≡ reverse (somes parts) → ArePartsOf qs given

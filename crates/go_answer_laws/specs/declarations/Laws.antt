@@ -7,7 +7,7 @@ use Rattle.go_tree_nodes.specs.Trees.{FileTree}
 use Rattle.go_tree_core.specs.declared.occurrence.Occ.{Occ}
 use Rattle.go_tree_core.specs.Occurrences.{file_occs}
 use Rattle.go_graph_core.specs.Sources.{SourceModel}
-use Rattle.go_graph_core.specs.Workspaces.{PackageModel, IsWorkspace}
+use Rattle.go_graph_core.specs.Workspaces.{PackageModel, IsReadWorkspace, IsWorkspace}
 use Rattle.go_names_core.specs.block_core.Naming.{file_specs}
 use Rattle.go_term_core.specs.declared.term.MemberPlace.{MemberPlace}
 use Rattle.go_site_core.specs.handle_core.Declarations.{Declaration, Universe, OfError, Package, InFile}
@@ -30,7 +30,7 @@ place_in_part i m t = file_place (path_in i) m (file_specs t) (slice_index_or i.
 -- file, by its offset. And it is spelled there as it is where it occurs
 abbrev pub DeclarationsAreThere : Type 0
 DeclarationsAreThere =
-    (ps : List PackageModel) (parts : List (Option PartModel)) (faults : List PlacedFault) → IsWorkspace ps → IsSnapshot ps parts faults → (p : PartModel) → Contains (somes parts) p
+    (ps : List PackageModel) (parts : List (Option PartModel)) (faults : List PlacedFault) → IsReadWorkspace ps → IsSnapshot ps parts faults → (p : PartModel) → Contains (somes parts) p
     → (m : ℕ) (t : FileTree) (f : FileOf) → slice_get (trees_in p.input.source) m ≡ Some t → slice_get p.content.files m ≡ Some f
     → (let at : FilePlace = place_in_part p.input m t in AreThereAs (IsThereUnder ps at) (IsImportThereAt ps at) [] (file_occs t) f.answers.uses)
 
@@ -69,5 +69,5 @@ pub record IsAnswerThere (ps : List PackageModel) (i : InputModel) (file : ℕ) 
 -- so each answer names what is there, by the path of its package, the name of its file and its number
 abbrev pub AnswersAreThere : Type 0
 AnswersAreThere =
-    (ps : List PackageModel) (parts : List (Option PartModel)) (faults : List PlacedFault) → IsWorkspace ps → IsSnapshot ps parts faults
+    (ps : List PackageModel) (parts : List (Option PartModel)) (faults : List PlacedFault) → IsReadWorkspace ps → IsSnapshot ps parts faults
     → (path name : List ℕ) (n : ℕ) (u : TheUse) (h : IsAnswerAt ps parts path name n u) → IsAnswerThere ps h.of_part.input h.number h.source n u

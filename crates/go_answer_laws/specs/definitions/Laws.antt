@@ -6,7 +6,7 @@ use Rattle.go_tree_nodes.specs.declared.names.Ident.{Ident}
 use Rattle.go_tree_nodes.specs.Trees.{FileTree}
 use Rattle.go_tree_core.specs.declared.occurrence.Occ.{Occ}
 use Rattle.go_tree_core.specs.Occurrences.{Covers, file_occs}
-use Rattle.go_graph_core.specs.Workspaces.{PackageModel, IsWorkspace}
+use Rattle.go_graph_core.specs.Workspaces.{PackageModel, IsReadWorkspace}
 use Rattle.go_term_core.specs.declared.term.MemberPlace.{MemberPlace}
 use Rattle.go_term_core.specs.declared.term.MemberPlace.TheVariants as places
 use Rattle.go_site_core.specs.handle_core.Declarations.{Declaration, Universe, OfError, Package, InFile}
@@ -43,4 +43,4 @@ pub record IsTold (ps : List PackageModel) (f : FoundFile) (offset : ℕ) (d : D
 
 -- so is each that `define` gives: nothing that is written of it is empty, or left out for want of a package, a file or a number
 abbrev pub DefinitionsAreTold : Type 0
-DefinitionsAreTold = (s : SnapshotModel) → IsWorkspace s.sources → IsSnapshot s.sources s.parts s.faults → (path name : List ℕ) (offset : ℕ) (d : Declaration) (h : IsDefinition s path name offset d) → IsTold s.sources h.0 offset d
+DefinitionsAreTold = (s : SnapshotModel) → IsReadWorkspace s.sources → IsSnapshot s.sources s.parts s.faults → (path name : List ℕ) (offset : ℕ) (d : Declaration) (h : IsDefinition s path name offset d) → IsTold s.sources h.0 offset d

@@ -9,12 +9,13 @@ ghost use Rattle.go_package_core.specs.package_part.Parts.{IsPart};
 ghost use Rattle.go_batch_core.specs.seen.Local.{AreAmong, IsLocal, NoneIsOf};
 ghost use Rattle.go_batch_core.specs.seen.Sights.{Agrees, AreSeen, AreSeenBy, AreWithReached, IsSeenOf};
 
-use go_package_core::package_part::{Part, PartInput, compile_over};
+use go_package_core::package_part::{Part, PartInput, compile_over, compile_over_at_once};
 use go_path_core::ImportPath;
 use go_path_core::text_core::add;
 use go_summary_core::{ReachedSummaries, Summary, View, view_of};
 use std::alloc::{AllocError, Global};
 use std::marker::Model;
+use std::thread::Threads;
 
 /// What is seen of some packages: what they tell, and the tables of it that a check looks into. Contracts see the list of what they tell, each path
 /// once, in the order in which they were added.
@@ -175,7 +176,30 @@ impl Sight {
     }
 
     // The part of an input, where all that it reaches is seen, and its package is not. What it tells is seen after it.
-    fn make(self, alloc: Global, input: &PartInput) -> Result<Compiled, AllocError>
+    fn make<R: Threads + Sync>(
+        self,
+        rt: &R,
+        alloc: Global,
+        input: &PartInput,
+    ) -> Result<Compiled, AllocError>
+        requires local { IsLocal input.now }
+        requires none { NoneIsOf self (path_in input.now) }
+        requires all { AreAmong input.now.reached self }
+        ensures input { IfOk result (λ c. c.part.input ≡ input.now) }
+        ensures made { IfOk result (λ c. IsPart input.now c.part.content) }
+        ensures seen { IfOk result (λ c. c.sight ≡ self ++ c.part.content.summary ∷ []) }
+    {
+        let Sight { mut told, mut view } = self;
+        let content = compile_over_at_once(rt, alloc, input, &mut view)?;
+        add_after_types(&mut told, &mut view, &content.summary)?;
+        let shared = input.share()?;
+        let part = Part::new(alloc, shared, content)?;
+        let sight = Sight { told, view };
+        Ok(Compiled { part, sight })
+    }
+
+    // The same on this thread alone.
+    fn make_alone(self, alloc: Global, input: &PartInput) -> Result<Compiled, AllocError>
         requires local { IsLocal input.now }
         requires none { NoneIsOf self (path_in input.now) }
         requires all { AreAmong input.now.reached self }
@@ -192,16 +216,21 @@ impl Sight {
         Ok(Compiled { part, sight })
     }
 
-    /// The part of an input: the one that `compile_part` gives. Of what the input reaches only that is added to what is seen of which nothing is seen yet;
-    /// what the part tells is seen after it. Where memory is wanting nothing is seen any more. The time is that of the check, of a look-up for each package
-    /// that is reached, and of what is added.
+    /// The part of an input: the one that `compile_part` gives, where its files are checked in pieces of source at once. Of what the input reaches only that
+    /// is added to what is seen of which nothing is seen yet; what the part tells is seen after it. Where memory is wanting nothing is seen any more. The time
+    /// is that of the check, of a look-up for each package that is reached, and of what is added.
     ///
     /// The Go specification, "Packages", "Import declarations".
     ///
     /// # Errors
     ///
-    /// `AllocError` where memory is wanting.
-    pub fn compile(self, alloc: Global, input: &PartInput) -> Result<Compiled, AllocError>
+    /// `AllocError` where memory is wanting, or a thread.
+    pub fn compile<R: Threads + Sync>(
+        self,
+        rt: &R,
+        alloc: Global,
+        input: &PartInput,
+    ) -> Result<Compiled, AllocError>
         requires local { IsLocal input.now }
         requires agrees { Agrees self input.now.reached }
         ensures input { IfOk result (λ c. c.part.input ≡ input.now) }
@@ -211,7 +240,28 @@ impl Sight {
         let reached = input.reached();
         let others = self.without(alloc, input.path())?;
         let whole = others.with_reached(reached)?;
-        let made = whole.make(alloc, input)?;
+        let made = whole.make(rt, alloc, input)?;
+        Ok(made)
+    }
+
+    /// The same part as [`Sight::compile`] gives, with the same seen after it. Nothing of it is checked at once, so a thread without a handle may call it.
+    ///
+    /// The Go specification, "Packages", "Import declarations".
+    ///
+    /// # Errors
+    ///
+    /// `AllocError` where memory is wanting.
+    pub fn compile_alone(self, alloc: Global, input: &PartInput) -> Result<Compiled, AllocError>
+        requires local { IsLocal input.now }
+        requires agrees { Agrees self input.now.reached }
+        ensures input { IfOk result (λ c. c.part.input ≡ input.now) }
+        ensures made { IfOk result (λ c. IsPart input.now c.part.content) }
+        ensures seen { IfOk result (λ c. AreSeenBy self input.now c.sight) }
+    {
+        let reached = input.reached();
+        let others = self.without(alloc, input.path())?;
+        let whole = others.with_reached(reached)?;
+        let made = whole.make_alone(alloc, input)?;
         Ok(made)
     }
 }

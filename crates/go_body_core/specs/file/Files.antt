@@ -5,9 +5,9 @@
 use Rattle.std.specs.Prelude.{List, [], ◌++◌}
 use Rattle.std.specs.List.{flat_map}
 use Rattle.go_tree_nodes.specs.Trees.{DeclTree, Value, Types, Func, TopTree, FileTree}
-use Rattle.go_names_core.specs.block_core.declared.imports.Imported.{Imported}
-use Rattle.go_names_core.specs.block_core.Naming.{file_specs}
-use Rattle.go_names_core.specs.local_core.declared.Fault.{Fault}
+use Rattle.go_block_core.specs.declared.imports.Imported.{Imported}
+use Rattle.go_block_core.specs.Naming.{file_specs}
+use Rattle.go_local_core.specs.declared.Fault.{Fault}
 use Rattle.go_stmt_core.specs.toplevel.Tops.{value_decl_uses, value_decl_faults, type_decl_uses, type_decl_faults}
 use Rattle.go_body_core.specs.Notes.{TheUse, TheLocal}
 use Rattle.go_body_core.specs.function.Stands.{FileStand, outer_looks}

@@ -4,11 +4,11 @@
 use Rattle.std.specs.Prelude.{ℕ, List, [], ◌∷◌}
 use Rattle.go_tree_nodes.specs.Trees.{ImportSpecTree}
 use Rattle.go_tree_core.specs.declared.occurrence.Role.TheVariants as roles
-use Rattle.go_names_core.specs.block_core.declared.imports.Imported.{Imported}
-use Rattle.go_names_core.specs.block_core.declared.imports.Imported.TheVariants as given
-use Rattle.go_stmt_core.specs.denote_core.declared.things.Outcome.{Outcome}
-use Rattle.go_stmt_core.specs.denote_core.declared.things.Outcome.TheVariants as outcomes
-use Rattle.go_env_core.specs.handle_core.Declarations.{Declaration, Package}
+use Rattle.go_block_core.specs.declared.imports.Imported.{Imported}
+use Rattle.go_block_core.specs.declared.imports.Imported.TheVariants as given
+use Rattle.go_denote_core.specs.declared.things.Outcome.{Outcome}
+use Rattle.go_denote_core.specs.declared.things.Outcome.TheVariants as outcomes
+use Rattle.go_handle_core.specs.Declarations.{Declaration, Package}
 use Rattle.go_body_core.specs.Notes.{TheUse}
 
 -- the package of the path that an import comes to, or the rule that it breaks

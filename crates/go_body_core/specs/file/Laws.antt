@@ -5,10 +5,10 @@ use Rattle.std.specs.Prelude.{◌≡◌, List, ◌∷◌, ◌++◌, length, map,
 use Rattle.go_tree_nodes.specs.Trees.{FuncTree, TopTree, FileTree}
 use Rattle.go_tree_nodes.specs.Rules.{Wf_file}
 use Rattle.go_tree_core.specs.Occurrences.{file_occs}
-use Rattle.go_names_core.specs.block_core.declared.imports.Imported.{Imported}
-use Rattle.go_names_core.specs.block_core.Naming.{file_specs}
-use Rattle.go_names_core.specs.local_core.Tables.{IsFuncPlaced}
-use Rattle.go_stmt_core.specs.expr_core.Laws.{use_place, occurrence_place}
+use Rattle.go_block_core.specs.declared.imports.Imported.{Imported}
+use Rattle.go_block_core.specs.Naming.{file_specs}
+use Rattle.go_local_core.specs.Tables.{IsFuncPlaced}
+use Rattle.go_expr_core.specs.Laws.{use_place, occurrence_place}
 use Rattle.go_body_core.specs.function.Stands.{FileStand}
 use Rattle.go_body_core.specs.file.Files.{decl_uses, decl_faults, decl_locals, tops_uses, tops_faults, tops_locals, file_uses}
 use Rattle.go_body_core.specs.file.Stands.{file_funcs}

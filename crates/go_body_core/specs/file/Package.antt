@@ -4,10 +4,10 @@ use denote.Ref.{Bor}
 use Rattle.go_tree_nodes.specs.declared.files.File.{File}
 use Rattle.go_tree_nodes.specs.Trees.{FileTree}
 use Rattle.go_tree_nodes.specs.Shapes.{file_of}
-use Rattle.go_names_core.specs.block_core.declared.imports.Imported.{Imported}
+use Rattle.go_block_core.specs.declared.imports.Imported.{Imported}
 use Rattle.go_table_core.specs.Entries.{Entry}
 use Rattle.go_typexpr_core.specs.entry.Meanings.{Shows}
-use Rattle.go_names_core.specs.local_core.declared.Fault.{Fault}
+use Rattle.go_local_core.specs.declared.Fault.{Fault}
 use Rattle.go_body_core.specs.Notes.{TheUse, TheLocal}
 use Rattle.go_body_core.specs.function.Stands.{FileStand}
 use Rattle.go_body_core.specs.declared.file.file_at.FileAt.{FileAt}

@@ -5,9 +5,9 @@ use Rattle.std.specs.Prelude.{◌≡◌, ℕ, List, [], ◌∷◌}
 use Rattle.std.specs.List.{flat_map, AllZip}
 use Rattle.go_tree_nodes.specs.Trees.{FuncTree, DeclTree, Value, Types, Func, TopTree, FileTree}
 use Rattle.go_typexpr_core.specs.entry.Meanings.{Shows, file_meaning}
-use Rattle.go_stmt_core.specs.inline_core.Types.{InlineOf}
-use Rattle.go_stmt_core.specs.inline_core.Trees.{file_types}
-use Rattle.go_stmt_core.specs.inline_core.Inline.{inlines}
+use Rattle.go_inline_core.specs.Types.{InlineOf}
+use Rattle.go_inline_core.specs.Trees.{file_types}
+use Rattle.go_inline_core.specs.Inline.{inlines}
 use Rattle.go_env_core.specs.Scenes.{scene_shown}
 use Rattle.go_body_core.specs.function.Stands.{FileStand, kinds_in_scene}
 use Rattle.go_body_core.specs.function.Laws.{AreFuncTypes}

@@ -5,9 +5,9 @@
 use Rattle.std.specs.Prelude.{Bool, List, Option}
 use Rattle.go_tree_nodes.specs.Trees.{FuncTree}
 use Rattle.go_term_core.specs.Terms.{Term}
-use Rattle.go_names_core.specs.local_core.Binding.{Local}
-use Rattle.go_names_core.specs.local_core.Law.{Rules, Out}
-use Rattle.go_names_core.specs.local_core.Tables.{walked, out_by_intervals, IsTable}
+use Rattle.go_local_core.specs.Binding.{Local}
+use Rattle.go_local_core.specs.Law.{Rules, Out}
+use Rattle.go_local_core.specs.Tables.{walked, out_by_intervals, IsTable}
 use Rattle.go_stmt_core.specs.piece.Headers.{returned_types, returned_names}
 use Rattle.go_env_core.specs.declared.meaning.Meaning.{Meaning}
 use Rattle.go_body_core.specs.Notes.{NoteOf}

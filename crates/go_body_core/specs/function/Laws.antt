@@ -6,16 +6,16 @@ use Rattle.go_tree_nodes.specs.Trees.{TypeTree, FuncTree, FileTree}
 use Rattle.go_tree_nodes.specs.declared.types.TypeName.{TypeName}
 use Rattle.go_tree_core.specs.Occurrences.{func_occs}
 use Rattle.go_term_core.specs.Terms.{Term}
-use Rattle.go_names_core.specs.local_core.Binding.{Local, bound}
-use Rattle.go_names_core.specs.local_core.Tables.{IsFuncPlaced}
+use Rattle.go_local_core.specs.Binding.{Local, bound}
+use Rattle.go_local_core.specs.Tables.{IsFuncPlaced}
 use Rattle.go_names_core.specs.Scope.{beyond_in}
-use Rattle.go_names_core.specs.local_core.declared.Fault.{Fault}
-use Rattle.go_stmt_core.specs.expr_core.Looks.{WrittenRules}
-use Rattle.go_stmt_core.specs.expr_core.Laws.{use_place, occurrence_place}
-use Rattle.go_stmt_core.specs.inline_core.Types.{InlineOf}
-use Rattle.go_stmt_core.specs.inline_core.Trees.{func_types, file_types}
-use Rattle.go_stmt_core.specs.inline_core.Inline.{inlines}
-use Rattle.go_stmt_core.specs.inline_core.Functions.{scoped_outside, AreInlines}
+use Rattle.go_local_core.specs.declared.Fault.{Fault}
+use Rattle.go_expr_core.specs.Looks.{WrittenRules}
+use Rattle.go_expr_core.specs.Laws.{use_place, occurrence_place}
+use Rattle.go_inline_core.specs.Types.{InlineOf}
+use Rattle.go_inline_core.specs.Trees.{func_types, file_types}
+use Rattle.go_inline_core.specs.Inline.{inlines}
+use Rattle.go_inline_core.specs.Functions.{scoped_outside, AreInlines}
 use Rattle.go_env_core.specs.declared.meaning.Meaning.{Meaning}
 use Rattle.go_env_core.specs.Looks.{inline_rules}
 use Rattle.go_body_core.specs.Notes.{TheUse, TheLocal}

@@ -4,8 +4,8 @@
 use Rattle.std.specs.Prelude.{◌≡◌, ◌<◌, ℕ, not, List, [], ◌∷◌, Some, Contains}
 use Rattle.std.specs.List.{flat_map, AllByRecursion}
 use Rattle.go_tree_nodes.specs.Trees.{FuncTree}
-use Rattle.go_names_core.specs.local_core.Binding.{Local, bound, is_second}
-use Rattle.go_names_core.specs.local_core.Tables.{IsFuncPlaced}
+use Rattle.go_local_core.specs.Binding.{Local, bound, is_second}
+use Rattle.go_local_core.specs.Tables.{IsFuncPlaced}
 use Rattle.go_env_core.specs.declared.meaning.Meaning.{Meaning}
 use Rattle.go_env_core.specs.declared.meaning.Meaning.TheVariants as meanings
 use Rattle.go_body_core.specs.Notes.{TheValue, TheLocal}

@@ -2,17 +2,17 @@
 --
 -- docs/RULES.md, "Types inside functions", "Bodies of functions". The Go specification, "Declarations and scope", "Types".
 use Rattle.std.specs.Prelude.{ℕ, List, Option, Some}
-use Rattle.go_term_core.specs.decl_core.declared.keys.DeclKey.{DeclKey}
+use Rattle.go_decl_core.specs.declared.keys.DeclKey.{DeclKey}
 use Rattle.go_term_core.specs.Terms.{Term}
 use Rattle.go_term_core.specs.declared.settling.kind.Kind.{Kind}
 use Rattle.go_term_core.specs.settling.Settled.{kind_of_term}
 use Rattle.go_table_core.specs.Entries.{find_entry, term_in}
 use Rattle.go_typexpr_core.specs.written.Written as types
 use Rattle.go_typexpr_core.specs.written.Written.{InFile}
-use Rattle.go_names_core.specs.local_core.Binding.{NameLook}
-use Rattle.go_stmt_core.specs.expr_core.Looks.{WrittenRules}
-use Rattle.go_stmt_core.specs.inline_core.Inline.{inline_of}
-use Rattle.go_env_core.specs.declared_core.Faces.{TheFace}
+use Rattle.go_local_core.specs.Binding.{NameLook}
+use Rattle.go_expr_core.specs.Looks.{WrittenRules}
+use Rattle.go_inline_core.specs.Inline.{inline_of}
+use Rattle.go_declared_core.specs.Faces.{TheFace}
 use Rattle.go_env_core.specs.declared.meaning.Meaning.{Meaning}
 use Rattle.go_env_core.specs.Scenes.{SceneModel}
 use Rattle.go_env_core.specs.Looks.{TheLooks, looks_in, inline_type, inline_faults}

@@ -4,8 +4,8 @@
 use Rattle.std.specs.Prelude.{Bool, true, false, Option, Some, None, if◌then◌else◌}
 use Rattle.go_term_core.specs.Terms.{NoType}
 use Rattle.go_typexpr_core.specs.written.Written as types
-use Rattle.go_names_core.specs.local_core.Binding.{NameLook}
-use Rattle.go_stmt_core.specs.inline_core.Functions.{looked_up_ident}
+use Rattle.go_local_core.specs.Binding.{NameLook}
+use Rattle.go_inline_core.specs.Functions.{looked_up_ident}
 use Rattle.go_env_core.specs.declared.meaning.Meaning.{Meaning}
 use Rattle.go_env_core.specs.declared.meaning.Meaning.TheVariants as meanings
 

@@ -4,7 +4,7 @@
 -- docs/RULES.md, "Types inside functions", "Bodies of functions". The Go specification, "Declarations and scope".
 use Rattle.std.specs.Prelude.{◌≡◌, ℕ, false, List, [], ◌∷◌, map, Some, None, codes}
 use Rattle.std.specs.List.{flat_map}
-use Rattle.go_tree_nodes.specs.text_core.declared.rule.Rule.TheVariants.{N6}
+use Rattle.go_text_core.specs.declared.rule.Rule.TheVariants.{N6}
 use Rattle.go_universe_core.specs.declared.Predeclared.TheVariants as predeclared
 use Rattle.go_tree_nodes.specs.declared.names.Ident.{Ident}
 use Rattle.go_tree_nodes.specs.declared.decls.ValueKind.TheVariants as kinds
@@ -13,19 +13,19 @@ use Rattle.go_tree_nodes.specs.Trees.{One, TypeTree, Struct, NoFields, NamedFiel
 use Rattle.go_tree_nodes.specs.Samples.{at, called, type_at}
 use Rattle.go_tree_core.specs.declared.occurrence.Role.{Role}
 use Rattle.go_tree_core.specs.declared.occurrence.Role.TheVariants as roles
-use Rattle.go_term_core.specs.decl_core.declared.places.DeclKind.TheVariants as decl_kind
-use Rattle.go_term_core.specs.decl_core.declared.keys.DeclRef.{DeclRef}
-use Rattle.go_term_core.specs.decl_core.declared.keys.DeclKey.{DeclKey}
-use Rattle.go_names_core.specs.block_core.Blocks.{BlocksModel, blocks_model}
+use Rattle.go_decl_core.specs.declared.places.DeclKind.TheVariants as decl_kind
+use Rattle.go_decl_core.specs.declared.keys.DeclRef.{DeclRef}
+use Rattle.go_decl_core.specs.declared.keys.DeclKey.{DeclKey}
+use Rattle.go_block_core.specs.Blocks.{BlocksModel, blocks_model}
 use Rattle.go_term_core.specs.declared.term.Basic.TheVariants as basics
 use Rattle.go_term_core.specs.declared.term.MemberPlace.{MemberPlace}
 use Rattle.go_term_core.specs.declared.term.MemberPlace.TheVariants as places
 use Rattle.go_term_core.specs.Terms.{NoType, Predeclared, Defined, StructOf, NoField, AField}
 use Rattle.go_typexpr_core.specs.entry.Meanings.{declared_alone, file_meaning}
-use Rattle.go_stmt_core.specs.denote_core.declared.things.Outcome.{Outcome}
-use Rattle.go_stmt_core.specs.denote_core.declared.things.Outcome.TheVariants as outcomes
-use Rattle.go_env_core.specs.handle_core.Declarations.{Declaration, Universe, InFile}
-use Rattle.go_env_core.specs.declared_core.declared.face.Face.TheVariants as faces
+use Rattle.go_denote_core.specs.declared.things.Outcome.{Outcome}
+use Rattle.go_denote_core.specs.declared.things.Outcome.TheVariants as outcomes
+use Rattle.go_handle_core.specs.Declarations.{Declaration, Universe, InFile}
+use Rattle.go_declared_core.specs.declared.face.Face.TheVariants as faces
 use Rattle.go_stmt_core.specs.piece.Values.{variable}
 use Rattle.go_env_core.specs.declared.meaning.Meaning.{Meaning}
 use Rattle.go_env_core.specs.declared.meaning.Meaning.TheVariants as meanings

@@ -2,16 +2,16 @@
 use Rattle.std.proofs.Common.{◌≡◌, ℕ, Bool, List, [], ◌∷◌, Option, refl, ap}
 use Rattle.go_tree_nodes.specs.Trees.{TypeTree}
 use Rattle.go_term_core.specs.Terms.{Term, Sign}
-use Rattle.go_env_core.specs.handle_core.Declarations.{Declaration}
-use Rattle.go_names_core.specs.local_core.Binding.{NameLook}
-use Rattle.go_names_core.specs.local_core.Alike.{LookAtNames}
-use Rattle.go_stmt_core.specs.expr_core.Locality.{SameType}
+use Rattle.go_handle_core.specs.Declarations.{Declaration}
+use Rattle.go_local_core.specs.Binding.{NameLook}
+use Rattle.go_local_core.specs.Alike.{LookAtNames}
+use Rattle.go_expr_core.specs.Locality.{SameType}
 use Rattle.go_stmt_core.specs.piece.Laws.{FindByNames}
-use Rattle.go_names_core.specs.local_core.Pieces.{piece_types}
+use Rattle.go_local_core.specs.Pieces.{piece_types}
 use Rattle.go_stmt_core.proofs.PieceShown.{pieces_look}
 use Rattle.go_stmt_core.proofs.PieceLocal.{all_made}
-use Rattle.go_env_core.specs.declared_core.Faces.{TheFace}
-use Rattle.go_stmt_core.specs.inline_core.Types.{InlineOf}
+use Rattle.go_declared_core.specs.Faces.{TheFace}
+use Rattle.go_inline_core.specs.Types.{InlineOf}
 use Rattle.go_env_core.specs.declared.meaning.Meaning.{Meaning}
 use Rattle.go_env_core.specs.Scenes.{SceneModel, scene_shown}
 use Rattle.go_env_core.specs.Found.{found_of}

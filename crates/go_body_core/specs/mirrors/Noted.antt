@@ -1,7 +1,7 @@
 -- What the checker notes of a piece.
 use Rattle.std.specs.Prelude.{Bool, List, Option}
 use Rattle.go_tree_nodes.specs.declared.names.Ident.{Ident}
-use Rattle.go_stmt_core.specs.operand_core.declared.types.Operand.{Operand}
+use Rattle.go_operand_core.specs.declared.types.Operand.{Operand}
 use Rattle.go_term_core.specs.Terms.{Term}
 use Rattle.go_stmt_core.specs.piece.Pieces.{piece_uses}
 use Rattle.go_names_core.specs.declared.look.OpenNames.{OpenNames}

@@ -3,10 +3,10 @@ use Rattle.std.specs.Prelude.{Bool, List, [], Option}
 use Rattle.go_tree_nodes.specs.Trees.{Define}
 use Rattle.go_tree_nodes.specs.Shapes.{shape, shape_exprs, shape_some_exprs, shape_value_spec, shape_simple}
 use Rattle.go_tree_nodes.specs.TypeShapes.{shape_idents, shape_signature}
-use Rattle.go_names_core.specs.local_core.Steps.{Piece, Header, Spec, Act, Condition, Given}
-use Rattle.go_stmt_core.specs.operand_core.declared.types.Operand.{Operand}
-use Rattle.go_names_core.specs.local_core.declared.Fault.{Fault}
-use Rattle.go_stmt_core.specs.expr_core.Looks.{Looks}
+use Rattle.go_local_core.specs.Steps.{Piece, Header, Spec, Act, Condition, Given}
+use Rattle.go_operand_core.specs.declared.types.Operand.{Operand}
+use Rattle.go_local_core.specs.declared.Fault.{Fault}
+use Rattle.go_expr_core.specs.Looks.{Looks}
 use Rattle.go_stmt_core.specs.piece.Pieces.{piece_faults, piece_values}
 use Rattle.go_body_core.specs.declared.piece_trees.PieceTree.{PieceTree}
 use Rattle.go_body_core.specs.declared.piece_trees.PieceTree.TheVariants as trees

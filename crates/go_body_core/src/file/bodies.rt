@@ -6,8 +6,8 @@ ghost use Rattle.go_body_core.specs.file.Package.{IsReady, checked_file_shown, f
 use crate::file::file_at::FileAt;
 use crate::file::whole::{CheckedFile, check_file};
 use go_env_core::{Recall, TypesOf};
+use go_text_core::add;
 use go_tree_nodes::File;
-use go_tree_nodes::text_core::add;
 use go_typexpr_core::entry::ImportedNames;
 use std::alloc::{AllocError, Global};
 

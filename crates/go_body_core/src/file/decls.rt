@@ -1,9 +1,9 @@
-//! What the declarations of a file have and break.
+//! What declarations of a file have and break that follow one another.
 ghost use Rattle.std.specs.Prelude.{◌≡◌, ◌++◌, [], IfOk, OnOk, map};
 ghost use Rattle.go_tree_nodes.specs.Shapes.{decl_of, func_of, shape_type_decl, shape_value, top_of};
 ghost use Rattle.go_tree_nodes.specs.WrittenTypes.{specs_types};
-ghost use Rattle.go_names_core.specs.local_core.Tables.{IsFuncPlaced};
-ghost use Rattle.go_stmt_core.specs.inline_core.Trees.{decl_types};
+ghost use Rattle.go_local_core.specs.Tables.{IsFuncPlaced};
+ghost use Rattle.go_inline_core.specs.Trees.{decl_types};
 ghost use Rattle.go_names_core.specs.scope_core.Models.{scopes_model};
 ghost use Rattle.go_env_core.specs.Scenes.{scene_shown};
 ghost use Rattle.go_stmt_core.specs.toplevel.Tops as tops;
@@ -12,17 +12,19 @@ ghost use Rattle.go_body_core.specs.function.Functions.{checked_func};
 ghost use Rattle.go_body_core.specs.function.Laws.{AreFuncTypes};
 ghost use Rattle.go_body_core.specs.file.Files.{decl_uses, decl_faults, decl_locals, tops_uses, tops_faults, tops_locals};
 ghost use Rattle.go_body_core.specs.file.Stands.{stand_of};
+ghost use Rattle.go_body_core.specs.file.Runs.{IsRunMade};
 ghost use Rattle.go_body_core.specs.file.mirrors.SpecDecls.{AreSpecsSeen, spec_decl_faults, spec_decl_uses};
 ghost use Rattle.go_body_core.specs.file.mirrors.Steps.{AreMade, AreSeen, HasNext, behind};
 
 use crate::file::file_at::FileAt;
 use crate::file::notes::FileNotes;
+use crate::file::runs::Run;
 use crate::file::spec_decl::{SpecDecl, check_spec_decl};
 use crate::{Local, check_body};
 use go_env_core::{Meaning, Recall, Recalling, TypesOf, outer_names, stand};
+use go_inline_core::InlineTypes;
 use go_names_core::OpenNames;
 use go_names_core::scope_core::Scopes;
-use go_stmt_core::inline_core::InlineTypes;
 use go_tree_nodes::{Decl, FuncDecl, TopDecl, TypeDecl, ValueDecl};
 use go_typexpr_core::entry::ImportedNames;
 use std::alloc::{AllocError, Global};
@@ -116,6 +118,7 @@ fn check_decl<'p, P: ImportedNames, K: TypesOf>(
     alloc: Global,
     at: &FileAt<'_, 'p, P>,
     names: &OpenNames<Meaning<'p>>,
+    functions: &'p [InlineTypes],
     next: usize,
     decl: &Decl,
     recall: &Recall<'p, K>,
@@ -126,7 +129,7 @@ fn check_decl<'p, P: ImportedNames, K: TypesOf>(
     requires scopes { names.now.scopes.now ≡ scopes_model (scene_shown at.now.scene.now).blocks at.now.file [] }
     requires locals { names.now.locals.now ≡ [] }
     requires types { AreSeen (stand_of P.shows at.now) at.now.initial.now (decl_types (decl_of decl.now)) }
-    requires functions { HasNext (stand_of P.shows at.now) (decl_of decl.now) at.now.functions.now next }
+    requires functions { HasNext (stand_of P.shows at.now) (decl_of decl.now) functions.now next }
     ensures uses { IfOk result (λ n. notes.new.uses.items ≡ notes.old.uses.items ++ decl_uses (stand_of P.shows at.now) (decl_of decl.now)) }
     ensures faults { IfOk result (λ n. notes.new.faults.items ≡ notes.old.faults.items ++ decl_faults (stand_of P.shows at.now) (decl_of decl.now)) }
     ensures declared { IfOk result (λ n. declared.new.items ≡ declared.old.items ++ decl_locals (stand_of P.shows at.now) (decl_of decl.now)) }
@@ -142,15 +145,7 @@ fn check_decl<'p, P: ImportedNames, K: TypesOf>(
             Ok(next)
         }
         Decl::Func(func) => {
-            check_func(
-                alloc,
-                at,
-                &at.functions[next],
-                func,
-                recall,
-                notes,
-                declared,
-            )?;
+            check_func(alloc, at, &functions[next], func, recall, notes, declared)?;
             Ok(next + 1)
         }
     }
@@ -162,6 +157,7 @@ fn check_tops<'p, P: ImportedNames, K: TypesOf>(
     at: &FileAt<'_, 'p, P>,
     names: &OpenNames<Meaning<'p>>,
     decls: &[TopDecl],
+    functions: &'p [InlineTypes],
     recall: &Recall<'p, K>,
     notes: &mut FileNotes<'p>,
     declared: &mut Vec<Local<'p>>,
@@ -169,16 +165,47 @@ fn check_tops<'p, P: ImportedNames, K: TypesOf>(
     requires table { at.now.scene.now.types.now ≡ K.types }
     requires scopes { names.now.scopes.now ≡ scopes_model (scene_shown at.now.scene.now).blocks at.now.file [] }
     requires locals { names.now.locals.now ≡ [] }
-    requires made { AreMade (stand_of P.shows at.now) at.now.initial.now at.now.functions.now (map top_of decls.now) }
+    requires made { AreMade (stand_of P.shows at.now) at.now.initial.now functions.now (map top_of decls.now) }
     ensures uses { OnOk result (notes.new.uses.items ≡ notes.old.uses.items ++ tops_uses (stand_of P.shows at.now) (map top_of decls.now)) }
     ensures faults { OnOk result (notes.new.faults.items ≡ notes.old.faults.items ++ tops_faults (stand_of P.shows at.now) (map top_of decls.now)) }
     ensures declared { OnOk result (declared.new.items ≡ declared.old.items ++ tops_locals (stand_of P.shows at.now) (map top_of decls.now)) }
 {
     let mut next = 0;
     for top in decls {
-        next = check_decl(alloc, at, names, next, &top.decl, recall, notes, declared)?;
+        next = check_decl(
+            alloc, at, names, functions, next, &top.decl, recall, notes, declared,
+        )?;
     }
     Ok(())
+}
+
+/// Notes what a run of declarations has and breaks, and adds the locals that it declares.
+pub(crate) fn check_run<'p, P: ImportedNames, K: TypesOf>(
+    alloc: Global,
+    at: &FileAt<'_, 'p, P>,
+    run: &Run<'_, 'p>,
+    recall: &Recall<'p, K>,
+    notes: &mut FileNotes<'p>,
+    declared: &mut Vec<Local<'p>>,
+) -> Result<(), AllocError>
+    requires table { at.now.scene.now.types.now ≡ K.types }
+    requires made { IsRunMade (stand_of P.shows at.now) at.now.initial.now run.now }
+    ensures uses { OnOk result (notes.new.uses.items ≡ notes.old.uses.items ++ tops_uses (stand_of P.shows at.now) (map top_of run.now.decls.now)) }
+    ensures faults { OnOk result (notes.new.faults.items ≡ notes.old.faults.items ++ tops_faults (stand_of P.shows at.now) (map top_of run.now.decls.now)) }
+    ensures declared { OnOk result (declared.new.items ≡ declared.old.items ++ tops_locals (stand_of P.shows at.now) (map top_of run.now.decls.now)) }
+{
+    let scopes = Scopes::begin(alloc, at.scene.blocks, at.file);
+    let names = outer_names(at.scene, &scopes);
+    check_tops(
+        alloc,
+        at,
+        &names,
+        run.decls,
+        run.functions,
+        recall,
+        notes,
+        declared,
+    )
 }
 
 /// Notes what the declarations of a file have and break, and adds the locals that they declare, one behind another.
@@ -196,7 +223,9 @@ pub(crate) fn check_decls<'p, P: ImportedNames, K: TypesOf>(
     ensures faults { OnOk result (notes.new.faults.items ≡ notes.old.faults.items ++ tops_faults (stand_of P.shows at.now) (map top_of decls.now)) }
     ensures declared { OnOk result (declared.new.items ≡ declared.old.items ++ tops_locals (stand_of P.shows at.now) (map top_of decls.now)) }
 {
-    let scopes = Scopes::begin(alloc, at.scene.blocks, at.file);
-    let names = outer_names(at.scene, &scopes);
-    check_tops(alloc, at, &names, decls, recall, notes, declared)
+    let all = Run {
+        decls,
+        functions: at.functions,
+    };
+    check_run(alloc, at, &all, recall, notes, declared)
 }

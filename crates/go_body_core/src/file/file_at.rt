@@ -1,10 +1,10 @@
 //! Where a file of a package is checked.
+use go_block_core::Imported;
+use go_decl_core::Places;
+use go_declared_core::Face;
 use go_env_core::Scene;
-use go_env_core::declared_core::Face;
-use go_env_core::handle_core::{SignatureRef, TypeRef};
-use go_names_core::block_core::Imported;
-use go_stmt_core::inline_core::InlineTypes;
-use go_term_core::decl_core::Places;
+use go_handle_core::{SignatureRef, TypeRef};
+use go_inline_core::InlineTypes;
 
 /// What a file of a package is checked by. All is lent.
 #[derive(Drop)]

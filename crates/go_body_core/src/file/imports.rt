@@ -1,18 +1,18 @@
 //! What the imports of a file have.
 ghost use Rattle.std.specs.Prelude.{◌≡◌, ◌++◌, ◌∷◌, [], OnOk, map};
 ghost use Rattle.go_tree_nodes.specs.Shapes.{import_of, shape_import_spec};
-ghost use Rattle.go_names_core.specs.block_core.Naming.{specs_of};
-ghost use Rattle.go_names_core.specs.block_core.mirrors.Shown.{spec_shown};
+ghost use Rattle.go_block_core.specs.Naming.{specs_of};
+ghost use Rattle.go_block_core.specs.mirrors.Shown.{spec_shown};
 ghost use Rattle.go_body_core.specs.file.Imports as has;
 
 use crate::BodyUse;
-use go_env_core::handle_core::{Decl, DeclSite};
-use go_env_core::select_core::EmbedPath;
-use go_names_core::block_core::{Imported, import_specs};
-use go_stmt_core::denote_core::Outcome;
-use go_stmt_core::expr_core::Use;
+use go_block_core::{Imported, import_specs};
+use go_denote_core::Outcome;
+use go_expr_core::Use;
+use go_handle_core::{Decl, DeclSite};
+use go_select_core::EmbedPath;
+use go_text_core::add;
 use go_tree_core::Role;
-use go_tree_nodes::text_core::add;
 use go_tree_nodes::{ImportDecl, ImportSpec};
 use std::alloc::{AllocError, Global};
 

@@ -1,9 +1,9 @@
 //! What is noted of a file.
 ghost use Rattle.std.specs.Prelude.{◌≡◌, []};
 
-use go_env_core::handle_core::Decl;
-use go_env_core::select_core::EmbedPath;
-use go_stmt_core::expr_core::Notes;
+use go_expr_core::Notes;
+use go_handle_core::Decl;
+use go_select_core::EmbedPath;
 use std::alloc::Global;
 
 /// What the occurrences of a file have, in order of their places, and its faults.

@@ -1,9 +1,9 @@
 //! Declarations outside functions by specifications, and their check in any environment.
 ghost use Rattle.std.specs.Prelude.{◌≡◌, ◌++◌, OnOk};
-ghost use Rattle.go_stmt_core.specs.expr_core.Looks.{everywhere};
+ghost use Rattle.go_expr_core.specs.Looks.{everywhere};
 ghost use Rattle.go_body_core.specs.file.mirrors.SpecDecls.{spec_decl_faults, spec_decl_uses};
 
-use go_stmt_core::expr_core::{Exprs, Notes};
+use go_expr_core::{Exprs, Notes};
 use go_stmt_core::toplevel::{check_type_decl, check_value_decl};
 use go_tree_nodes::{TypeDecl, ValueDecl};
 use std::alloc::{AllocError, Global};

@@ -11,8 +11,8 @@ use crate::file::imports::add_imports;
 use crate::file::notes::nothing;
 use crate::{BodyUse, Local};
 use go_env_core::{Recall, TypesOf};
-use go_names_core::local_core::Fault;
-use go_stmt_core::expr_core::Notes;
+use go_expr_core::Notes;
+use go_local_core::Fault;
 use go_tree_nodes::File;
 use go_typexpr_core::entry::ImportedNames;
 use std::alloc::{AllocError, Global};
@@ -28,6 +28,14 @@ pub struct CheckedFile<'p> {
     pub faults: Vec<Fault>,
     /// The locals that its functions declare, in order of their identifiers' places.
     pub locals: Vec<Local<'p>>,
+}
+
+/// How many bytes of a file its declarations end behind.
+pub fn file_bytes(tree: &File) -> usize {
+    match tree.decls.last() {
+        Some(top) => top.semicolon.end as usize,
+        None => 0,
+    }
 }
 
 /// Checks a file of a package.

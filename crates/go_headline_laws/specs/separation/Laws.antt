@@ -3,7 +3,7 @@
 -- docs/RULES.md, "The service".
 use Rattle.std.specs.Prelude.{◌≡◌, ℕ, true, ⊤, List, Some, All, Contains, take}
 use Rattle.go_path_core.specs.Path.{overlap}
-use Rattle.go_graph_core.specs.Workspaces.{IsWorkspace, files_at, is_path_inside}
+use Rattle.go_graph_core.specs.Workspaces.{IsReadWorkspace, files_at, is_path_inside}
 use Rattle.go_submit_core.specs.Laws.{AreWorkspaces, LiesInNoOther, last_tree, submissions_of, tree_files}
 use Rattle.go_submit_core.specs.Published.{AreSound, sources_of}
 use Rattle.go_submit_core.specs.Trees.{TreeModel}
@@ -60,7 +60,7 @@ RunsAreSound = (es : List Event) (rs : List Reply) (t : Service) → Run empty e
 
 -- a tree that is submitted is a workspace: packages in order of path, each with its files in order of name, each file read from its text
 abbrev pub IsHandedIn : Event → Type 0
-IsHandedIn (Submit id tree) = IsWorkspace tree.packages
+IsHandedIn (Submit id tree) = IsReadWorkspace tree.packages
 IsHandedIn _ = ⊤
 
 abbrev pub AreHandedIn : List Event → Type 0
@@ -70,9 +70,9 @@ AreHandedIn es = All IsHandedIn es
 abbrev pub TreesAreWell : Type 0
 TreesAreWell = (es : List Event) (rs : List Reply) (t : Service) → AreHandedIn es → Run empty es rs t → AreWorkspaces (submissions_of t.published)
 
--- and so are the packages of all that is published up to a batch
+-- and so are the packages of all that is published up to a batch, each file of which is read
 abbrev pub SourcesAreWell : Type 0
-SourcesAreWell = (es : List Event) (rs : List Reply) (t : Service) → AreHandedIn es → Run empty es rs t → (k : ℕ) → IsWorkspace (sources_of (take k t.published))
+SourcesAreWell = (es : List Event) (rs : List Reply) (t : Service) → AreHandedIn es → Run empty es rs t → (k : ℕ) → IsReadWorkspace (sources_of (take k t.published))
 
 -- what is published inside a module that is taken is the last tree that was built of it
 abbrev pub PublishedTrees : Type 0

@@ -1,5 +1,5 @@
 //! Which packages of a workspace are those of an earlier one.
-ghost use Rattle.std.specs.Prelude.{◌≡◌, ◌↔◌, IfOk, IsTrue, None, Some, slice_get};
+ghost use Rattle.std.specs.Prelude.{◌≡◌, ◌↔◌, All, IfOk, IsTrue, None, Some, slice_get};
 ghost use Rattle.go_graph_core.specs.Workspaces.{AreAllRead, IsWorkspace};
 ghost use Rattle.go_import_core.specs.head.Heads.{AreSameMarks, AreSpelledAlike, HaveSameHeads, spelled_head_of};
 ghost use Rattle.go_import_core.specs.head.Outside.{AreSameOutside};
@@ -46,7 +46,7 @@ fn compare_at(
     other: &PackageSource,
 ) -> (bool, bool)
     requires outside { AreSameTwoAt modules.now packages.now number other.now }
-    requires own { IsWorkspace packages.now }
+    requires own { All AreAllRead packages.now }
     requires other { AreAllRead other.now }
     ensures same { IsMarkOf packages.now number other.now result.0 }
     ensures head { IsHeadOf packages.now number other.now result.1 }
@@ -67,6 +67,8 @@ fn compare_all(
     requires outside { AreSameOutside modules.now packages.now others.now }
     requires own { IsWorkspace packages.now }
     requires other { IsWorkspace others.now }
+    requires own_read { All AreAllRead packages.now }
+    requires other_read { All AreAllRead others.now }
     ensures same { IfOk result (λ c. AreSameMarks packages.now others.now c.same.items) }
     ensures heads { IfOk result (λ c. IsTrue c.heads → HaveSameHeads packages.now others.now) }
     ensures spelled { IfOk result (λ c. IsTrue c.heads ↔ AreSpelledAlike packages.now others.now) }

@@ -39,8 +39,8 @@ fn text_behind(alloc: Global, own: &Module) -> Result<String, AllocError>
     Ok(text)
 }
 
-/// Of packages in order of path those from the first to the last that may lie inside a module, by how their paths compare: all that do are among them.
-/// Few paths are looked at.
+/// Of packages in order of path, of which each file is read, those from the first to the last that may lie inside a module, by how their paths compare: all
+/// that do are among them. Few paths are looked at.
 ///
 /// # Errors
 ///
@@ -50,7 +50,8 @@ pub fn span_of<'a>(
     own: &Module,
     packages: &'a [PackageSource],
 ) -> Result<&'a [PackageSource], AllocError>
-    requires { IsWorkspace packages.now }
+    requires well { IsWorkspace packages.now }
+    requires read { All AreAllRead packages.now }
     ensures inside { IfOk result (λ span. packages_inside own.now span.now ≡ packages_inside own.now packages.now) }
     ensures read { IfOk result (λ span. All AreAllRead span.now) }
     ensures near { IfOk result (λ span. span.now ≡ packages_near own.now packages.now) }

@@ -43,8 +43,12 @@ impl Drop for PackageContent {
     }
 }
 
-// The blocks of the package of an input.
-fn blocks_of(alloc: Global, input: &PartInput) -> Result<Blocks, AllocError>
+/// The blocks of the package of an input.
+///
+/// # Errors
+///
+/// `AllocError` where memory is wanting.
+pub(crate) fn blocks_of(alloc: Global, input: &PartInput) -> Result<Blocks, AllocError>
     ensures { IfOk result (AreBlocks (trees_of input.now.source.1) (package_named (trees_of input.now.source.1) input.now.imports)) }
 {
     let package = input.package();
@@ -78,8 +82,12 @@ fn check(
     Ok(checked)
 }
 
-// What a package has that has these blocks, and whose check gives this.
-fn content_of(
+/// What a package has that has these blocks, and whose check gives this.
+///
+/// # Errors
+///
+/// `AllocError` where memory is wanting.
+pub(crate) fn content_of(
     alloc: Global,
     input: &PartInput,
     blocks: Blocks,

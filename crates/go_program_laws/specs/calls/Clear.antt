@@ -9,7 +9,7 @@ use Rattle.go_term_core.specs.Terms.{Term, Sign}
 use Rattle.go_body_core.specs.stmt_core.PieceHeaders.{returned_names, returned_types}
 use Rattle.go_body_core.specs.env_core.declared.meaning.Meaning.{Meaning as NameMeaning}
 use Rattle.go_meaning_laws.specs.handle_core.Declarations.{Declaration}
-use Rattle.go_graph_core.specs.Workspaces.{IsWorkspace, PackageModel}
+use Rattle.go_graph_core.specs.Workspaces.{IsReadWorkspace, PackageModel}
 use Rattle.go_emit_core.specs.package_core.PreparePackages.{trees_in}
 use Rattle.go_emit_core.specs.package_core.PackagePartParts.{FileOf, PartModel}
 use Rattle.go_emit_core.specs.Emitted.{are_clean}
@@ -27,7 +27,7 @@ use Rattle.go_program_laws.specs.checked_sources.Statements.{IsClear}
 -- methods apart
 abbrev pub PartsAreClear : Type 0
 PartsAreClear =
-    (ws : List PackageModel) (parts : List (Option PartModel)) → IsWorkspace ws → AreParts ws parts → (number : ℕ) (part : PartModel) → slice_get parts number ≡ Some (Some part) → are_clean part.content.files ≡ true
+    (ws : List PackageModel) (parts : List (Option PartModel)) → IsReadWorkspace ws → AreParts ws parts → (number : ℕ) (part : PartModel) → slice_get parts number ≡ Some (Some part) → are_clean part.content.files ≡ true
     → (n : ℕ) (t : FileTree) (f : FileOf) → slice_get (trees_in part.input.source) n ≡ Some t → slice_get part.content.files n ≡ Some f
     → (g : FuncTree) → Contains (file_funcs t) g → (all : List (Local NameMeaning)) → AreFuncDeclarations (stand_in_part part.input part.content n t) g all → (p : Piece) → Contains (pieces_of g) p
     → (firsts : List Bool)

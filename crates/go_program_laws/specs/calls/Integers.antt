@@ -17,7 +17,7 @@ use Rattle.go_meaning_laws.specs.source_meaning.Meaning.{SourceOf}
 use Rattle.go_meaning_laws.specs.fitting_sources.Fitting.{IsGiven}
 use Rattle.go_machine_core.specs.link.Functions.{PlaceModel}
 use Rattle.go_meaning_laws.specs.handle_core.Declarations.{Declaration}
-use Rattle.go_graph_core.specs.Workspaces.{AreAllRead, IsWorkspace, PackageModel}
+use Rattle.go_graph_core.specs.Workspaces.{AreAllRead, IsReadWorkspace, PackageModel}
 use Rattle.go_emit_core.specs.package_core.PackagePartParts.{PartModel}
 use Rattle.go_workspace_laws.specs.Standing.{piece_exprs, pieces_of}
 use Rattle.go_snap_core.specs.whole_workspace.Inputs.{AreParts}
@@ -43,6 +43,6 @@ PiecesHaveValues =
     (looks : CodeLooks) (g : FuncTree) → HaveValues looks (spell_func g) → (p : Piece) → Contains (pieces_of g) p → (e : ExprTree) → Contains (piece_exprs p) e
     → (q : Stand) (n : ℕ) (span : Span) → Contains (parts stands.«Value» e) (q, Integer n span) → IsGiven (folded looks (Integer n span))
 
--- the files of each part of a workspace are read
+-- where each file of a workspace is read, so are the files of each part
 abbrev pub PartsAreRead : Type 0
-PartsAreRead = (ps : List PackageModel) (parts : List (Option PartModel)) → IsWorkspace ps → AreParts ps parts → (n : ℕ) (p : PartModel) → slice_get parts n ≡ Some (Some p) → AreAllRead p.input.source
+PartsAreRead = (ps : List PackageModel) (parts : List (Option PartModel)) → IsReadWorkspace ps → AreParts ps parts → (n : ℕ) (p : PartModel) → slice_get parts n ≡ Some (Some p) → AreAllRead p.input.source

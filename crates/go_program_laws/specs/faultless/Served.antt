@@ -11,7 +11,7 @@ use Rattle.go_report_core.specs.denote_core.declared.things.Stand.{Stand}
 use Rattle.go_report_core.specs.denote_core.declared.things.Stand.TheVariants as stands
 use Rattle.go_meaning_laws.specs.handle_core.Declarations.{Declaration}
 use Rattle.go_body_core.specs.env_core.declared.meaning.Meaning.{Meaning as NameMeaning}
-use Rattle.go_graph_core.specs.Workspaces.{IsWorkspace, PackageModel}
+use Rattle.go_graph_core.specs.Workspaces.{IsReadWorkspace, IsWorkspace, PackageModel}
 use Rattle.go_emit_core.specs.package_core.PackagePartInputs.{InputModel}
 use Rattle.go_emit_core.specs.package_core.PackagePartParts.{ContentOf, FileOf, PartModel}
 use Rattle.go_emit_core.specs.package_core.PackagePartSlots.{somes}
@@ -38,7 +38,7 @@ HaveIntegers i c =
 
 -- so it is of each part of a workspace
 abbrev pub IntegersAreGiven : Type 0
-IntegersAreGiven = (ws : List PackageModel) (parts : List (Option PartModel)) → IsWorkspace ws → AreParts ws parts → (p : PartModel) → Contains (somes parts) p → HaveIntegers p.input p.content
+IntegersAreGiven = (ws : List PackageModel) (parts : List (Option PartModel)) → IsReadWorkspace ws → AreParts ws parts → (p : PartModel) → Contains (somes parts) p → HaveIntegers p.input p.content
 
 -- in the functions of each part the constants that names stand for are of types over what their values are
 abbrev pub ConstantsAreServed : Type 0
@@ -64,6 +64,6 @@ AreCallsServed program callees i c n f g =
 -- of the functions of a workspace all else is so that the laws ask of them
 abbrev pub FunctionsAreServed : Type 0
 FunctionsAreServed =
-    (ws : List PackageModel) (parts : List (Option PartModel)) → IsWorkspace ws → AreParts ws parts → (program : List SourceOf) (callees : List (Option ℕ)) → (p : PartModel) → Contains (somes parts) p
+    (ws : List PackageModel) (parts : List (Option PartModel)) → IsReadWorkspace ws → AreParts ws parts → (program : List SourceOf) (callees : List (Option ℕ)) → (p : PartModel) → Contains (somes parts) p
     → (n : ℕ) (t : FileTree) (f : FileOf) (g : FuncTree) (all : List (Local NameMeaning)) → IsFunction p.input p.content n t f g all
     → AreCallsServed program callees p.input p.content n f g → IsServed program callees p.input p.content n t f g all

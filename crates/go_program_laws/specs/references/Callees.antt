@@ -12,7 +12,7 @@ use Rattle.go_body_core.specs.stmt_core.PieceHeaders.{entry_types}
 use Rattle.go_meaning_laws.specs.handle_core.Declarations.{InFile}
 use Rattle.go_body_core.specs.env_core.declared.meaning.Meaning.{Meaning as NameMeaning}
 use Rattle.go_body_core.specs.env_core.Looks.{TheLooks}
-use Rattle.go_graph_core.specs.Workspaces.{IsWorkspace, PackageModel}
+use Rattle.go_graph_core.specs.Workspaces.{IsReadWorkspace, PackageModel}
 use Rattle.go_emit_core.specs.package_core.PackagePartInputs.{InputModel, path_in}
 use Rattle.go_emit_core.specs.package_core.PackagePartParts.{ContentOf, FileOf, PartModel}
 use Rattle.go_emit_core.specs.package_core.PackagePartSlots.{somes}
@@ -60,7 +60,7 @@ pub record IsFunctionAt (ps : List PartModel) (path : List ℕ) (d : DeclRef) (n
 -- the number to which a reference leads is so
 abbrev pub ReferencesLeadToFunctions : Type 0
 ReferencesLeadToFunctions =
-    (ws : List PackageModel) (parts : List (Option PartModel)) → IsWorkspace ws → AreParts ws parts
+    (ws : List PackageModel) (parts : List (Option PartModel)) → IsReadWorkspace ws → AreParts ws parts
     → (path : List ℕ) (d : DeclRef) (number : ℕ) → number_of place_declared (all_functions (objects_of (somes parts))) (InFile path (places.Declared d)) ≡ Some number
     → IsFunctionAt (somes parts) path d number
 
@@ -101,6 +101,6 @@ pub record IsDeclaredAt (ps : List PartModel) (path : List ℕ) (d : DeclRef) (n
 -- so it is of each function of a workspace to which a reference leads that is reached, where the program can be run
 abbrev pub ReachedTakeWords : Type 0
 ReachedTakeWords =
-    (ws : List PackageModel) (parts : List (Option PartModel)) → IsWorkspace ws → AreParts ws parts → (main : List ℕ) (r : RunnableOf) → IsRunnable (program_of place_declared (objects_of (somes parts)) main) r
+    (ws : List PackageModel) (parts : List (Option PartModel)) → IsReadWorkspace ws → AreParts ws parts → (main : List ℕ) (r : RunnableOf) → IsRunnable (program_of place_declared (objects_of (somes parts)) main) r
     → (path : List ℕ) (d : DeclRef) (number : ℕ) → IsReached (sources_of place_declared (somes parts)) r.starts number → number_of place_declared (all_functions (objects_of (somes parts))) (InFile path (places.Declared d)) ≡ Some number
     → IsDeclaredAt (somes parts) path d number

@@ -13,7 +13,7 @@ use Rattle.go_meaning_laws.specs.handle_core.Declarations.{InFile}
 use Rattle.go_emit_core.specs.declared_core.declared.face.Face.TheVariants as faces
 use Rattle.go_body_core.specs.env_core.Found.{own_face}
 use Rattle.go_body_core.specs.env_core.declared.meaning.Meaning.{Meaning as NameMeaning}
-use Rattle.go_graph_core.specs.Workspaces.{IsWorkspace, PackageModel}
+use Rattle.go_graph_core.specs.Workspaces.{IsReadWorkspace, IsWorkspace, PackageModel}
 use Rattle.go_emit_core.specs.package_core.PreparePackages.{scene_in, trees_in}
 use Rattle.go_emit_core.specs.package_core.PackagePartInputs.{InputModel, path_in}
 use Rattle.go_emit_core.specs.package_core.PackagePartParts.{ContentOf, IsPart, PartModel, package_seen, seen_by}
@@ -48,7 +48,7 @@ OwnSignaturesAreTheirs =
 -- checked, behind what its receiver is over, and gives what its own result gives
 abbrev pub OwnCalleesTakeWords : Type 0
 OwnCalleesTakeWords =
-    (ws : List PackageModel) (parts : List (Option PartModel)) → IsWorkspace ws → AreParts ws parts → (main : List ℕ) (r : RunnableOf) → IsRunnable (program_of place_declared (objects_of (somes parts)) main) r
+    (ws : List PackageModel) (parts : List (Option PartModel)) → IsReadWorkspace ws → AreParts ws parts → (main : List ℕ) (r : RunnableOf) → IsRunnable (program_of place_declared (objects_of (somes parts)) main) r
     → (path : List ℕ) (d : DeclRef) (number : ℕ) → IsReached (sources_of place_declared (somes parts)) r.starts number → (at : IsFunctionAt (somes parts) path d number)
     → (s : Sign) → IsOwnFunction at.part.input at.part.content d s → (n : ℕ) (t : FileTree) (all : List (Local NameMeaning))
     → (words : List Word)
@@ -75,7 +75,7 @@ pub record IsOwnCallee (ps : List PartModel) (p : PartModel) (d : DeclRef) (numb
 -- so it is of each number of a part's own function that is reached
 abbrev pub OwnReferencesTakeWords : Type 0
 OwnReferencesTakeWords =
-    (ws : List PackageModel) (parts : List (Option PartModel)) → IsWorkspace ws → AreParts ws parts → (main : List ℕ) (r : RunnableOf) → IsRunnable (program_of place_declared (objects_of (somes parts)) main) r
+    (ws : List PackageModel) (parts : List (Option PartModel)) → IsReadWorkspace ws → AreParts ws parts → (main : List ℕ) (r : RunnableOf) → IsRunnable (program_of place_declared (objects_of (somes parts)) main) r
     → (p : PartModel) → Contains (somes parts) p → (d : DeclRef) (s : Sign) → IsOwnFunction p.input p.content d s
     → (number : ℕ) → number_of place_declared (all_functions (objects_of (somes parts))) (InFile (path_in p.input) (places.Declared d)) ≡ Some number → IsReached (sources_of place_declared (somes parts)) r.starts number
     → IsOwnCallee (somes parts) p d number s

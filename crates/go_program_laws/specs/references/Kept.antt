@@ -5,7 +5,7 @@ use Rattle.std.specs.Prelude.{◌≡◌, ℕ, true, List, Option, Some, Contains
 use Rattle.go_tree_nodes.specs.Trees.{FileTree, FuncTree}
 use Rattle.go_names_core.specs.local_core.Binding.{Local}
 use Rattle.go_body_core.specs.env_core.declared.meaning.Meaning.{Meaning as NameMeaning}
-use Rattle.go_graph_core.specs.Workspaces.{IsWorkspace, PackageModel}
+use Rattle.go_graph_core.specs.Workspaces.{IsReadWorkspace, PackageModel}
 use Rattle.go_emit_core.specs.package_core.PackagePartInputs.{path_in}
 use Rattle.go_emit_core.specs.package_core.PackagePartParts.{FileOf, PartModel}
 use Rattle.go_emit_core.specs.package_core.PackagePartSlots.{somes}
@@ -41,20 +41,20 @@ pub record IsRun (ps : List PartModel) (main : List ℕ) (r : RunnableOf) (p : P
 -- what the caller's code has for it
 abbrev pub ReferencesAreKept : Type 0
 ReferencesAreKept =
-    (ws : List PackageModel) (parts : List (Option PartModel)) → IsWorkspace ws → AreParts ws parts → (main : List ℕ) (r : RunnableOf) → IsRunnable (program_of place_declared (objects_of (somes parts)) main) r
+    (ws : List PackageModel) (parts : List (Option PartModel)) → IsReadWorkspace ws → AreParts ws parts → (main : List ℕ) (r : RunnableOf) → IsRunnable (program_of place_declared (objects_of (somes parts)) main) r
     → (p : PartModel) (n : ℕ) (t : FileTree) (f : FileOf) (g : FuncTree) (all : List (Local NameMeaning)) → IsRun (somes parts) main r p n t f g all
     → AreReferencesKept (sources_of place_declared (somes parts)) (number_of place_declared (all_functions (objects_of (somes parts)))) p.input p.content n t f g all
 
 -- so is each method of a type over `int` or `bool`, which takes a word over its receiver too
 abbrev pub MethodsAreKept : Type 0
 MethodsAreKept =
-    (ws : List PackageModel) (parts : List (Option PartModel)) → IsWorkspace ws → AreParts ws parts → (main : List ℕ) (r : RunnableOf) → IsRunnable (program_of place_declared (objects_of (somes parts)) main) r
+    (ws : List PackageModel) (parts : List (Option PartModel)) → IsReadWorkspace ws → AreParts ws parts → (main : List ℕ) (r : RunnableOf) → IsRunnable (program_of place_declared (objects_of (somes parts)) main) r
     → (p : PartModel) (n : ℕ) (t : FileTree) (f : FileOf) (g : FuncTree) (all : List (Local NameMeaning)) → IsRun (somes parts) main r p n t f g all
     → AreMethodsKept (sources_of place_declared (somes parts)) (number_of place_declared (all_functions (objects_of (somes parts)))) p.input p.content n t f g all
 
 -- a program of a snapshot that can be run comes to what its sources mean
 abbrev pub ProgramsRun : Type 0
 ProgramsRun =
-    (ws : List PackageModel) (parts : List (Option PartModel)) (faults : List PlacedFault) → IsWorkspace ws → IsSnapshot ws parts faults
+    (ws : List PackageModel) (parts : List (Option PartModel)) (faults : List PlacedFault) → IsReadWorkspace ws → IsSnapshot ws parts faults
     → (main : List ℕ) (r : RunnableOf) → IsRunnable (program_of place_declared (objects_of (somes parts)) main) r
     → RunsAsMeant (program_of place_declared (objects_of (somes parts)) main) (sources_of place_declared (somes parts)) r.starts

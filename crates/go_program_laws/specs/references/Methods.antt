@@ -13,7 +13,7 @@ use Rattle.go_term_core.specs.declared.term.MemberPlace.TheVariants as places
 use Rattle.go_meaning_laws.specs.handle_core.DecidingRules.{term_rules}
 use Rattle.go_meaning_laws.specs.handle_core.Declarations.{Declaration, InFile}
 use Rattle.go_body_core.specs.env_core.declared.meaning.Meaning.{Meaning as NameMeaning}
-use Rattle.go_graph_core.specs.Workspaces.{IsWorkspace, PackageModel}
+use Rattle.go_graph_core.specs.Workspaces.{IsReadWorkspace, PackageModel}
 use Rattle.go_emit_core.specs.package_core.PreparePackages.{trees_in}
 use Rattle.go_emit_core.specs.package_core.PackagePartInputs.{InputModel, path_in}
 use Rattle.go_emit_core.specs.package_core.PackagePartParts.{ContentOf, FileOf, PartModel}
@@ -58,7 +58,7 @@ pub record IsMethodOfPart (ps : List PartModel) (p : PartModel) (d : Declaration
 -- so is each method of a type over `int` or `bool` that a part of a workspace knows, of its own types or another package's
 abbrev pub MethodsAreOfParts : Type 0
 MethodsAreOfParts =
-    (ws : List PackageModel) (parts : List (Option PartModel)) → IsWorkspace ws → AreParts ws parts → (p : PartModel) → Contains (somes parts) p
+    (ws : List PackageModel) (parts : List (Option PartModel)) → IsReadWorkspace ws → AreParts ws parts → (p : PartModel) → Contains (somes parts) p
     → (d : Declaration) (path : List ℕ) (s : Sign) (w : Word) → IsMethodDeclared p.input p.content d path s w → IsMethodOfPart (somes parts) p d s w
 
 -- a function of which code is made takes one word over such a receiver

@@ -5,7 +5,7 @@ use Rattle.std.specs.Prelude.{◌≡◌, ◌⊎◌, ℕ, true, List, Option, Som
 use Rattle.go_term_core.specs.decl_core.declared.keys.DeclRef.{DeclRef}
 use Rattle.go_digraph_core.specs.cycle.Cycle.{Reaches}
 use Rattle.go_meaning_laws.specs.handle_core.Declarations.{Declaration}
-use Rattle.go_graph_core.specs.Workspaces.{IsWorkspace, PackageModel}
+use Rattle.go_graph_core.specs.Workspaces.{IsReadWorkspace, IsWorkspace, PackageModel}
 use Rattle.go_emit_core.specs.package_core.PackagePartInputs.{path_in}
 use Rattle.go_emit_core.specs.package_core.PackagePartParts.{PartModel}
 use Rattle.go_emit_core.specs.package_core.PackagePartSlots.{somes}
@@ -39,7 +39,7 @@ pub record IsFunctionIn (ps : List PartModel) (main : List ℕ) (r : RunnableOf)
 -- so is each that is reached, where the program of a workspace can be run
 abbrev pub ReachedAreInProgram : Type 0
 ReachedAreInProgram =
-    (ws : List PackageModel) (parts : List (Option PartModel)) → IsWorkspace ws → AreParts ws parts → (main : List ℕ) (r : RunnableOf) → IsRunnable (program_of place_declared (objects_of (somes parts)) main) r
+    (ws : List PackageModel) (parts : List (Option PartModel)) → IsReadWorkspace ws → AreParts ws parts → (main : List ℕ) (r : RunnableOf) → IsRunnable (program_of place_declared (objects_of (somes parts)) main) r
     → (number : ℕ) → IsReached (sources_of place_declared (somes parts)) r.starts number → IsFunctionIn (somes parts) main r number
 
 -- a part sees another: it reaches it by imports, or is it

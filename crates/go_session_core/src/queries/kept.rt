@@ -116,7 +116,7 @@ pub(crate) fn are_left(
     requires { All AreAllRead packages.now }
     ensures { IfOk result (λ is. IsTrue is → packages_inside own.now snapshot.now.sources ≡ packages.now) }
 {
-    // Its packages stand in order of path.
+    // Its packages stand in order of path, and each file is read.
     let _count = snapshot.package_count();
     let span = span_of(alloc, own, snapshot)?;
     let is = are_inside(own, snapshot, span, packages);

@@ -1,7 +1,7 @@
 //! The parts of a workspace.
-ghost use Rattle.std.specs.Prelude.{◌≡◌, ◌↔◌, ◌<◌, ◌++◌, [], false, IfOk, IsTrue, None, OnOk, Some, length, replicate, slice_set};
+ghost use Rattle.std.specs.Prelude.{◌≡◌, ◌↔◌, ◌<◌, ◌++◌, [], false, All, IfOk, IsTrue, None, OnOk, Some, length, replicate, slice_set};
 ghost use Rattle.go_graph_core.specs.Plans.{AreReached, IsPlan};
-ghost use Rattle.go_graph_core.specs.Workspaces.{IsWorkspace};
+ghost use Rattle.go_graph_core.specs.Workspaces.{AreAllRead, IsWorkspace};
 ghost use Rattle.go_body_core.specs.table_core.Tables.{AreOthers};
 ghost use Rattle.go_body_core.specs.typexpr_core.EntryShowing.{shown_in, with_shown};
 ghost use Rattle.go_emit_core.specs.declared_core.Packages.{with_faces};
@@ -54,6 +54,7 @@ fn next_part(
     earlier: &[Option<Part>],
 ) -> Result<(Part, bool), AllocError>
     requires well { IsWorkspace workspace.now }
+    requires read { All AreAllRead workspace.now }
     requires plan { IsPlan workspace.now plan.now }
     requires reached { AreReached plan.now reached.now }
     requires many { length reached.now ≡ length plan.now.outcomes }
@@ -121,6 +122,7 @@ fn make_all(
     seen: &mut View,
 ) -> Result<(), AllocError>
     requires well { IsWorkspace workspace.now }
+    requires read { All AreAllRead workspace.now }
     requires earlier { AreParts sources.now earlier.now }
     requires none { parts.old ≡ replicate (length workspace.now) None }
     requires told { told.old ≡ replicate (length workspace.now) None }
@@ -167,6 +169,7 @@ fn make_seen(
     marks: &mut Marks,
 ) -> Result<(), AllocError>
     requires well { IsWorkspace workspace.now }
+    requires read { All AreAllRead workspace.now }
     requires earlier { AreParts sources.now earlier.now }
     requires none { parts.old ≡ replicate (length workspace.now) None }
     requires told { told.old ≡ replicate (length workspace.now) None }

@@ -1,10 +1,10 @@
 //! The part of a path, among those of a workspace.
-ghost use Rattle.std.specs.Prelude.{◌≡◌, List, MatchOption, None, Some, slice_get};
+ghost use Rattle.std.specs.Prelude.{◌≡◌, All, List, MatchOption, None, Some, slice_get};
 ghost use Rattle.std.specs.List.Sorted.{IsStrictlySortedBy};
 ghost use Rattle.std.specs.Map.{keys_of};
 ghost use Rattle.go_graph_core.specs.Imports.{HasNoPackage, IsNumbered};
 ghost use Rattle.go_graph_core.specs.Sources.{SourceModel};
-ghost use Rattle.go_graph_core.specs.Workspaces.{IsWorkspace, by_bytes};
+ghost use Rattle.go_graph_core.specs.Workspaces.{AreAllRead, IsWorkspace, by_bytes};
 ghost use Rattle.go_emit_core.specs.package_core.PackagePartParts.{PartModel};
 ghost use Rattle.go_snap_core.specs.make.Finding.{IsPartAt};
 
@@ -37,6 +37,7 @@ fn part_at(parts: &[Option<Part>], number: usize) -> Option<&Part>
 /// and where it has no part. The time is logarithmic in the packages.
 pub fn part_of<'a>(sources: &Workspace, parts: &'a [Option<Part>], path: &str) -> Option<&'a Part>
     ensures well { IsWorkspace sources.now }
+    ensures read { All AreAllRead sources.now }
     ensures part { MatchOption result ((p : PartModel) → ¬ IsPartAt sources.now parts.now path.now p) (λ p. IsPartAt sources.now parts.now path.now p.now) }
 {
     let number = package_of(sources.packages(), path)?;

@@ -1,7 +1,7 @@
 //! Snapshots that are kept.
-ghost use Rattle.std.specs.Prelude.{◌≡◌, IfOk, length, slice_get};
+ghost use Rattle.std.specs.Prelude.{◌≡◌, All, IfOk, length, slice_get};
 ghost use Rattle.std.specs.Option.{option_copied};
-ghost use Rattle.go_graph_core.specs.Workspaces.{IsWorkspace};
+ghost use Rattle.go_graph_core.specs.Workspaces.{AreAllRead, IsWorkspace};
 ghost use Rattle.go_snap_core.specs.Snapshots.{IsSnapshot};
 ghost use Rattle.go_snap_core.specs.Staying.{StaysWhere};
 
@@ -105,11 +105,12 @@ impl KeptSnapshot {
         })
     }
 
-    /// How many packages there are. Its clauses `workspace` and `whole` say what every call on a snapshot rests on: these are the packages of a workspace,
-    /// and the parts and the faults are what the trees of all packages give.
+    /// How many packages there are. Its clauses `workspace`, `read` and `whole` say what every call on a snapshot rests on: these are the packages of a
+    /// workspace, each file has the content of its text, and the parts and the faults are what the trees of all packages give.
     pub fn package_count(&self) -> usize
         ensures value { result ≡ length self.now.sources }
         ensures workspace { IsWorkspace self.now.sources }
+        ensures read { All AreAllRead self.now.sources }
         ensures whole { IsSnapshot self.now.sources self.now.parts self.now.faults }
     {
         self.packages.len()

@@ -17,9 +17,6 @@ const LEAST_BYTES: usize = 65_536;
 /// The least bytes of source that are worth a thread of their own.
 const LEAST_SHARE: usize = 16_384;
 
-/// The greatest number of threads that are begun for a list of files.
-const MOST_THREADS: usize = 32;
-
 /// The names and texts that are given to a thread. It promises the files that are read from them.
 #[derive(Drop)]
 struct Given(Snapshot<Vec<(String, String)>>);
@@ -50,13 +47,9 @@ pub fn text_bytes(files: &[(String, String)]) -> usize {
     bytes
 }
 
-// The bytes of source that a thread is given at least, of so many: there is one thread for each processor.
-fn share_of(rt: &impl Threads, bytes: usize) -> usize {
-    let threads = match thread::available_parallelism(rt) {
-        Ok(count) => count.get().min(MOST_THREADS),
-        Err(_) => 1,
-    };
-    bytes.checked_div(threads).unwrap_or(bytes).max(LEAST_SHARE)
+// The bytes of source that a thread is given at least, of so many.
+fn share_of(bytes: usize, workers: usize) -> usize {
+    bytes.checked_div(workers).unwrap_or(bytes).max(LEAST_SHARE)
 }
 
 // Reads the files of a batch.
@@ -143,7 +136,7 @@ fn end_all(
 }
 
 /// Reads files, each by its name and text, as `read_files` of `go_graph_core` does, in the same order. Where their texts have 65,536 bytes or more together,
-/// several threads read them: one for each processor, 32 at most, each with 16,384 bytes and more.
+/// and there are two workers or more, so many threads at most read them, each with 16,384 bytes and more.
 ///
 /// The time is linear in the texts; with threads it is that of the longest text, or of all of them by the number of threads.
 ///
@@ -154,15 +147,16 @@ pub fn read_files_at_once(
     rt: &impl Threads,
     alloc: Global,
     files: Vec<(String, String)>,
+    workers: usize,
 ) -> Result<Vec<SourceFile>, AllocError>
     ensures texts { IfOk result (λ v. texts_of_files v.items ≡ given_files files.items) }
     ensures read { IfOk result (λ v. All IsRead v.items) }
 {
     let bytes = text_bytes(&files);
-    if bytes < LEAST_BYTES {
+    if bytes < LEAST_BYTES || workers < 2 {
         return read_files(alloc, files);
     }
-    let share = share_of(rt, bytes);
+    let share = share_of(bytes, workers);
     let batches = begin_all(rt, alloc, files, share)?;
     let read = end_all(rt, alloc, batches)?;
     Ok(read)

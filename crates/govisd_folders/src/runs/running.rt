@@ -6,6 +6,7 @@ ghost use Rattle.govisd_folders.specs.runs.Answers.{AnswersSnapshot, IsAnswerOfR
 
 use crate::runs::answers::nothing_ran;
 use crate::runs::packages::run_main;
+use crate::workers::workers_of;
 use crate::{
     CheckAnswer, FoundPackages, PLAIN, Page, Progress, ReadFolder, Scope, push,
     read_folder_at_once, told,
@@ -147,7 +148,15 @@ fn run_read(
 ) -> Result<CheckAnswer, AllocError>
     ensures { IfOk result (IsAnswerOfRun order.now.folder.now (option_map (λ m. m.now) order.now.module_path) (option_map (λ m. m.now) order.now.main_path) order.now.steps) }
 {
-    let read = read_folder_at_once(rt, threads, order.folder, order.module_path, progress)?;
+    let count = workers_of(rt, threads, order.workers);
+    let read = read_folder_at_once(
+        rt,
+        threads,
+        order.folder,
+        order.module_path,
+        count,
+        progress,
+    )?;
     answer_on(rt.alloc(), order, read)
 }
 

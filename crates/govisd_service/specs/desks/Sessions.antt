@@ -107,6 +107,17 @@ is_close (Define path file offset) = false
 is_close (Run path steps) = false
 is_close Close = true
 
+abbrev pub is_build : Command → Bool
+is_build (Open «module») = false
+is_build (Edit path file text) = false
+is_build Build = true
+is_build (ListOf from) = false
+is_build (Doc from path type_name) = false
+is_build (Complete path file offset) = false
+is_build (Define path file offset) = false
+is_build (Run path steps) = false
+is_build Close = false
+
 -- the module of an open
 abbrev pub module_of : Command → Option (List ℕ)
 module_of (Open «module») = Some «module»

@@ -2,7 +2,7 @@
 ghost use Rattle.std.specs.Prelude.{◌≡◌, [], IfErr, IfOk, None};
 ghost use Rattle.go_path_core.specs.Path.{IsPath};
 ghost use Rattle.go_board_core.specs.submit_core.Trees.{tree_with};
-ghost use Rattle.govisd_service.specs.desks.Sessions.{GoesOn, IsOpenReply, RefusesOpen, RepliesOfNone, SeatReplies, is_close, module_of};
+ghost use Rattle.govisd_service.specs.desks.Sessions.{GoesOn, IsOpenReply, RefusesOpen, RepliesOfNone, SeatReplies, is_build, is_close, module_of};
 
 use crate::desks::asking::{build, complete, define, doc_of, edit, list, run};
 use go_hall::hall_core::Named;
@@ -93,6 +93,13 @@ fn is_close(command: &Command) -> bool
     ensures { result ≡ is_close command.now }
 {
     matches!(command, Command::Close)
+}
+
+/// Whether a command builds.
+pub(crate) fn is_build(command: &Command) -> bool
+    ensures { result ≡ is_build command.now }
+{
+    matches!(command, Command::Build)
 }
 
 // The module of an open.

@@ -1,6 +1,6 @@
 use Rattle.std.proofs.Common.{false, ◌++◌, ap, ◌∙◌}
 use Rattle.go_tree_nodes.specs.Shapes.{func_of, lines_of}
-use Rattle.go_names_core.specs.local_core.WalksEnds.{lines_loop_faults}
+use Rattle.go_local_core.specs.walks.Ends.{lines_loop_faults}
 use Rattle.go_body_core.proofs.Gathering.{gathers}
 use Rattle.go_body_core.proofs.body.gathered.Goals as goal
 

@@ -1,11 +1,11 @@
 -- Declarations by specifications as the code has them: what they have and break.
 use Rattle.std.specs.Prelude.{ℕ, ⊤, List}
 use Rattle.go_tree_nodes.specs.Shapes.{shape_type_decl, shape_value}
-use Rattle.go_stmt_core.specs.inline_core.Types.{InlineOf}
+use Rattle.go_inline_core.specs.Types.{InlineOf}
 use Rattle.go_tree_nodes.specs.WrittenTypes.{specs_types}
-use Rattle.go_stmt_core.specs.expr_core.declared.things.Use.{Use}
-use Rattle.go_names_core.specs.local_core.declared.Fault.{Fault}
-use Rattle.go_stmt_core.specs.expr_core.Looks.{Looks}
+use Rattle.go_expr_core.specs.declared.things.Use.{Use}
+use Rattle.go_local_core.specs.declared.Fault.{Fault}
+use Rattle.go_expr_core.specs.Looks.{Looks}
 use Rattle.go_stmt_core.specs.toplevel.Tops.{value_decl_uses, value_decl_faults, type_decl_uses, type_decl_faults}
 use Rattle.go_body_core.specs.function.Stands.{FileStand}
 use Rattle.go_body_core.specs.declared.file.spec_decl.SpecDecl.{SpecDecl}

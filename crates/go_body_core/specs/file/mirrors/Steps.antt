@@ -2,9 +2,9 @@
 use Rattle.std.specs.Prelude.{ℕ, ◌+◌, ◌<◌, ⊤, List, [], length, slice_index_or, Contains}
 use Rattle.std.specs.List.{flat_map, AllZip}
 use Rattle.go_tree_nodes.specs.Trees.{TypeTree, FuncTree, DeclTree, Value, Types, Func, TopTree}
-use Rattle.go_names_core.specs.local_core.Tables.{IsFuncPlaced}
-use Rattle.go_stmt_core.specs.inline_core.Types.{InlineOf}
-use Rattle.go_stmt_core.specs.inline_core.Trees.{decl_types}
+use Rattle.go_local_core.specs.Tables.{IsFuncPlaced}
+use Rattle.go_inline_core.specs.Types.{InlineOf}
+use Rattle.go_inline_core.specs.Trees.{decl_types}
 use Rattle.go_env_core.specs.Looks.{inline_rules}
 use Rattle.go_body_core.specs.function.Stands.{FileStand, types_where, outer_look}
 use Rattle.go_body_core.specs.function.Laws.{AreFuncTypes, MakeSame}

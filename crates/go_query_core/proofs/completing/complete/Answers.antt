@@ -1,6 +1,6 @@
-use Rattle.std.proofs.Common.{subst}
+use Rattle.std.proofs.Common.{All, subst}
 use Rattle.std.proofs.lemmas.Result.{IfErr-weaker, IfOk-weaker}
-use Rattle.go_import_core.specs.graph_core.Workspaces.{IsWorkspace}
+use Rattle.go_import_core.specs.graph_core.Workspaces.{AreAllRead}
 use Rattle.go_complete_core.specs.package_core.PackagePartInputs.{IsInput}
 use Rattle.go_complete_core.specs.place.Completions.{texts_of}
 use Rattle.go_complete_core.specs.snap_core.Snapshots.{file_in_shown}
@@ -10,14 +10,14 @@ use Rattle.go_query_core.proofs.completing.complete.Goals as goal
 pub complete_in-requires-clause-spots : goal.complete_in-requires-clause-spots
 complete_in-requires-clause-spots c =
     let s = c.args.snapshot.now in
-    let well = subst IsWorkspace c.sources.ensures.value c.packages-packages.ensures.well in
-    has_spots s well c.sources.ensures.whole c.args.path.now c.args.file.now (file_in_shown c.in-Some.found) c.in-Some.ensures c.part_has_occurrences.ensures (subst IsInput c.input.ensures c.imports-imports.ensures.well)
+    let all = subst (All AreAllRead) c.sources.ensures.value c.packages-packages.ensures.read in
+    has_spots s all c.sources.ensures.whole c.args.path.now c.args.file.now (file_in_shown c.in-Some.found) c.in-Some.ensures c.part_has_occurrences.ensures (subst IsInput c.input.ensures c.imports-imports.ensures.well)
 
 pub complete_in-requires-clause-exports : goal.complete_in-requires-clause-exports
 complete_in-requires-clause-exports c =
     let s = c.args.snapshot.now in
-    let well = subst IsWorkspace c.sources.ensures.value c.packages-packages.ensures.well in
-    exports_shown s well c.sources.ensures.whole c.args.path.now c.args.file.now (file_in_shown c.in-Some.found) c.in-Some.ensures
+    let all = subst (All AreAllRead) c.sources.ensures.value c.packages-packages.ensures.read in
+    exports_shown s all c.sources.ensures.whole c.args.path.now c.args.file.now (file_in_shown c.in-Some.found) c.in-Some.ensures
 
 pub returns-in-Some-clause-ok : goal.returns-in-Some-clause-ok
 returns-in-Some-clause-ok c = IfOk-weaker c.complete_in.result _ _ (λ r h. is_completion c.args.snapshot.now c.args.path.now c.args.file.now c.args.offset (file_in_shown c.in-Some.found) c.in-Some.ensures (texts_of r) h) c.complete_in.ensures.ok

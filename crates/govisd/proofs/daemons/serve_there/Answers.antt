@@ -7,7 +7,7 @@ use Rattle.govisd.proofs.daemons.serve_there.Goals as goal
 pub returns : goal.returns
 returns g c =
     record {
-      place = c.args.listening.now.place;
+      place = c.args.listening.place;
       ending = c.run_serve-end.result;
       status = c.serve_status.ensures;
       said = c.args.text.now;

@@ -8,7 +8,7 @@ pub made_anew-requires : goal.made_anew-requires
 made_anew-requires c =
     let s = c.args.snapshot.now in
     let well = subst IsWorkspace c.sources-sources.ensures.value c.packages-packages.ensures.well in
-    subst (λ l. All IfPlaced l) (sym c.parts.ensures) (parts_are_placed s.sources s.parts well c.sources-sources.ensures.whole.made)
+    subst (λ l. All IfPlaced l) (sym c.parts.ensures) (parts_are_placed s.sources s.parts c.sources-sources.ensures.whole.made well)
 
 pub join-requires : goal.join-requires
 join-requires c =

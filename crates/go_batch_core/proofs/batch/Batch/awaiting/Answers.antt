@@ -26,7 +26,7 @@ pub is_awaited-requires-clause-own : goal.is_awaited-requires-clause-own
 is_awaited-requires-clause-own c =
     let i = c.self.inside in
     let within = place_within i.sources c.packages.result.now i.slots.items i.parts c.as_str.result.now c.in_ok-place.place c.in_ok-place.ensures.0 c.self.invariant.right c.packages.ensures.packages c.in_ok-place.ensures.1 in
-    read_slot i.sources i.slots.items i.parts c.in_ok-place.place c.index.result.now c.self.invariant.plans.well c.self.invariant.right
+    read_slot i.sources i.slots.items i.parts c.in_ok-place.place c.index.result.now c.packages.ensures.read c.self.invariant.right
     (slice_get-get_or i.slots.items c.in_ok-place.place c.index.result.now within ∙ ap Some (sym c.index.ensures))
 
 pub is_awaited-requires-clause-other : goal.is_awaited-requires-clause-other

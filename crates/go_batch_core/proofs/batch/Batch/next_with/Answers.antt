@@ -11,7 +11,7 @@ pub new-requires-clause-read : goal.new-requires-clause-read
 new-requires-clause-read c =
     let i = c.self.inside in
     let at = ap (λ (l : List PackageModel). slice_get l c.args.place) (ap (λ (b : BatchModel). b.sources) c.self.view_is) ∙ c.requires.input.numbered in
-    read_at i.sources c.args.place c.args.input.source c.self.invariant.plans.well at
+    read_at i.sources c.args.place c.args.input.source c.packages-packages.ensures.read at
 
 pub new-requires-clause-local : goal.new-requires-clause-local
 new-requires-clause-local c =

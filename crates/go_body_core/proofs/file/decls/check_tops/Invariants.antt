@@ -13,5 +13,5 @@ invariant-loop-top g l =
       used : l.notes.uses.items ≡ l.fn.notes.uses.items ++ tops_uses st (map top_of (take l.top-index l.decls));
       noted : l.notes.faults.items ≡ l.fn.notes.faults.items ++ tops_faults st (map top_of (take l.top-index l.decls));
       listed : l.declared.items ≡ l.fn.declared.items ++ tops_locals st (map top_of (take l.top-index l.decls));
-      typed : AllZip (AreFuncTypes st) (tops_funcs (map top_of (drop l.top-index l.decls))) (drop l.next l.at.functions.now);
+      typed : AllZip (AreFuncTypes st) (tops_funcs (map top_of (drop l.top-index l.decls))) (drop l.next l.functions);
     }

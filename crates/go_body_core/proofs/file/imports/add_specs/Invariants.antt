@@ -1,6 +1,6 @@
 use Rattle.std.proofs.Common.{◌≡◌, ◌++◌, map}
 use Rattle.go_body_core.specs.file.Imports.{imports_uses}
-use Rattle.go_names_core.specs.block_core.mirrors.Shown.{spec_shown}
+use Rattle.go_block_core.specs.mirrors.Shown.{spec_shown}
 use Rattle.go_body_core.proofs.file.imports.add_specs.Given as goal
 
 abbrev pub invariant-loop-spec : goal.invariant-loop-spec

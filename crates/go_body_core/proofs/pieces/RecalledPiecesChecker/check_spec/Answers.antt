@@ -1,8 +1,8 @@
 use Rattle.std.proofs.Common.{map}
 use Rattle.go_tree_nodes.specs.Shapes.{shape_value_spec}
 use Rattle.go_tree_nodes.specs.TypeShapes.{shape_idents}
-use Rattle.go_names_core.specs.local_core.Steps.{Spec}
-use Rattle.go_names_core.specs.local_core.Outline.{idents}
+use Rattle.go_local_core.specs.Steps.{Spec}
+use Rattle.go_local_core.specs.Outline.{idents}
 use Rattle.go_stmt_core.specs.piece.Pieces.{piece_values}
 use Rattle.go_body_core.specs.mirrors.Noted.{looks_at}
 use Rattle.go_body_core.proofs.Standing.{by_rules, if_ok}

@@ -7,8 +7,8 @@ use Rattle.go_hall_core.proofs.seen.Seen.rebuild.Goals as goal
 pub sight_for-requires : goal.sight_for-requires
 sight_for-requires g c = sym (ap (λ (a : Action). a.generation) c.args.errand.now.of_action)
 
-pub over-requires : goal.over-requires
-over-requires g c =
+pub over-requires-clause-agrees : goal.over-requires-clause-agrees
+over-requires-clause-agrees g c κs within =
     let errand = c.args.errand.now in
     (subst (λ (a : Action). Serves errand.known.log a c.in_ok-sight.sight) errand.of_action c.in_ok-sight.ensures).agrees
 

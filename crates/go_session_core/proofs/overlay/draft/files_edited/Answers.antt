@@ -1,5 +1,5 @@
-use Rattle.std.proofs.Common.{ap, sym, subst}
-use Rattle.go_graph_core.specs.Workspaces.{IsWorkspace, files_at, texts_of_files}
+use Rattle.std.proofs.Common.{All, ap, sym, subst}
+use Rattle.go_graph_core.specs.Workspaces.{AreAllRead, files_at, texts_of_files}
 use Rattle.go_session_core.specs.overlay.Edits.{files_or_none}
 use Rattle.go_session_core.proofs.OverlayTexts.{distinct_edited, left_read}
 use Rattle.go_session_core.proofs.overlay.draft.files_edited.Goals as goal
@@ -10,5 +10,5 @@ returns-clause-names c =
 
 pub returns-clause-read : goal.returns-clause-read
 returns-clause-read c =
-    let well = subst IsWorkspace (sym c.packages.ensures.packages) c.packages.ensures.well in
-    c.in_ok-add_file.ensures.read (left_read c.packages.result.now c.args.path.now c.args.name.now c.in_ok-files.files.items well c.in_ok-files.ensures.files)
+    let read = subst (All AreAllRead) (sym c.packages.ensures.packages) c.packages.ensures.read in
+    c.in_ok-add_file.ensures.read (left_read c.packages.result.now c.args.path.now c.args.name.now c.in_ok-files.files.items read c.in_ok-files.ensures.files)

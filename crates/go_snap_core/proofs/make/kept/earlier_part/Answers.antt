@@ -28,7 +28,7 @@ pub look_alike-requires-clause-other : goal.look_alike-requires-clause-other
 look_alike-requires-clause-other c =
     let part = c.in-Some.part.now in
     let at = c.in-Some.ensures.part in
-    subst (λ (j : InputModel). AreAllRead j.source) (sym c.input.ensures) (part_read c.args.sources.now c.args.earlier.now c.in-Some.ensures.well c.requires.earlier at.number part at.there)
+    subst (λ (j : InputModel). AreAllRead j.source) (sym c.input.ensures) (part_read c.args.sources.now c.args.earlier.now c.requires.earlier at.number part at.there c.in-Some.ensures.read)
 
 pub look_alike-requires-clause-within : goal.look_alike-requires-clause-within
 look_alike-requires-clause-within c =

@@ -16,7 +16,7 @@ pub input_of-requires-clause-parts : goal.input_of-requires-clause-parts
 input_of-requires-clause-parts c = next_reached c.args.workspace.now c.args.plan.now c.requires.well c.requires.plan c.args.parts.now c.args.number c.args.seen.now.types c.args.seen.now.shown c.args.seen.now.faces c.requires.next
 
 pub earlier_part-requires-clause-own : goal.earlier_part-requires-clause-own
-earlier_part-requires-clause-own c = all_at_place AreAllRead c.args.workspace.now c.args.number c.in_ok-input.input.source c.requires.well.read c.in_ok-input.ensures.input.numbered
+earlier_part-requires-clause-own c = all_at_place AreAllRead c.args.workspace.now c.args.number c.in_ok-input.input.source c.requires.read c.in_ok-input.ensures.input.numbered
 
 pub earlier_part-requires-clause-again : goal.earlier_part-requires-clause-again
 earlier_part-requires-clause-again c = marked_for c.args.earlier.now c.args.again.now c.args.parts.now c.args.reached.now c.args.number c.in_ok-input.input.reached c.requires.again c.in_ok-input.ensures.told

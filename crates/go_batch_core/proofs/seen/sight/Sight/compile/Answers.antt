@@ -8,25 +8,25 @@ use Rattle.go_batch_core.proofs.SeenAdding.{agrees_same, none_whole, seen_by_all
 use Rattle.go_batch_core.proofs.seen.sight.Sight.compile.Goals as goal
 
 pub with_reached-requires-clause-agrees : goal.with_reached-requires-clause-agrees
-with_reached-requires-clause-agrees c =
+with_reached-requires-clause-agrees g c =
     subst (Agrees c.in_ok-others.others) (sym c.reached-reached.ensures.value) (agrees_same c.args.self c.in_ok-others.others c.args.input.now.reached c.in_ok-others.ensures.same c.requires.agrees)
 
 pub with_reached-requires-clause-apart : goal.with_reached-requires-clause-apart
-with_reached-requires-clause-apart c = subst PathsAreApart (sym c.reached-reached.ensures.value) c.reached-reached.ensures.well.reached.apart
+with_reached-requires-clause-apart g c = subst PathsAreApart (sym c.reached-reached.ensures.value) c.reached-reached.ensures.well.reached.apart
 
 pub make-requires-clause-none : goal.make-requires-clause-none
-make-requires-clause-none c =
+make-requires-clause-none g c κs within =
     let i = c.args.input.now in
     let whole = subst (λ (l : List SummaryModel). AreWithReached c.in_ok-others.others l c.in_ok-whole.whole) c.reached-reached.ensures.value c.in_ok-whole.ensures in
     none_whole c.in_ok-others.others i.reached c.in_ok-whole.whole (path_in i) whole (subst (NoneIsOf c.in_ok-others.others) c.path.ensures c.in_ok-others.ensures.none) c.reached-reached.ensures.well.reached.others
 
 pub make-requires-clause-all : goal.make-requires-clause-all
-make-requires-clause-all c =
+make-requires-clause-all g c κs within =
     let whole = subst (λ (l : List SummaryModel). AreWithReached c.in_ok-others.others l c.in_ok-whole.whole) c.reached-reached.ensures.value c.in_ok-whole.ensures in
     whole.reached
 
 pub returns-clause-seen : goal.returns-clause-seen
-returns-clause-seen c =
+returns-clause-seen g c =
     let i = c.args.input.now in
     let whole = subst (λ (l : List SummaryModel). AreWithReached c.in_ok-others.others l c.in_ok-whole.whole) c.reached-reached.ensures.value c.in_ok-whole.ensures in
     seen_by_all c.args.self c.in_ok-others.others c.in_ok-whole.whole c.in_ok-made.made.sight i c.in_ok-made.made.part.content c.in_ok-others.ensures.same whole c.in_ok-made.ensures.made c.in_ok-made.ensures.seen

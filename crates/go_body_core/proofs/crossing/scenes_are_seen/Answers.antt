@@ -1,0 +1,9 @@
+use denote.Param.Send.{sendable}
+use Rattle.go_body_core.proofs.crossing.scenes_are_seen.Goals as goal
+use Rattle.go_body_core.proofs.CrossingCrossing.{scene_row_sync}
+
+pub is_seen-requires-sync-T : goal.is_seen-requires-sync-T
+is_seen-requires-sync-T c κs = search (scene_row_sync, sendable)
+
+pub returns : goal.returns
+returns c = scene_row_sync

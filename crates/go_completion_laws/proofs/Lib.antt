@@ -1,0 +1,4 @@
+pub mod Agreed
+mod Fitted
+pub mod Parted
+mod Puts

@@ -1,0 +1,9 @@
+use Rattle.std.proofs.Common.{◌∙◌, ap}
+use Rattle.clap.specs.Words.{found_of}
+use Rattle.std.specs.Prelude.{codes}
+use Rattle.govisd_words.specs.Counts.{idle_in}
+use Rattle.govisd_words.proofs.WordLemmas.{value_in_rows}
+use Rattle.govisd_words.proofs.words.idle_told.Goals as goal
+
+pub returns : goal.returns
+returns c = c.number_or.ensures ∙ ap idle_in (c.get_str.ensures ∙ value_in_rows (found_of c.args.found.now) (codes "idle"))

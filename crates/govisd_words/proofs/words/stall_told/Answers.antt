@@ -1,0 +1,9 @@
+use Rattle.std.proofs.Common.{◌∙◌, ap}
+use Rattle.clap.specs.Words.{found_of}
+use Rattle.std.specs.Prelude.{codes}
+use Rattle.govisd_words.specs.Counts.{stall_in}
+use Rattle.govisd_words.proofs.WordLemmas.{value_in_rows}
+use Rattle.govisd_words.proofs.words.stall_told.Goals as goal
+
+pub returns : goal.returns
+returns c = c.number_or.ensures ∙ ap stall_in (c.get_str.ensures ∙ value_in_rows (found_of c.args.found.now) (codes "stall"))
