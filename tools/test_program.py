@@ -24,10 +24,10 @@ EXAMPLES = [
 
 # Each table with its script, and the line that the script ends with where all is well.
 TABLES = [
-    ("modules with a small mistake", "bench/messages.py", r"^(\d+) modules: .* 0 differ from the table$"),
-    ("small programs that are run", "bench/run_cases.py", r"^(\d+) passed, 0 failed$"),
-    ("examples of rules", "bench/explained.py", r"^(\d+) rules, .* 0 wrong$"),
-    ("scripts of sessions", "bench/script.sh", r"^(\d+) scripts, 0 differ$"),
+    ("modules with a small mistake", "bench/messages/messages.py", r"^(\d+) modules: .* 0 differ from the table$"),
+    ("small programs that are run", "bench/run_cases/run_cases.py", r"^(\d+) passed, 0 failed$"),
+    ("examples of rules", "bench/messages/explained.py", r"^(\d+) rules, .* 0 wrong$"),
+    ("scripts of sessions", "bench/serving/script.sh", r"^(\d+) scripts, 0 differ$"),
 ]
 
 # The same of the editor's server.

@@ -11,7 +11,7 @@
 set -euo pipefail
 
 bench=$(dirname -- "$(dirname -- "$(readlink -f -- "$0")")")
-. "$bench/program.sh"
+. "$bench/shared/program.sh"
 wanted=$bench/conformance/folders.txt
 
 room=$(mktemp -d)

@@ -9,6 +9,8 @@ import shutil
 import subprocess
 import sys
 
+HERE = os.path.dirname(os.path.abspath(__file__))
+sys.path.insert(0, f"{HERE}/../shared")
 from generate import Numbers
 
 MODULE = "ex.com"  # in whose folder the go command runs

@@ -1,6 +1,6 @@
 #!/bin/sh
 # Compares which imports govisd and the go command refuse by the rule of internal directories: a table of pairs of
-# importer and imported package, and 300 pairs by chance. README.md in the folder above says what is compared.
+# importer and imported package, and 300 pairs by chance. README.md in this folder says what is compared.
 #
 #     bench/conformance/internal.sh                     the program crates/test_cases/out/test_cases
 #     GOVISD_CASES=FILE bench/conformance/internal.sh   another program
@@ -9,7 +9,7 @@
 set -u
 
 bench=$(dirname -- "$(dirname -- "$(readlink -f -- "$0")")")
-. "$bench/cases.sh"
-go=$("$bench/go_command.sh") || exit 2
-PYTHONPATH=$bench exec python3 -B "$bench/conformance/internal.py" --probe "$cases" --go "$go" --cache "$out/gocache" \
+. "$bench/shared/cases.sh"
+go=$("$bench/shared/go_command.sh") || exit 2
+exec python3 -B "$bench/conformance/internal.py" --probe "$cases" --go "$go" --cache "$out/gocache" \
     --trees "$out/internal"

@@ -10,8 +10,8 @@
 set -u
 
 bench=$(dirname -- "$(dirname -- "$(readlink -f -- "$0")")")
-. "$bench/cases.sh"
-peer=$("$bench/go_peer.sh" conformance/gopackages) || exit 2
+. "$bench/shared/cases.sh"
+peer=$("$bench/shared/go_peer.sh" conformance/gopackages) || exit 2
 folder=$out/packages
 rm -rf "$folder"
 "$peer" generate "$folder" "${PACKAGES:-4000}" 7 >"$out/packages_forms.txt" || exit 2

@@ -10,6 +10,8 @@ import re
 import subprocess
 import sys
 
+HERE = os.path.dirname(os.path.abspath(__file__))
+sys.path.insert(0, f"{HERE}/../shared")
 import listing
 import member_files
 from generate import Wild

@@ -20,5 +20,5 @@ mkdir -p "$folder" || exit 2
 "$peer" several "$folder/archives" "${WORKSPACES:-100}" 7 >"$folder/forms.txt" || exit 2
 find "$folder/archives" -name '*.txt' | sort | GOCACHE="$out/gocache" xargs -n 100000 -s 1000000 "$peer" list "$go" "$folder/module" >"$folder/listing.txt" || exit 2
 [ $# -gt 0 ] || set -- files members workspaces lists
-PYTHONPATH=$bench exec python3 -B "$bench/conformance/queries.py" --govisd "$govisd" --peer "$peer" --go "$go" --cache "$out/gocache" --folder "$folder" \
+exec python3 -B "$bench/conformance/queries.py" --govisd "$govisd" --peer "$peer" --go "$go" --cache "$out/gocache" --folder "$folder" \
     --listing "$folder/listing.txt" --files "${FILES:-300}" --every "${EVERY:-1}" --sparse "${SPARSE:-100}" "$@"

@@ -9,7 +9,7 @@
 set -u
 
 bench=$(dirname -- "$(dirname -- "$(readlink -f -- "$0")")")
-. "$bench/program.sh"
+. "$bench/shared/program.sh"
 mkdir -p "$out/runs" || exit 2
-go=$("$bench/go_command.sh") || exit 2
+go=$("$bench/shared/go_command.sh") || exit 2
 GOCACHE="$out/gocache" exec python3 -B "$bench/conformance/runs.py" --govisd "$govisd" --go "$go" --folder "$out/runs" --programs "${PROGRAMS:-500}"

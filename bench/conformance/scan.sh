@@ -9,8 +9,8 @@
 set -uo pipefail
 
 bench=$(dirname -- "$(dirname -- "$(readlink -f -- "$0")")")
-. "$bench/cases.sh"
-goscan=$("$bench/go_peer.sh" conformance/goscan) || exit 2
+. "$bench/shared/cases.sh"
+goscan=$("$bench/shared/go_peer.sh" conformance/goscan) || exit 2
 
 sources=golang-1.19-src
 files=$out/scanned_files

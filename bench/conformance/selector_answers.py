@@ -6,6 +6,8 @@ import os
 import subprocess
 import sys
 
+HERE = os.path.dirname(os.path.abspath(__file__))
+sys.path.insert(0, f"{HERE}/../shared")
 from generate import Numbers
 
 # What govisd answers where go/types finds nothing, and says no more.

@@ -9,8 +9,8 @@
 set -u
 
 bench=$(dirname -- "$(dirname -- "$(readlink -f -- "$0")")")
-. "$bench/cases.sh"
-peer=$("$bench/go_peer.sh" conformance/goselect) || exit 2
+. "$bench/shared/cases.sh"
+peer=$("$bench/shared/go_peer.sh" conformance/goselect) || exit 2
 data=$bench/../crates/test_cases/data
-PYTHONPATH=$bench exec python3 -B "$bench/conformance/selector_answers.py" --program "$cases" --peer "$peer" --folder "$out/selectors" \
+exec python3 -B "$bench/conformance/selector_answers.py" --program "$cases" --peer "$peer" --folder "$out/selectors" \
     "$data/paths.txt" "$data/hidden_members.txt" "$data/operands.txt" "$data/towers.txt"

@@ -6,10 +6,10 @@ import re
 import subprocess
 import sys
 
+HERE = os.path.dirname(os.path.abspath(__file__))
+sys.path.insert(0, f"{HERE}/../shared")
 from generate import Numbers
-
-sys.path.insert(0, os.path.dirname(os.path.abspath(__file__)))
-from type_faults_programs import Workspace  # noqa: E402
+from type_faults_programs import Workspace
 
 BATCH = 100  # archives in one run of each program
 RULES = ("Y1", "Y2", "B5", "B6")

@@ -9,6 +9,6 @@
 set -u
 
 bench=$(dirname -- "$(dirname -- "$(readlink -f -- "$0")")")
-. "$bench/cases.sh"
-peer=$("$bench/go_peer.sh" conformance/type_faults_peer) || exit 2
-PYTHONPATH=$bench exec python3 -B "$bench/conformance/type_faults.py" --program "$cases" --peer "$peer" --folder "$out/type_faults"
+. "$bench/shared/cases.sh"
+peer=$("$bench/shared/go_peer.sh" conformance/type_faults_peer) || exit 2
+exec python3 -B "$bench/conformance/type_faults.py" --program "$cases" --peer "$peer" --folder "$out/type_faults"

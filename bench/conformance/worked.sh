@@ -8,8 +8,8 @@
 set -u
 
 bench=$(dirname -- "$(dirname -- "$(readlink -f -- "$0")")")
-. "$bench/cases.sh"
-peer=$("$bench/go_peer.sh" conformance/gopackages) || exit 2
+. "$bench/shared/cases.sh"
+peer=$("$bench/shared/go_peer.sh" conformance/gopackages) || exit 2
 folder=$out/worked
 data=$bench/../crates/test_cases/data
 rm -rf "$folder" && mkdir -p "$folder/few" || exit 2

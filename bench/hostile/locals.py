@@ -12,8 +12,7 @@ import pathlib
 import sys
 import tempfile
 
-sys.path.insert(0, str(pathlib.Path(__file__).resolve().parents[1]))
-from shapes import LEAST_SECONDS, MOST_BYTES, MOST_GROWTH, MOST_MEGABYTES, MOST_SECONDS, best, shown  # noqa: E402
+from shapes import LEAST_SECONDS, MOST_BYTES, MOST_GROWTH, MOST_MEGABYTES, MOST_SECONDS, best, shown
 
 CLASSES = {}
 

@@ -13,9 +13,8 @@ import pathlib
 import sys
 import tempfile
 
-sys.path.insert(0, str(pathlib.Path(__file__).resolve().parents[1]))
-from collisions import name  # noqa: E402
-from shapes import LEAST_SECONDS, MOST_BYTES, MOST_GROWTH, MOST_MEGABYTES, MOST_SECONDS, best, made, shown  # noqa: E402
+from collisions import name
+from shapes import LEAST_SECONDS, MOST_BYTES, MOST_GROWTH, MOST_MEGABYTES, MOST_SECONDS, best, made, shown
 
 CLASSES = {}
 

@@ -1,9 +1,0 @@
-#!/bin/sh
-# Measures `govisd resolve` on shapes of text that might take long, beside Go's own front end: bench/shapes.sh [--only NAME,..]
-# GOVISD=FILE names another program than crates/govisd/out/govisd. Status 0 where all bounds hold, 1 where not, 2 where nothing could be measured.
-set -u
-bench=$(dirname -- "$(readlink -f -- "$0")")
-. "$bench/program.sh"
-gofront=$("$bench/go_peer.sh" gofront) || gofront=
-[ -z "$gofront" ] || set -- --gofront "$gofront" "$@"
-exec python3 -B "$bench/shapes.py" --govisd "$govisd" "$@"
