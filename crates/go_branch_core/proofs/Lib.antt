@@ -1,0 +1,5 @@
+pub mod Crossing
+pub mod Forked
+pub mod QuietLines
+pub mod Stepping
+pub mod Whole
