@@ -4,11 +4,26 @@ use crate::case::Case;
 use crate::lists::{Misfit, Values};
 use crate::missing::add_missing;
 use go_diagnostic_core::{Message, Words};
+use go_judge_core::{Extent, extent_of};
 use go_report_core::operand_core::Operand;
 use go_term_core::{TypeTerm, identical};
+use go_tree_nodes::Expr;
 use std::alloc::{AllocError, Global};
 
-/// Adds why a value does not fit: which method it lacks of an interface type; and what to write where a pointer to it fits, or what it points to.
+/// Marks what stands from one expression to the end of another as what a message is of.
+pub fn mark_between(first: &Expr, last: &Expr, message: &mut Message) {
+    let Extent { start, end: _ } = extent_of(first);
+    let Extent { start: _, end } = extent_of(last);
+    message.mark(start, end);
+}
+
+/// Marks an expression as what a message is of.
+pub fn mark(expr: &Expr, message: &mut Message) {
+    mark_between(expr, expr, message);
+}
+
+/// Marks a value that does not fit, and adds why it does not: which method it lacks of an interface type; and what to write where a pointer to it fits, or what
+/// it points to.
 ///
 /// # Errors
 ///
@@ -20,6 +35,7 @@ pub fn add_why(
     found: &Misfit<'_>,
     message: &mut Message,
 ) -> Result<(), AllocError> {
+    values.mark(found.number, message);
     let Some(value) = values.type_at(found.number) else {
         return Ok(());
     };

@@ -15,7 +15,7 @@ pub use embedded::{
     Embedded, Owner, Way, deep_pointer, embedded_with, has_method, shallowest, target_of,
 };
 pub use fields::{StructParts, add_difference, add_hidden_field, parts_of};
-pub use fitting::{add_why, why_fixed};
+pub use fitting::{add_why, mark, mark_between, why_fixed};
 pub use headers::{Header, header_of, results_written};
 pub use lists::{Misfit, Values, misfit_in, values_of};
 pub use missing::add_missing;

@@ -1,8 +1,9 @@
 //! Values that are given: those of a list, or those of the one call that stands there.
 
 use crate::case::Case;
+use crate::fitting::{mark, mark_between};
 use crate::telling::{is_of, is_value, kinds_told, results_of, type_told, types_told};
-use go_diagnostic_core::{Words, digits};
+use go_diagnostic_core::{Message, Words, digits};
 use go_judge_core::{Given, Judged};
 use go_report_core::denote_core::Stand;
 use go_report_core::operand_core::Operand;
@@ -74,6 +75,23 @@ impl<'s> Values<'s> {
         match self.alone()?.count() {
             Some(_) => self.exprs.first().copied(),
             None => None,
+        }
+    }
+
+    /// Marks the value of a number, from 0, as what a message is of; where one call gives all values, the call.
+    pub fn mark(&self, number: usize, message: &mut Message) {
+        if let Some(call) = self.call() {
+            mark(call, message);
+        } else if let Some(expr) = self.expr(number) {
+            mark(expr, message);
+        }
+    }
+
+    /// Marks the values from a number on, from 0, as what a message is of; where one call gives all values, the call.
+    pub fn mark_from(&self, number: usize, message: &mut Message) {
+        match (self.expr(number), self.exprs.last()) {
+            (Some(first), Some(last)) => mark_between(first, *last, message),
+            _ => self.mark(0, message),
         }
     }
 

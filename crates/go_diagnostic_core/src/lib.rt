@@ -17,7 +17,7 @@ pub use adding::{
     add_change, add_import_with, add_names, add_near, add_near_import, add_near_in_case,
 };
 pub use here::{Here, ScannedFile};
-pub use messages::{LineKind, Message, MessageLine, Words};
+pub use messages::{LineKind, Marked, Message, MessageLine, Words};
 pub use near::nearest;
 pub use packages::{
     bound_here, declared_in, import_place, kind_text, offset_of, own_decl, package_at,

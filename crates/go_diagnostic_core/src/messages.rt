@@ -48,12 +48,23 @@ impl MessageLine {
     }
 }
 
+/// A part of the text of the file in which a fault lies, in bytes from its start: what a diagnostic speaks of.
+#[derive(Clone, Copy)]
+pub struct Marked {
+    /// The offset of the first byte.
+    pub start: usize,
+    /// The offset of the byte after the last one.
+    pub end: usize,
+}
+
 /// A diagnostic: what is said of a fault.
 pub struct Message {
     /// What is amiss, in one line without its end, the place and the number of the rule.
     pub headline: String,
     /// What is said besides, in the order in which it is told.
     pub lines: Vec<MessageLine>,
+    /// The part of the text that is amiss; none where that is the token at the place of the fault.
+    pub marked: Option<Marked>,
 }
 
 impl Drop for Message {
@@ -61,6 +72,7 @@ impl Drop for Message {
         let Message {
             headline: _,
             lines: _,
+            marked: _,
         } = self;
     }
 }
@@ -132,7 +144,13 @@ impl Message {
         Message {
             headline,
             lines: Vec::new(alloc),
+            marked: None,
         }
+    }
+
+    /// Marks the part of the text between two offsets, in bytes from the start of the file of the fault, as what is amiss.
+    pub fn mark(&mut self, start: usize, end: usize) {
+        self.marked = Some(Marked { start, end });
     }
 
     /// A headline with no line after it, by its pieces.

@@ -7,7 +7,7 @@ use go_case_core::diagnostic_core::{
 use go_case_core::judge_core::{Extent, TypeText};
 use go_case_core::{
     Case, Embedded, StructParts, add_hidden_field, article_of, counted, embedded_with, has_method,
-    parts_of, target_of, under_told,
+    mark_between, parts_of, target_of, under_told,
 };
 use go_expr_core::start;
 use go_path_core::text_core::Rule;
@@ -424,8 +424,17 @@ fn miscounted(
     )?;
     if count < parts.fields.len() {
         add_named(alloc, of, &mut message)?;
+    } else {
+        mark_extra(of.literal.elements, parts.fields.len(), &mut message);
     }
     Ok(Some(message))
+}
+
+// Marks the elements without a field, where there are so many fields.
+fn mark_extra(elements: &[Item], fields: usize, message: &mut Message) {
+    if let (Some(first), Some(last)) = (elements.get(fields), elements.last()) {
+        mark_between(&first.value, &last.value, message);
+    }
 }
 
 // What stands in front of how many elements are there.

@@ -3,7 +3,7 @@
 use crate::operators::some_of;
 use go_case_core::diagnostic_core::{Message, Words};
 use go_case_core::judge_core::{Judged, Piece, inside, operand_type};
-use go_case_core::{Case, is_nil, type_told};
+use go_case_core::{Case, is_nil, mark, type_told};
 use go_operand_core::constant_core::Constant;
 use go_term_core::TypeTerm;
 use go_tree_nodes::token_core::Operator;
@@ -80,7 +80,9 @@ fn division(expr: &Expr, alloc: Global, case: &Case<'_>) -> Result<Option<Messag
         if is_zero(&right) {
             let written = case.shown(alloc, expr)?;
             let words = Words::new(alloc).and(written.as_str());
-            return some_of(Message::of(words.and(": division by 0")));
+            let mut message = Message::of(words.and(": division by 0"))?;
+            mark(expr, &mut message);
+            return Ok(Some(message));
         }
     }
     division(&binary.left, alloc, case)
@@ -156,7 +158,9 @@ fn not_constant(
     } else {
         why_not(expr)
     };
-    some_of(Message::of(Words::new(alloc).and(written.as_str()).and(why)))
+    let mut message = Message::of(Words::new(alloc).and(written.as_str()).and(why))?;
+    mark(expr, &mut message);
+    Ok(Some(message))
 }
 
 /// What is said of an expression that breaks the rule X1; none where no more is known of it.
@@ -225,13 +229,15 @@ fn function_value(
 // A form of Go that is not supported.
 fn not_yet(alloc: Global, case: &Case<'_>, expr: &Expr, form: &str) -> Result<Message, AllocError> {
     let written = case.shown(alloc, expr)?;
-    Message::of(
+    let mut message = Message::of(
         Words::new(alloc)
             .and(written.as_str())
             .and(": ")
             .and(form)
             .and(": Go has these, govisd does not support them yet"),
-    )
+    )?;
+    mark(expr, &mut message);
+    Ok(message)
 }
 
 // Whether an operator is a shift or goes by bits.
@@ -281,6 +287,7 @@ fn outside(alloc: Global, case: &Case<'_>, expr: &Expr) -> Result<Message, Alloc
             .and(written.as_str())
             .and(" is outside the range of int"),
     )?;
+    mark(expr, &mut message);
     message.note(Words::new(alloc).and(
         "constants have 64 bits, from -9223372036854775808 to 9223372036854775807",
     ))?;

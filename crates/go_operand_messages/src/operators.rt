@@ -2,7 +2,9 @@
 
 use go_case_core::diagnostic_core::{Message, Words};
 use go_case_core::judge_core::{Extent, Judged, Piece};
-use go_case_core::{Case, article_of, is_nil, is_value, type_of, values_told, why_fixed};
+use go_case_core::{
+    Case, article_of, is_nil, is_value, mark, mark_between, type_of, values_told, why_fixed,
+};
 use go_expr_core::start;
 use go_operand_core::Operand;
 use go_term_core::{Basic, TypeTerm};
@@ -98,9 +100,9 @@ fn of_spine(
     for back in 0..spine.len() {
         let number = spine.len().saturating_sub(back).saturating_sub(1);
         if let Some(expr) = spine.get(number) {
-            let message = of_part(alloc, case, *expr)?;
-            if message.is_some() {
-                return Ok(message);
+            if let Some(mut message) = of_part(alloc, case, *expr)? {
+                mark(*expr, &mut message);
+                return Ok(Some(message));
             }
         }
     }
@@ -329,7 +331,9 @@ fn of_condition(
     let written = case.shown(alloc, expr)?;
     let is = is_value(alloc, case, written.as_str(), operand)?;
     let words = Words::new(alloc).and("the condition ").and(is.as_str());
-    some_of(Message::of(words.and(", not a bool")))
+    let mut message = Message::of(words.and(", not a bool"))?;
+    mark(expr, &mut message);
+    Ok(Some(message))
 }
 
 // A statement with `++` or `--`.
@@ -365,7 +369,11 @@ fn updated(alloc: Global, case: &Case<'_>, update: &Update) -> Result<Option<Mes
     let target = case.value(alloc, &update.target)?;
     let value = case.value(alloc, &update.value)?;
     match (target.value(), value.value()) {
-        (Some(left), Some(right)) => some_of(update_told(alloc, case, update, left, right)),
+        (Some(left), Some(right)) => {
+            let mut message = update_told(alloc, case, update, left, right)?;
+            mark_between(&update.target, &update.value, &mut message);
+            Ok(Some(message))
+        }
         _ => Ok(None),
     }
 }

@@ -3,8 +3,8 @@
 use go_case_core::diagnostic_core::{Message, Words};
 use go_case_core::judge_core::{Judged, Piece, exprs_of, operand_type};
 use go_case_core::{
-    Case, Misfit, Values, add_why, article_of, counted, is_nil, misfit_in, parts_of, type_told,
-    values_of, values_told, why_fixed,
+    Case, Misfit, Values, add_why, article_of, counted, is_nil, mark, misfit_in, parts_of,
+    type_told, values_of, values_told, why_fixed,
 };
 use go_expr_core::denote_core::Stand;
 use go_expr_core::start;
@@ -123,7 +123,9 @@ fn clash(
         .and(article_of(wanted.as_str()))
         .and(wanted.as_str());
     if is_nil_at(values, found.number) {
-        return Message::of(words.and(", and cannot be nil"));
+        let mut message = Message::of(words.and(", and cannot be nil"))?;
+        values.mark(found.number, &mut message);
+        return Ok(message);
     }
     let right = values.is_text(alloc, case, found.number)?;
     let mut message = Message::of(words.and(", and ").and(right.as_str()))?;
@@ -223,7 +225,9 @@ fn not_assignable(
     };
     let written = case.shown(alloc, *expr)?;
     let why = why_fixed_at(targets, number);
-    some_of(Message::of(Words::new(alloc).and(written.as_str()).and(why)))
+    let mut message = Message::of(Words::new(alloc).and(written.as_str()).and(why))?;
+    mark(*expr, &mut message);
+    Ok(Some(message))
 }
 
 // Why the target of a number cannot be assigned to.
@@ -302,7 +306,9 @@ fn nil_given(
     let mut number: usize = 0;
     for ident in idents {
         if is_nil_at(values, number) && declared_type(case, *ident).is_none() {
-            return some_of(nil_without_type(alloc, ident.name.as_str()));
+            let mut message = nil_without_type(alloc, ident.name.as_str())?;
+            values.mark(number, &mut message);
+            return Ok(Some(message));
         }
         number = number.saturating_add(1);
     }

@@ -5,7 +5,7 @@ use go_case_core::diagnostic_core::{LineKind, Message, Words, digits, kind_text,
 use go_case_core::judge_core::{inside, operand_type};
 use go_case_core::{
     Case, Header, Misfit, Values, add_difference, add_missing, add_why, article_of, counted,
-    header_of, is_value, misfit_in, params_of, type_of, type_told, types_told, values_of,
+    header_of, is_value, mark, misfit_in, params_of, type_of, type_told, types_told, values_of,
 };
 use go_expr_core::operand_core::Operand;
 use go_term_core::{Signature, TypeTerm};
@@ -65,6 +65,7 @@ fn no_function(
             .and(what.as_str())
             .and(", and cannot be called"),
     )?;
+    mark(&call.callee, &mut message);
     add_hidden(alloc, case, &call.callee, &mut message)?;
     Ok(Some(message))
 }
@@ -149,11 +150,21 @@ fn miscounted(
         .and(", and has ")
         .and(has.as_str());
     let mut message = Message::of(pieces)?;
+    mark_count(call, &values, wanted, &mut message);
     if let Some(signature) = callee.signature() {
         add_have(alloc, case, &values, &mut message)?;
         add_want(alloc, case, &call.callee, signature, &mut message)?;
     }
     Ok(Some(message))
+}
+
+// Marks the arguments of a call behind as many as are wanted; where there are too few, where the call ends.
+fn mark_count(call: &CallExpr, values: &Values<'_>, wanted: usize, message: &mut Message) {
+    if values.count() > wanted || values.call().is_some() {
+        values.mark_from(wanted, message);
+    } else {
+        message.mark(call.close.start as usize, call.close.end as usize);
+    }
 }
 
 // Adds what is given: the types of the arguments, and how many values one call gives.
@@ -304,10 +315,14 @@ fn predeclared_wants_other(
 ) -> Result<Option<Message>, AllocError> {
     let callee = case.shown(alloc, &call.callee)?;
     let is_len = callee.as_str() == "len";
+    let mut other: usize = 0;
     let what = match values.call() {
         Some(inner) => given_by(alloc, case, inner, values)?,
         None => match values.first_other(case, is_len)? {
-            Some(number) => values.is_text(alloc, case, number)?,
+            Some(number) => {
+                other = number;
+                values.is_text(alloc, case, number)?
+            }
             None => return Ok(None),
         },
     };
@@ -317,7 +332,9 @@ fn predeclared_wants_other(
         .and(predeclared_wants(callee.as_str()))
         .and(", and ")
         .and(what.as_str());
-    some_of(Message::of(pieces))
+    let mut message = Message::of(pieces)?;
+    values.mark(other, &mut message);
+    Ok(Some(message))
 }
 
 // What a call gives that gives no or several values.
@@ -381,6 +398,7 @@ fn conversion_of(
             .and(", and cannot be converted to ")
             .and(wanted.as_str()),
     )?;
+    mark(argument, &mut message);
     if let Some(value) = operand_type(operand) {
         add_missing(alloc, case, value, target, written.as_str(), &mut message)?;
         add_difference(alloc, case, value, target, &mut message)?;

@@ -5,7 +5,8 @@ use crate::own::{own_function, results_of};
 use go_case_core::diagnostic_core::{LineKind, Message, Words, digits, shown};
 use go_case_core::judge_core::{Piece, exprs_of};
 use go_case_core::{
-    Case, Misfit, Values, add_why, article_of, misfit_in, results_written, type_told, values_of,
+    Case, Misfit, Values, add_why, article_of, mark, misfit_in, results_written, type_told,
+    values_of,
 };
 use go_term_core::TypeTerm;
 use go_tree_nodes::text_core::{Rule, add};
@@ -72,15 +73,19 @@ fn returned_values(
 ) -> Result<Option<Message>, AllocError> {
     let name = func.name.name.as_str();
     if results.is_empty() {
-        return some_of(Message::of(
+        let mut message = Message::of(
             Words::new(alloc)
                 .and(name)
                 .and(" returns nothing, and here is a value"),
-        ));
+        )?;
+        values.mark_from(0, &mut message);
+        return Ok(Some(message));
     }
     let types = case.setting.results(alloc, &func.signature)?;
     if types.len() != values.count() {
-        return some_of(other_count(alloc, case, name, results, values));
+        let mut message = other_count(alloc, case, name, results, values)?;
+        values.mark_from(first_amiss(values, types.len()), &mut message);
+        return Ok(Some(message));
     }
     let wanted = lent(alloc, &types)?;
     match misfit_in(alloc, case, values, &wanted)? {
@@ -116,6 +121,11 @@ fn lent(alloc: Global, types: &[Option<TypeTerm>]) -> Result<Vec<Option<&TypeTer
         add(&mut all, t.as_ref())?;
     }
     Ok(all)
+}
+
+// The number, from 0, of the first value of too many; of too few values the first one.
+fn first_amiss(values: &Values<'_>, wanted: usize) -> usize {
+    if values.count() > wanted { wanted } else { 0 }
 }
 
 // A `return` of another number of values than results.
@@ -279,6 +289,7 @@ fn unused(alloc: Global, case: &Case<'_>) -> Result<Option<Message>, AllocError>
     };
     let written = case.shown(alloc, expr)?;
     let mut message = Message::of(Words::new(alloc).and(written.as_str()).and(not_used(expr)))?;
+    mark(expr, &mut message);
     if let Expr::Binary(binary) = expr {
         if binary.operator == Operator::Equal {
             let left = case.shown(alloc, &binary.left)?;
