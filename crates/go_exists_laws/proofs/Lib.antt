@@ -1,0 +1,3 @@
+mod Contents
+mod Files
+mod Ones
