@@ -147,7 +147,41 @@ def faults(client, root):
     client.change(main, 4, text.replace('import (', 'import (\n\t"fmt"').replace("println(size(r))", "fmt.Println(size(r))"))
     told = client.told(main)
     holds("an import of the standard library is one information", [it["severity"] for it in told] == [3], told)
-    client.change(main, 5, text)
+    for path, severity in (("example.org/far/lib", 3), ("ex.com/m/pp9", 1)):
+        client.change(main, 5, text.replace('import (', f'import (\n\t_ "{path}"'))
+        told = client.told(main)
+        holds(f"the severity of an import of {path}", [(it["code"], it["severity"]) for it in told] == [("I2", severity)], told)
+    client.change(main, 6, text)
+
+
+def unused(client, root):
+    """Variables that nothing uses, and files that are not read."""
+    main, text = f"{root}/main.go", main_text(11)
+    warned = lambda: [(it["range"]["start"]["line"], it["message"].split(" ")[0]) for it in client.told(main) if it["severity"] == 2 and it["tags"] == [1]]
+    row = text[: text.index("\tprintln(size(r))")].count("\n")
+    cases = [
+        ("a variable that nothing uses", "\tk := 1", [(row, "k")]), ("one with var", "\tvar k int", [(row, "k")]), ("one that is only given a value", "\tk := 1\n\tk = 2", [(row, "k")]),
+        ("one of two", "\tk, l := 1, 2\n\tprintln(l)", [(row, "k")]), ("the outer one of a name", "\tk := 1\n\tif q.Width > 1 {\n\t\tk := 2\n\t\tprintln(k)\n\t}", [(row, "k")]),
+        ("one that is used", "\tk := 1\n\tprintln(k)", []), ("one that a sum uses", "\tk := 1\n\tk += k", []), ("one behind a pointer", "\tk := &q.Width\n\t*k = 2", []),
+        ("a field that is set", "\tk := *q\n\tk.Width = 2", []), ("a constant", "\tconst k = 1", []), ("one that what is not known uses", "\tk := 1\n\tlost.Call(k, lost.Other(k))", []),
+        ("one that a method uses that is not there", "\tk := 1\n\tq.Lost(k)", []), ("the blank one", "\tvar _ = 1", []),
+    ]
+    for version, (case, lines, wanted) in enumerate(cases, 30):
+        client.change(main, version, text.replace("\tprintln(size(r))", lines))
+        holds(f"unused: {case}", warned() == wanted, client.told(main))
+    client.change(main, 60, text.replace("\tprintln(size(r))", "\tk := 1\n\tr."))
+    holds("a text that does not parse has no variable that nothing uses", warned() == [], client.told(main))
+    client.change(main, 61, text)
+    os.makedirs(f"{root}/a b", exist_ok=True)
+    for name in ("main_test.go", "a b.go", "vendor/x.go", "a b/x.go", "_x.go"):
+        client.open(f"{root}/{name}", "package main\n\nvar x y\n")
+        told = client.told(f"{root}/{name}")
+        holds(f"{name} is not read, and it is said", [(it["severity"], it["range"]["start"]["line"]) for it in told] == [(3, 0)] and "nothing is checked in this file: " in told[0]["message"], told)
+        client.note("textDocument/didClose", {"textDocument": {"uri": uri_of(f"{root}/{name}")}})
+        holds(f"nothing is said of {name} once it is closed", client.told(f"{root}/{name}") == [], client.diagnostics)
+    client.open(f"{root}/go.mod")
+    holds("nothing is said of a go.mod", client.told(f"{root}/go.mod") == [], client.diagnostics)
+    client.note("textDocument/didClose", {"textDocument": {"uri": uri_of(f"{root}/go.mod")}})
 
 
 def broken(client, root):
@@ -164,7 +198,7 @@ def broken(client, root):
         told = client.told(main)
         holds(f"one fault with {line!r}", len(told) == 1, told)
         headline = told[0]["message"].split("\n")[0] if told else ""
-        holds(f"it says what was met with {line!r}", ("unexpected " in headline or "no end" in headline) and told[0]["code"] + ": " in told[0]["message"], told)
+        holds(f"it says what was met with {line!r}, and no more than what helps", ("unexpected " in headline or "no end" in headline) and all(it.startswith("help: ") for it in told[0]["message"].split("\n")[1:]), told)
     client.change(main, version, text)
     holds("mended", client.told(main) == [], client.diagnostics)
 
@@ -237,6 +271,11 @@ def fixes(client, root):
             client.change(main, version, "\n".join(lines))
             holds(f"the fix {action['title']} leaves fewer faults", len(client.told(main)) < before, (action, client.told(main)))
             client.change(main, version, now)
+    beside = {"line": line, "character": 0}
+    found = client.ask("textDocument/codeAction", {"textDocument": {"uri": uri_of(main)}, "range": {"start": beside, "end": beside}, "context": {"diagnostics": client.told(main)}})
+    holds("a fix of what the editor shows on the line", found, found)
+    found = client.ask("textDocument/codeAction", {"textDocument": {"uri": uri_of(main)}, "range": {"start": beside, "end": beside}, "context": {"diagnostics": []}})
+    holds("and none where it shows nothing", found == [], found)
     for only, wanted in ((["source.organizeImports"], False), (["quickfix"], True), ([""], True)):
         found = client.ask("textDocument/codeAction", {"textDocument": {"uri": uri_of(main)}, "range": {"start": spot, "end": spot}, "context": {"diagnostics": [], "only": only}})
         holds(f"fixes where the kinds {only} are wanted", bool(found) == wanted, found)
@@ -348,6 +387,10 @@ def renames(client, root):
     line, character = place(text, "r := ")
     answer = client.request("textDocument/rename", {"textDocument": {"uri": uri_of(main)}, "position": {"line": line, "character": character}, "newName": "size"})
     holds("a refusal names the place", "size at main.go:" in answer.get("error", {}).get("message", ""), answer)
+    for name, wanted in (("make9", "make9 is not exported, and another package uses Make at main.go:"), ("F9", "a fault at p9/p9.go:")):
+        line, character = place(text, "p9.Make", 4)
+        answer = client.request("textDocument/rename", {"textDocument": {"uri": uri_of(main)}, "position": {"line": line, "character": character}, "newName": name})
+        holds(f"why Make is not renamed to {name}", wanted in answer.get("error", {}).get("message", ""), answer)
 
 
 def signatures(client, root):
@@ -466,6 +509,7 @@ def main():
         definitions(client, root)
         faults(client, root)
         broken(client, root)
+        unused(client, root)
         completions(client, root)
         renames(client, root)
         signatures(client, root)

@@ -26,7 +26,7 @@ def told_by(client, root):
     found = {}
     for uri, params in client.diagnostics.items():
         path = uri.removeprefix(uri_of(root) + "/")
-        places = {(it["range"]["start"]["line"], it["range"]["start"]["character"], it["code"]) for it in params["diagnostics"]}
+        places = {(it["range"]["start"]["line"], it["range"]["start"]["character"], it["code"]) for it in params["diagnostics"] if "code" in it}
         if places:
             found[path] = places
     return found

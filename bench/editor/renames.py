@@ -131,7 +131,7 @@ def main():
                             asked += 1
                             if "error" in found or not found.get("result"):
                                 refused += 1
-                                if new == "zz" and "error" in found and "would change" in found["error"]["message"]:
+                                if new == "zz" and "error" in found and any(it in found["error"]["message"] for it in ("would change", "would be a fault", "is not exported")):
                                     needless += 1
                                 continue
                             changes = found["result"]["changes"]

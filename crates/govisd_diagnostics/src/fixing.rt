@@ -3,6 +3,7 @@
 use crate::publishing::{hidden_in, is_shown, path_in};
 use go_diagnostic_core::snap_core::{FileIn, PlacedFault, Recompiled, recompile};
 use go_diagnostic_core::{nearest_import, nearest_name};
+use go_lsp_core::positions::Range;
 use go_path_core::text_core::Rule;
 use go_reference_core::query_core::list;
 use govisd_documents::{
@@ -15,6 +16,9 @@ use std::alloc::{AllocError, Global};
 
 /// How many faults are looked at for one request, and up to how many changes imports are added for one fault.
 const MOST: usize = 8;
+
+/// How many ranges are looked at for one request.
+const SPANS: usize = 16;
 
 /// A change of a file: the text between two offsets, in bytes, becomes another one.
 #[derive(Drop)]
@@ -284,18 +288,64 @@ fn add_actions(
     Ok(())
 }
 
-// Whether the token at an offset of a text touches what lies between two offsets.
-fn touches(text: &str, offset: usize, start: usize, end: usize) -> bool {
-    offset <= end && start <= token_end(text.as_bytes(), offset)
+/// What lies between two offsets of a text, in bytes.
+#[derive(Clone, Copy)]
+struct Span {
+    start: usize,
+    end: usize,
 }
 
-// The faults of a file whose tokens touch what lies between two offsets: the first ones.
-fn faults_between(
+// Whether the token at an offset of a text touches one of these spans.
+fn touches(text: &str, offset: usize, spans: &[Span]) -> bool {
+    let end = token_end(text.as_bytes(), offset);
+    for span in spans {
+        if offset <= span.end && span.start <= end {
+            return true;
+        }
+    }
+    false
+}
+
+// Adds the span of a range of a file, if there is one.
+fn add_span(
+    session: &Session,
+    spans: &mut Vec<Span>,
+    told: &ToldFile<'_>,
+    range: Option<Range>,
+) -> Result<(), AllocError> {
+    if let Some(range) = range {
+        spans.push(Span {
+            start: told.lines.offset_of(session.encoding, range.start),
+            end: told.lines.offset_of(session.encoding, range.end),
+        })?;
+    }
+    Ok(())
+}
+
+// The spans of a file that the parameters name: the range that is asked for, and those of the diagnostics that the editor shows there, as on the cursor's line.
+fn asked_spans(
+    session: &Session,
+    params: &Value,
+    told: &ToldFile<'_>,
+) -> Result<Vec<Span>, AllocError> {
+    let mut spans = Vec::new(session.alloc);
+    add_span(session, &mut spans, told, range_at(params, "/range"))?;
+    if let Some(shown) = list_at(params, "/context/diagnostics") {
+        for diagnostic in shown {
+            if spans.len() < SPANS {
+                add_span(session, &mut spans, told, range_at(diagnostic, "/range"))?;
+            }
+        }
+    }
+    Ok(spans)
+}
+
+// The faults of a file whose tokens touch one of these spans: the first ones.
+fn faults_in(
     session: &Session,
     file: FileIn<'_>,
     path: &str,
-    start: usize,
-    end: usize,
+    spans: &[Span],
 ) -> Result<Vec<PlacedFault>, AllocError> {
     let hidden = hidden_in(session, path);
     let mut faults = Vec::new(session.alloc);
@@ -307,7 +357,7 @@ fn faults_between(
         };
         if is_here
             && faults.len() < MOST
-            && touches(file.source.text(), fault.offset, start, end)
+            && touches(file.source.text(), fault.offset, spans)
             && is_shown(hidden, *fault)
         {
             faults.push(*fault)?;
@@ -316,7 +366,7 @@ fn faults_between(
     Ok(faults)
 }
 
-// The changes that mend faults of a file in the range that the parameters name.
+// The changes that mend faults of a file where the parameters ask for them.
 fn actions_in<'s>(
     session: &'s Session,
     params: &Value,
@@ -324,14 +374,10 @@ fn actions_in<'s>(
     file: FileIn<'s>,
 ) -> Result<Vec<Value>, AllocError> {
     let mut all = Vec::new(session.alloc);
-    let Some(range) = range_at(params, "/range") else {
-        return Ok(all);
-    };
     let told = told_file(session, file.part.path(), file.source)?;
     let path = session.file_path(file.part.path().as_str(), file.source.name())?;
-    let start = told.lines.offset_of(session.encoding, range.start);
-    let end = told.lines.offset_of(session.encoding, range.end);
-    let faults = faults_between(session, file, path.as_str(), start, end)?;
+    let spans = asked_spans(session, params, &told)?;
+    let faults = faults_in(session, file, path.as_str(), spans.as_slice())?;
     for fault in &faults {
         add_actions(session, &mut all, name, &told, file.source.text(), *fault)?;
     }
@@ -351,9 +397,9 @@ fn wants_fixes(params: &Value) -> bool {
     false
 }
 
-/// The quick fixes for the faults that the range of `textDocument/codeAction` touches, as a list of code actions: the name or the path that is nearest to what is
-/// written, and imports of packages that could be imported. Each was tried, mends its fault and brings no other one. Null where the parameters name no file of an
-/// assembled package, an empty list where they name no range or other kinds of actions alone, or nothing mends.
+/// The quick fixes for the faults that the range of `textDocument/codeAction` touches, or those of the diagnostics in its context, as a list of code actions: the name
+/// or the path that is nearest to what is written, and imports of packages that could be imported. Each was tried, mends its fault and brings no other one. Null where
+/// the parameters name no file of an assembled package, an empty list where they name no range or other kinds of actions alone, or nothing mends.
 ///
 /// # Errors
 ///

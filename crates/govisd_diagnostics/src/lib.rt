@@ -3,7 +3,9 @@
 
 mod fixing;
 mod publishing;
+mod refusing;
 mod related;
+mod remarks;
 mod renaming;
 
 pub use fixing::code_actions;

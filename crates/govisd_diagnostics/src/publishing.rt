@@ -1,9 +1,10 @@
 //! What is told of what is wrong in files.
 
 use crate::related::related_place;
+use crate::remarks::{add_unused, unread_value, unused_in};
 use go_cause_core::{Cause, causes};
 use go_diagnostic_core::snap_core::{PlacedFault, Snapshot};
-use go_diagnostic_core::{LineKind, MessageLine};
+use go_diagnostic_core::{LineKind, Marked, MessageLine};
 use go_explain_core::meaning;
 use go_graph_core::SourceFile;
 use go_mismatch_core::{FileMessages, is_of_types};
@@ -41,12 +42,20 @@ pub(crate) fn path_in(token: &str) -> Option<&str> {
     None
 }
 
+// Whether the string of an import names a package that is below no module of the workspace.
+fn names_other(session: &Session, token: &str) -> bool {
+    match path_in(token) {
+        Some(path) => !is_own(session.modules.as_slice(), path),
+        None => false,
+    }
+}
+
 // Whether the string of an import names a package of the standard library: it is below no module, and the first element of its path has no dot.
 fn names_library(session: &Session, token: &str) -> bool {
     let Some(path) = path_in(token) else {
         return false;
     };
-    if is_own(session.modules.as_slice(), path) {
+    if !names_other(session, token) {
         return false;
     }
     match path.split_once('/') {
@@ -122,6 +131,8 @@ struct Said {
     severity: u8,
     text: String,
     related: Vec<Value>,
+    /// The part of the file's text that is amiss; none where that is the token at the place of the fault.
+    marked: Option<Marked>,
 }
 
 // What is told of a fault, as a diagnostic of the protocol; the offsets are in bytes of the file's text.
@@ -140,6 +151,7 @@ fn diagnostic(
         severity,
         text,
         related,
+        marked: _,
     } = said;
     let related = Value::Array(related);
     json!(in alloc; {"range": range, "relatedInformation": related, "message": text, "severity": severity, "code": code, "source": "govisd"})
@@ -151,6 +163,7 @@ fn said_by(alloc: Global, severity: u8, text: &str) -> Result<Said, AllocError> 
         severity,
         text: String::from_str(alloc, text)?,
         related: Vec::new(alloc),
+        marked: None,
     })
 }
 
@@ -205,15 +218,12 @@ fn add_meaning(said: &mut Said, rule: Rule, before: &str) -> Result<(), AllocErr
     said.text.push_str(words)
 }
 
-// What is said of the fault of a text that does not parse: what was met there and what helps, and what its rule means.
+// What is said of the fault of a text that does not parse: what was met there and what helps, or else what its rule means.
 fn said_of_text(alloc: Global, hidden: &Hidden) -> Result<Said, AllocError> {
-    let rule = hidden.fault.rule;
     if hidden.said.is_empty() {
-        return said_by(alloc, ERROR, meaning(rule));
+        return said_by(alloc, ERROR, meaning(hidden.fault.rule));
     }
-    let mut said = said_by(alloc, ERROR, hidden.said.as_str())?;
-    add_meaning(&mut said, rule, hidden.said.as_str())?;
-    Ok(said)
+    said_by(alloc, ERROR, hidden.said.as_str())
 }
 
 // What is said of a fault of an open file: its message, and what its rule means.
@@ -227,6 +237,7 @@ fn said_in_full(
     let module = session.module_path(package);
     let told = messages.message(alloc, module, &fault)?;
     let mut said = said_by(alloc, ERROR, told.headline.as_str())?;
+    said.marked = told.marked;
     for line in &told.lines {
         add_line(session, &mut said, module, line)?;
     }
@@ -234,8 +245,27 @@ fn said_in_full(
     Ok(said)
 }
 
-// What is said of a fault at a token, behind so many that are told: of an import of the standard library that it is not known, of another fault its message
-// where there are messages, and else what its rule means.
+// Whether help is said of a fault.
+fn has_help(said: &Said) -> bool {
+    said.text.as_str().contains("\nhelp: ")
+}
+
+// What is said of a fault behind so many that are told: its message where there are messages, and else what its rule means.
+fn said_of_fault(
+    session: &Session,
+    messages: Option<&FileMessages<'_>>,
+    count: usize,
+    package: &str,
+    fault: PlacedFault,
+) -> Result<Said, AllocError> {
+    match messages {
+        Some(messages) if count < IN_FULL => said_in_full(session, messages, package, fault),
+        _ => said_by(session.alloc, ERROR, meaning(fault.rule)),
+    }
+}
+
+// What is said of a fault at a token, behind so many that are told. An import of a package that is not known is no error: of one of the standard library it is
+// said alone that it is not known, and one of another module is an information too, but where another path helps.
 fn said_of(
     session: &Session,
     messages: Option<&FileMessages<'_>>,
@@ -244,13 +274,17 @@ fn said_of(
     fault: PlacedFault,
     token: &str,
 ) -> Result<Said, AllocError> {
-    if matches!(fault.rule, Rule::I2) && names_library(session, token) {
+    if !matches!(fault.rule, Rule::I2) {
+        return said_of_fault(session, messages, count, package, fault);
+    }
+    if names_library(session, token) {
         return said_by(session.alloc, INFORMATION, UNKNOWN_LIBRARY);
     }
-    match messages {
-        Some(messages) if count < IN_FULL => said_in_full(session, messages, package, fault),
-        _ => said_by(session.alloc, ERROR, meaning(fault.rule)),
+    let mut said = said_of_fault(session, messages, count, package, fault)?;
+    if names_other(session, token) && !has_help(&said) {
+        said.severity = INFORMATION;
     }
+    Ok(said)
 }
 
 // Adds what is told of a fault of a file.
@@ -266,9 +300,15 @@ fn add_fault(
     if is_hidden_name(session, fault.rule, token.as_bytes()) {
         return Ok(());
     }
-    let end = token_end(file.text().as_bytes(), fault.offset);
     let said = said_of(session, messages, all.len(), package, fault, token)?;
-    all.push(diagnostic(session, file, fault.offset, end, fault.rule, said)?)?;
+    let (start, end) = match said.marked {
+        Some(marked) => (marked.start, marked.end),
+        None => (
+            fault.offset,
+            token_end(file.text().as_bytes(), fault.offset),
+        ),
+    };
+    all.push(diagnostic(session, file, start, end, fault.rule, said)?)?;
     Ok(())
 }
 
@@ -328,7 +368,7 @@ pub(crate) fn hidden_in<'s>(session: &'s Session, path: &str) -> Option<&'s Hidd
     }
 }
 
-// What is told of a file: the fault of its text where it does not parse, and the faults that the snapshot has.
+// What is told of a file: the fault of its text where it does not parse, the faults that the snapshot has, and where it is open the variables that nothing uses.
 fn told_of<'s>(
     session: &'s Session,
     package: &ImportPath,
@@ -338,7 +378,8 @@ fn told_of<'s>(
 ) -> Result<Value, AllocError> {
     let mut all = Vec::new(session.alloc);
     let hidden = hidden_in(session, path);
-    if hidden.is_none() && faults.is_empty() {
+    let unused = unused_in(session, package, source, path)?;
+    if hidden.is_none() && faults.is_empty() && unused.is_empty() {
         return Ok(Value::Array(all));
     }
     let file = told_file(session, package, source)?;
@@ -349,6 +390,7 @@ fn told_of<'s>(
         all.push(diagnostic(session, &file, fault.offset, end, fault.rule, said)?)?;
     }
     add_faults(session, &mut all, &file, package.as_str(), hidden, faults)?;
+    add_unused(session, &mut all, &file, unused.as_slice())?;
     Ok(Value::Array(all))
 }
 
@@ -565,18 +607,22 @@ fn file_named<'s>(
     None
 }
 
+// What is told of an open file that has no fault in the snapshot.
+fn told_of_open(session: &Session, path: &str) -> Result<Value, AllocError> {
+    if let Some(name) = session.name_of(path)? {
+        if let Some((package, source)) = file_named(&session.snapshot, &name) {
+            return told_of(session, package, source, path, &[]);
+        }
+    }
+    unread_value(session.alloc, path)
+}
+
 // Adds what is told of an open file that has no fault in the snapshot.
 fn add_open(session: &Session, told: &mut Told, path: &str) -> Result<(), AllocError> {
     if told.contains_key(path) {
         return Ok(());
     }
-    let Some(name) = session.name_of(path)? else {
-        return Ok(());
-    };
-    let value = match file_named(&session.snapshot, &name) {
-        Some((package, source)) => told_of(session, package, source, path, &[])?,
-        None => Value::Array(Vec::new(session.alloc)),
-    };
+    let value = told_of_open(session, path)?;
     let own = String::from_str(session.alloc, path)?;
     match told.insert(own, Some(value)) {
         Ok(_) => Ok(()),

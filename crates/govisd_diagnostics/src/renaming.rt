@@ -1,13 +1,14 @@
 //! Renaming: tried on a workspace that nobody else sees, and offered only where every name keeps its declaration and every fault stays as it was.
 
+use crate::refusing::{first_outside, not_exported, refusal_of};
 use go_diagnostic_core::snap_core::{PlacedFault, Recompiled, Snapshot, recompile};
 use go_graph_core::{PackageSource, SourceFile, Workspace};
 use go_handle_core::DeclSite;
 use go_lsp_core::edits::{Edit, EditFault, apply_edits};
 use go_path_core::ImportPath;
-use go_path_core::text_core::Rule;
+use go_path_core::text_core::{Rule, is_exported};
 use go_reference_core::file_references;
-use go_reference_core::rename::{Change, Names, judge};
+use go_reference_core::rename::{Names, judge};
 use go_scan_core::scan;
 use go_term_core::MemberPlace;
 use go_term_core::decl_core::DeclKind;
@@ -236,33 +237,6 @@ fn renamed_snapshot(session: &Session, renaming: &Renaming) -> Result<Snapshot, 
     Ok(snapshot)
 }
 
-// What would change at a place, in a sentence.
-fn change_text(
-    session: &Session,
-    path: &ImportPath,
-    source: &SourceFile,
-    offset: usize,
-) -> Result<String, AllocError> {
-    let alloc = session.alloc;
-    let file = session.file_path(path.as_str(), source.name())?;
-    let place = go_folder_core::position_of(source.text(), offset);
-    let word = token_at(source.text(), offset);
-    let (name, line, column) = (file.as_str(), place.line, place.column);
-    format!(in alloc;
-        "this name would change what {word} at {name}:{line}:{column} means, or what is wrong there"
-    )
-}
-
-// Why a name is not renamed: where something would change.
-fn would_change(session: &Session, at: Change) -> Result<Refusal, AllocError> {
-    let alloc = session.alloc;
-    let text = match source_of(&session.snapshot, at.package, at.file) {
-        Some((path, source)) => change_text(session, path, source, at.offset)?,
-        None => String::from_str(alloc, "this name would change what another means")?,
-    };
-    refuse_with(alloc, ErrorCode::RequestFailed, text.as_str())
-}
-
 // The edit of the name at an offset of a file, as a value.
 fn edit_at(
     session: &Session,
@@ -338,60 +312,7 @@ fn edit_value(session: &Session, renaming: &Renaming) -> Result<Value, AllocErro
     json!(in alloc; {"changes": changes})
 }
 
-// The offsets at which the name stands in the file of two numbers, in order.
-fn offsets_in(names: &Names, package: usize, file: usize) -> &[usize] {
-    let Some(files) = names.offsets.get(package) else {
-        return &[];
-    };
-    match files.get(file) {
-        Some(offsets) => offsets.as_slice(),
-        None => &[],
-    }
-}
-
-// Where what stands at an offset of a renamed text stands in the text as it is: at the start of the name, where that offset lies in the new one.
-fn offset_before(names: &Names, offsets: &[usize], offset: usize) -> usize {
-    let mut before = offset;
-    for own in offsets {
-        if before <= *own {
-            return before;
-        }
-        before = if before < own.saturating_add(names.new) {
-            *own
-        } else {
-            before.saturating_sub(names.new).saturating_add(names.old)
-        };
-    }
-    before
-}
-
-// Whether a place is that of a fault.
-fn is_at(fault: PlacedFault, at: Change) -> bool {
-    fault.package == at.package && fault.file == at.file && fault.offset == at.offset
-}
-
-// Whether a place is one of the renamed texts: that of the first fault which the renaming adds to as many as there are.
-fn is_of_renamed(session: &Session, after: &Snapshot, at: Change) -> bool {
-    match after.faults().get(session.snapshot.faults().len()) {
-        Some(fault) => is_at(*fault, at),
-        None => false,
-    }
-}
-
-// A place that is told after a renaming was tried, as a place of the texts as they are.
-fn place_before(session: &Session, renaming: &Renaming, after: &Snapshot, at: Change) -> Change {
-    if !is_of_renamed(session, after, at) {
-        return at;
-    }
-    let own = offsets_in(&renaming.names, at.package, at.file);
-    Change {
-        package: at.package,
-        file: at.file,
-        offset: offset_before(&renaming.names, own, at.offset),
-    }
-}
-
-// A renaming that is tried: its edits, or where something would change.
+// A renaming that is tried: its edits, or why there are none.
 fn tried_renaming(
     session: &Session,
     renaming: &Renaming,
@@ -405,10 +326,7 @@ fn tried_renaming(
         &renaming.names,
         new,
     )? {
-        Some(at) => {
-            let at = place_before(session, renaming, &after, at);
-            Ok(Err(would_change(session, at)?))
-        }
+        Some(at) => Ok(Err(refusal_of(session, &renaming.names, &after, at)?)),
         None => Ok(Ok(edit_value(session, renaming)?)),
     }
 }
@@ -524,12 +442,19 @@ fn rename_site<'s>(
         },
         new: String::from_str(session.alloc, new)?,
     };
+    let old = old_name(session, at);
+    if is_exported(old) && !is_exported(new) {
+        if let Some(used) = first_outside(session, &renaming.names, at.path) {
+            return Ok(Err(not_exported(session, old, new, used)?));
+        }
+    }
     tried_renaming(session, &renaming)
 }
 
 /// The edits that rename what stands at a place to the `newName` of the parameters, as an edit of the workspace. A refusal with the code -32803 where it is not
-/// renamed: the new name is no identifier, a file does not parse, no name that the workspace declares stands there, a program begins with the functions of the name, or
-/// after the renaming another name would have another declaration, or a fault would come or go; the last one says the first place where that is so.
+/// renamed: the new name is no identifier, a file does not parse, no name that the workspace declares stands there, a program begins with the functions of the name, the
+/// new name is not exported and another package uses the old one, or after the renaming another name would have another declaration, or a fault would come or go; the
+/// last one says where a name would be declared again, or else the first place where something would change.
 ///
 /// # Errors
 ///

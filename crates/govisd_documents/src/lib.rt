@@ -12,6 +12,8 @@ mod ranges;
 mod session;
 mod targets;
 mod trying;
+mod unread;
+mod unused;
 mod words;
 
 pub use disk::Disk;
@@ -27,4 +29,6 @@ pub use ranges::{
 pub use session::{FileName, Phase, Session, path_of};
 pub use targets::{FilePlace, number_of, place_of, site_of, source_of, target_at};
 pub use trying::{shown_text, tried};
+pub use unread::{Unread, why_unread};
+pub use unused::unused_variables;
 pub use words::{has_word, is_name_byte, name_end, name_start, text_between, token_at, token_end};

@@ -61,8 +61,8 @@ pub(crate) fn folder_and_name(path: &str) -> (&str, &str) {
     }
 }
 
-// Whether no folder of a path is passed over.
-fn is_read(folder: &str) -> bool {
+/// Whether no folder of a path is passed over.
+pub(crate) fn is_read(folder: &str) -> bool {
     if folder.is_empty() {
         return true;
     }

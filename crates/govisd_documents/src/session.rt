@@ -44,6 +44,8 @@ pub struct Session {
     pub kept: Vec<bool>,
     /// Whether the packages were changed since then.
     pub is_stale: bool,
+    /// Whether the editor opened or closed a file since something was told last.
+    pub is_untold: bool,
     /// The files that the editor has open, by their paths.
     pub documents: BTreeMap<String, Document>,
     /// What was told of files, by their paths below the folder of the workspace.
@@ -81,20 +83,24 @@ impl Session {
             snapshot,
             kept: Vec::new(alloc),
             is_stale: false,
+            is_untold: false,
             documents: BTreeMap::new(alloc),
             told: BTreeMap::new(alloc),
             told_faults: Vec::new(alloc),
         })
     }
 
-    /// Makes the snapshot of the packages, where it is of earlier ones. Answers whether it was.
+    /// Makes the snapshot of the packages, where it is of earlier ones. Answers whether something may be to be told: it was, or the editor opened or closed a
+    /// file.
     ///
     /// # Errors
     ///
     /// `AllocError` where memory is wanting.
     pub fn settle(&mut self) -> Result<bool, AllocError> {
+        let is_untold = self.is_untold;
+        self.is_untold = false;
         if !self.is_stale {
-            return Ok(false);
+            return Ok(is_untold);
         }
         let Recompiled { snapshot, kept } = recompile(self.alloc, &self.workspace, &self.snapshot)?;
         self.kept = if have_same_paths(self.snapshot.sources(), snapshot.sources()) {
@@ -110,6 +116,7 @@ impl Session {
     /// Of each file it is to be asked anew whether the same is told as before: the editor opened or closed one, or the modules are others.
     pub(crate) fn forget_told(&mut self) {
         self.told_faults = Vec::new(self.alloc);
+        self.is_untold = true;
     }
 
     /// The path below the folder of the workspace of the file that a name names, if it lies there.
