@@ -1,0 +1,9 @@
+mod Outcomes
+mod Lower
+mod Tables
+mod Named
+mod Standing
+mod Exact
+mod Written
+mod Binding
+mod Variables
