@@ -1,16 +1,16 @@
 //! Lines of the source below a message.
 
 use crate::painting::{RED, paint, unpaint};
-use crate::spots::{Spot, word_at};
+use crate::spots::Mark;
 use go_folder_core::push_shown;
 use govisd_disk::{push, push_number};
 use std::alloc::{AllocError, Global};
 use unicode_width::UnicodeWidthChar;
 
-/// How many bytes of a line are shown before the place of a fault at most.
+/// How many bytes of a line are shown before what is marked at most.
 const BEFORE: usize = 100;
 
-/// How many bytes of a line are shown from the place of a fault on at most.
+/// How many bytes of a line are shown from the start of what is marked on at most.
 const AFTER: usize = 60;
 
 /// How many columns a tab takes.
@@ -137,7 +137,7 @@ fn push_marks(
     unpaint(marks, has_color)
 }
 
-/// The line of the source in which a fault lies, or what stands there around the fault, and below it carets below what stands at its place.
+/// The line of a text in which what is marked begins, or what stands there around it, and below it carets below what is marked, as far as the line goes.
 ///
 /// # Errors
 ///
@@ -145,18 +145,19 @@ fn push_marks(
 pub(crate) fn excerpt_of(
     alloc: Global,
     has_color: bool,
-    spot: &Spot<'_>,
+    text: &str,
+    mark: Mark<'_>,
 ) -> Result<Excerpt, AllocError> {
-    let start = spot.offset.saturating_sub(spot.at.column.saturating_sub(1));
-    let from = start.max(spot.offset.saturating_sub(BEFORE));
-    let front = part(spot.text, from, spot.offset);
-    let after = spot.offset.saturating_add(AFTER);
-    let rest = first_line(part(spot.text, spot.offset, after));
-    let word = first_line(word_at(spot.text, spot.offset));
+    let start = mark.offset.saturating_sub(mark.at.column.saturating_sub(1));
+    let from = start.max(mark.offset.saturating_sub(BEFORE));
+    let front = part(text, from, mark.offset);
+    let after = mark.offset.saturating_add(AFTER);
+    let rest = first_line(part(text, mark.offset, after));
+    let word = first_line(mark.text);
     let marked = if word.len() > rest.len() { rest } else { word };
     let mut line = String::new(alloc);
-    push_line(alloc, &mut line, spot.at.line, front, rest)?;
+    push_line(alloc, &mut line, mark.at.line, front, rest)?;
     let mut marks = String::new(alloc);
-    push_marks(&mut marks, spot.at.line, has_color, front, marked)?;
+    push_marks(&mut marks, mark.at.line, has_color, front, marked)?;
     Ok(Excerpt { line, marks })
 }

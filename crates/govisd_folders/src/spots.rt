@@ -2,6 +2,7 @@
 
 use crate::lines::push_place;
 use go_diagnostic_core::snap_core::PlacedFault;
+use go_diagnostic_core::{Marked, Message};
 use go_folder_core::{Position, below, position_of};
 use go_graph_core::Workspace;
 use go_path_core::text_core::Rule;
@@ -118,5 +119,48 @@ pub(crate) fn word_at(text: &str, offset: usize) -> &str {
     match rest.get(..token_len(rest.as_bytes())) {
         Some(word) => word,
         None => "",
+    }
+}
+
+/// The part of a text that is amiss.
+#[derive(Clone, Copy)]
+pub(crate) struct Mark<'a> {
+    /// Where it begins.
+    pub(crate) at: Position,
+    /// The same, in bytes from the start of the text.
+    pub(crate) offset: usize,
+    /// What stands there.
+    pub(crate) text: &'a str,
+}
+
+// What stands at the place of a fault.
+fn token_mark<'a>(spot: &Spot<'a>) -> Mark<'a> {
+    Mark {
+        at: spot.at,
+        offset: spot.offset,
+        text: word_at(spot.text, spot.offset),
+    }
+}
+
+// A part of the text of a fault, where there is one between its offsets.
+fn part_mark<'a>(spot: &Spot<'a>, marked: Marked) -> Mark<'a> {
+    match spot.text.get(marked.start..marked.end) {
+        Some(text) => Mark {
+            at: position_of(spot.text, marked.start),
+            offset: marked.start,
+            text,
+        },
+        None => token_mark(spot),
+    }
+}
+
+/// What is amiss, by what is said of a fault; where that does not say, what stands at the place of the fault.
+pub(crate) fn mark_of<'a>(spot: &Spot<'a>, message: Option<&Message>) -> Mark<'a> {
+    match message {
+        Some(message) => match message.marked {
+            Some(marked) => part_mark(spot, marked),
+            None => token_mark(spot),
+        },
+        None => token_mark(spot),
     }
 }

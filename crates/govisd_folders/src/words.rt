@@ -4,7 +4,7 @@ use crate::excerpts::{Excerpt, excerpt_of};
 use crate::looks::Look;
 use crate::painting::{BLUE, GREEN, paint, unpaint};
 use crate::selecting::{Told, follows};
-use crate::spots::{Spot, file_shown, word_at};
+use crate::spots::{Mark, Spot, file_shown, mark_of, word_at};
 use go_diagnostic_core::snap_core::PlacedFault;
 use go_diagnostic_core::{LineKind, Message};
 use go_explain_core::meaning;
@@ -108,14 +108,16 @@ fn below_text(
     Ok(line)
 }
 
-// Adds the line of the source in which a fault lies, and marks below it.
+// Adds the line of the source in which what is amiss begins, and marks below it.
 fn add_excerpt(
     alloc: Global,
     has_color: bool,
     spot: &Spot<'_>,
+    message: &Message,
     below: &mut Vec<String>,
 ) -> Result<(), AllocError> {
-    let Excerpt { line, marks } = excerpt_of(alloc, has_color, spot)?;
+    let mark = mark_of(spot, Some(message));
+    let Excerpt { line, marks } = excerpt_of(alloc, has_color, spot.text, mark)?;
     add(below, line)?;
     add(below, marks)
 }
@@ -129,7 +131,7 @@ fn add_below(
     below: &mut Vec<String>,
 ) -> Result<(), AllocError> {
     if look.source {
-        add_excerpt(alloc, look.color, spot, below)?;
+        add_excerpt(alloc, look.color, spot, message, below)?;
     }
     for said in &message.lines {
         let line = below_text(alloc, look.color, said.kind, said.text.as_str())?;
@@ -249,12 +251,13 @@ fn push_types(out: &mut String, message: Option<&Message>) -> Result<(), AllocEr
     push(out, "}")
 }
 
-// Adds where what a fault is of lies.
-fn push_at(alloc: Global, out: &mut String, spot: &Spot<'_>, end: usize) -> Result<(), AllocError> {
-    push_count(alloc, out, ",\"at\":{\"column\":", spot.at.column)?;
+// Adds where what is amiss lies.
+fn push_at(alloc: Global, out: &mut String, mark: Mark<'_>) -> Result<(), AllocError> {
+    let end = mark.offset.saturating_add(mark.text.len());
+    push_count(alloc, out, ",\"at\":{\"column\":", mark.at.column)?;
     push_count(alloc, out, ",\"end\":", end)?;
-    push_count(alloc, out, ",\"line\":", spot.at.line)?;
-    push_count(alloc, out, ",\"offset\":", spot.offset)?;
+    push_count(alloc, out, ",\"line\":", mark.at.line)?;
+    push_count(alloc, out, ",\"offset\":", mark.offset)?;
     push(out, "}")
 }
 
@@ -296,7 +299,7 @@ fn push_object_words(
 ) -> Result<(), AllocError> {
     let name = word_at(spot.text, spot.offset);
     let end = spot.offset.saturating_add(name.len());
-    push_at(alloc, out, spot, end)?;
+    push_at(alloc, out, mark_of(spot, message))?;
     let root = if follows(told) { told.root } else { None };
     push_root(alloc, out, scope, workspace, root)?;
     push_count(alloc, out, ",\"end\":", end)?;

@@ -1,0 +1,3 @@
+module ex.com/marked
+
+go 1.22
