@@ -20,13 +20,21 @@ WORDS = ["x", "Make", "p0", "Width", "int", "string", "return ", "(", ")", "{", 
 NAMES = ["Width", "Height", "Make", "Area", "int", "s", "x", "w", "b", "Box1", "p1", "F1"]
 
 
-def told_by(client, root):
-    """What the server told of each file."""
+def place_told(fault, wanted):
+    """The place that is told of a fault: the start of its range, or one that is wanted of its rule in these lines, where none is wanted there."""
+    start, end = ((it["line"], it["character"]) for it in (fault["range"]["start"], fault["range"]["end"]))
+    at_start = *start, fault["code"]
+    beside = [it for it in sorted(wanted) if it[2] == fault["code"] and start[0] <= it[0] <= end[0]]
+    return at_start if at_start in wanted or not beside else beside[0]
+
+
+def told_by(client, root, wanted):
+    """What the server told of each file, where these places are wanted: the range of a fault is that of what is amiss, an operand or an expression around its place."""
     client.ask("workspace/symbol", {"query": "no such name"})
     found = {}
     for uri, params in client.diagnostics.items():
         path = uri.removeprefix(uri_of(root) + "/")
-        places = {(it["range"]["start"]["line"], it["range"]["start"]["character"], it["code"]) for it in params["diagnostics"] if "code" in it}
+        places = {place_told(it, wanted.get(path, ())) for it in params["diagnostics"] if "code" in it}
         if places:
             found[path] = places
     return found
@@ -74,7 +82,7 @@ def main():
             with open(f"{copy}/{name}", "w", encoding="utf-8") as file:
                 file.write(texts[name])
             wanted, faults = checked(check, copy)
-            told = told_by(client, root)
+            told = told_by(client, root, wanted)
             if parses(faults):
                 compared += 1
                 same = told == wanted

@@ -3,12 +3,13 @@
 use crate::documents::Document;
 use crate::modules::{Module, folder_of, module_of_package, package_in};
 use crate::paths::{folder_and_name, path_below, path_of_uri, uri_of_path};
+use go_edit_core::recompile_edit;
 use go_folder_core::below;
 use go_graph_core::{PackageSource, SourceFile, Workspace};
 use go_lsp_core::positions::Encoding;
 use go_path_core::ImportPath;
 use go_path_core::text_core::Rule;
-use go_snap_core::{PlacedFault, Recompiled, Snapshot, compile, recompile};
+use go_snap_core::{PlacedFault, Recompiled, Snapshot, compile};
 use std::alloc::{AllocError, Global};
 use std::collections::BTreeMap;
 
@@ -102,7 +103,11 @@ impl Session {
         if !self.is_stale {
             return Ok(is_untold);
         }
-        let Recompiled { snapshot, kept } = recompile(self.alloc, &self.workspace, &self.snapshot)?;
+        let Recompiled { snapshot, kept } = recompile_edit(
+            self.alloc,
+            &self.workspace,
+            &self.snapshot,
+        )?;
         self.kept = if have_same_paths(self.snapshot.sources(), snapshot.sources()) {
             kept
         } else {

@@ -3,7 +3,8 @@
 use crate::edits::with_file;
 use crate::ranges::AskedPlace;
 use crate::session::{FileName, Session};
-use go_snap_core::{Recompiled, Snapshot, recompile};
+use go_edit_core::recompile_edit;
+use go_snap_core::{Recompiled, Snapshot};
 use std::alloc::AllocError;
 
 /// The snapshot of the packages with a text in the place of that of a file.
@@ -13,7 +14,11 @@ use std::alloc::AllocError;
 /// `AllocError` where memory is wanting.
 pub fn tried(session: &Session, file: &FileName, text: String) -> Result<Snapshot, AllocError> {
     let workspace = with_file(session, file, text)?;
-    let Recompiled { snapshot, kept: _ } = recompile(session.alloc, &workspace, &session.snapshot)?;
+    let Recompiled { snapshot, kept: _ } = recompile_edit(
+        session.alloc,
+        &workspace,
+        &session.snapshot,
+    )?;
     Ok(snapshot)
 }
 

@@ -15,12 +15,12 @@ const NAMES: usize = 16;
 // What stands behind the name at an offset of a text, without the blanks before it.
 fn behind_name(text: &str, offset: usize) -> &str {
     let end = name_end(text.as_bytes(), offset);
-    text_between(text, end, text.len()).trim_ascii()
+    text_between(text, end, text.len()).trim_ascii_start()
 }
 
 // What stands before an offset of a text, without the blanks behind it.
 fn before(text: &str, offset: usize) -> &str {
-    text_between(text, 0, offset).trim_ascii()
+    text_between(text, 0, offset).trim_ascii_end()
 }
 
 // Whether the names of a short declaration go on here up to its `:=`.
@@ -31,7 +31,7 @@ fn is_short(behind: &str) -> bool {
             return true;
         }
         match rest.strip_prefix(',') {
-            Some(more) => rest = behind_name(more.trim_ascii(), 0),
+            Some(more) => rest = behind_name(more.trim_ascii_start(), 0),
             None => return false,
         }
     }

@@ -1,0 +1,4 @@
+mod Counting
+mod Differing
+mod EditedParts
+mod KeptParts
