@@ -1,4 +1,5 @@
 pub mod Beginning
+pub mod Importing
 pub mod Leaving
 pub mod Once
 pub mod Ordered
@@ -7,6 +8,7 @@ pub mod Reaching
 pub mod Samely
 pub mod Slots
 pub mod Staying
+pub mod Standing
 pub mod Steadied
 pub mod Steps
 pub mod Telling

@@ -18,18 +18,21 @@ use Rattle.go_summary_core.specs.Summaries.{SummaryModel}
 use Rattle.go_package_core.specs.package_part.Inputs.{InputModel}
 use Rattle.go_package_core.specs.package_part.Parts.{PartModel}
 use Rattle.go_snap_core.specs.whole_workspace.Inputs.{ComesTo, IsInputAt, IsPassingImport, ReachesPackage, Shown, Tells}
+use Rattle.go_batch_core.specs.Batches.{HasImports, batch_with}
 use Rattle.go_batch_core.specs.Steadiness.{IsSameAt}
+use Rattle.go_batch_core.specs.declared.slot.Slot.{Slot}
 
--- the package of a number, where it is the same and each that it reaches tells what it told
-module _ (qs ps : List PackageModel) (old parts : List (Option PartModel)) (n : ℕ) (stays : IsSameAt qs ps n) (told : (m : ℕ) (s : SummaryModel) → ReachesPackage qs n m → Tells old m s → Tells parts m s) where
-  by_import : (at : ImportAt) (m : ℕ) → at.«package» ≡ n → IsOutcome qs at (Package m) → ReachesPackage qs n m
-  by_import at m here is =
-      let e : Edge = record { from = n; to = m } in
-      let passing : IsPassingImport qs e = (at, here, is) in
-      (e ∷ [], All-cons (IsPassingImport qs) e [] passing (All-nil (IsPassingImport qs)), (e, [], ((0, omega arith, refl), refl, refl)))
+-- a package reaches those that its imports come to
+pub by_import : (qs : List PackageModel) (n : ℕ) (at : ImportAt) (m : ℕ) → at.«package» ≡ n → IsOutcome qs at (Package m) → ReachesPackage qs n m
+by_import qs n at m here is =
+    let e : Edge = record { from = n; to = m } in
+    let passing : IsPassingImport qs e = (at, here, is) in
+    (e ∷ [], All-cons (IsPassingImport qs) e [] passing (All-nil (IsPassingImport qs)), (e, [], ((0, omega arith, refl), refl, refl)))
 
+-- the package of a number, where it is the same and each that its imports come to tells what it told
+module _ (qs ps : List PackageModel) (old parts : List (Option PartModel)) (n : ℕ) (stays : IsSameAt qs ps n) (told : (at : ImportAt) (m : ℕ) (s : SummaryModel) → at.«package» ≡ n → IsOutcome qs at (Package m) → Tells old m s → Tells parts m s) where
   given_stays : (at : ImportAt) (o : ImportOutcome) (i : Imported) → at.«package» ≡ n → IsOutcome qs at o → IsGiven (Shown old) o i → IsGiven (Shown parts) o i
-  given_stays at (Package m) (given.«Package» e) here is h = record { summary = h.summary; told = told m h.summary (by_import at m here is) h.told; is = h.is }
+  given_stays at (Package m) (given.«Package» e) here is h = record { summary = h.summary; told = told at m h.summary here is h.told; is = h.is }
   given_stays at (Package m) (given.Refused rule) here is h = h
   given_stays at (Refused rule) (given.«Package» e) here is h = h
   given_stays at (Refused rule) (given.Refused other) here is h = h
@@ -49,6 +52,12 @@ module _ (qs ps : List PackageModel) (old parts : List (Option PartModel)) (n : 
   imports_stay file (t ∷ ts) [] h = h
   imports_stay file (t ∷ ts) (is ∷ fs) h = (file_stays file 0 (file_specs t.1) is h.0, imports_stay (suc file) ts fs h.1)
 
+  -- so an input of then has the files of the package, and what its imports come to
+  pub has_imports : (slots : List Slot) (i : InputModel) → IsInputAt qs old n i → HasImports (batch_with ps slots parts) n i
+  has_imports slots i h = record { numbered = sym stays.source ∙ h.numbered; imports = imports_stay 0 (trees_of i.source.1) i.imports h.input.imports }
+
+-- the package of a number, where it is the same and each that it reaches tells what it told
+module _ (qs ps : List PackageModel) (old parts : List (Option PartModel)) (n : ℕ) (stays : IsSameAt qs ps n) (told : (m : ℕ) (s : SummaryModel) → ReachesPackage qs n m → Tells old m s → Tells parts m s) where
   told_stays : (numbers : List ℕ) (ss : List SummaryModel) → ((m : ℕ) → Contains numbers m → ReachesPackage qs n m) → AllZip (Tells old) numbers ss → AllZip (Tells parts) numbers ss
   told_stays [] [] all h = h
   told_stays [] (s ∷ ss) all h = h
@@ -60,7 +69,7 @@ module _ (qs ps : List PackageModel) (old parts : List (Option PartModel)) (n : 
     numbered = sym stays.source ∙ h.numbered;
     input = record {
       source = h.input.source;
-      imports = imports_stay 0 (trees_of i.source.1) i.imports h.input.imports;
+      imports = (has_imports qs ps old parts n stays (λ at m s here is. told m s (by_import qs n at m here is)) [] i h).imports;
       reached = record {
         numbers = h.input.reached.numbers;
         rising = h.input.reached.rising;

@@ -11,7 +11,10 @@ use Rattle.go_snap_core.specs.Snapshots.{SnapshotModel}
 use Rattle.go_summary_core.specs.Summaries.{SummaryModel}
 use Rattle.go_snap_core.specs.whole_workspace.Inputs.{AreParts, HasReached, IsInputAt, IsInputOf, IsPartOf, ReachesPackage, Tells}
 use Rattle.go_batch_core.specs.Batches.{Awaits, BatchModel, IsBegun, batch_with, with_part}
-use Rattle.go_batch_core.specs.Steadiness.{AreAgain, AreSameAt, BeginsSteady, IsSteady, StaysAt, SteadyModel, WasAt, steady_with}
+use Rattle.go_batch_core.specs.Steadiness.{AreAgain, AreSameAt, BeginsSteady, IsRetold, IsRetoldOf, IsSteady, IsStoodFor, StaysAt, SteadyModel, WasAt, is_moved, is_retyped, steady_with}
+use Rattle.go_batch_core.specs.declared.retold.Retold.{Retold}
+use Rattle.go_batch_core.specs.declared.retold.Retold.TheVariants as retolds
+use Rattle.go_locality_laws.specs.Beside.{TellsTypes}
 use Rattle.go_batch_core.specs.declared.slot.Slot.TheVariants.{Untaken, Taken, Finished}
 use Rattle.go_block_core.specs.graph_core.Lists.{AllNumbered}
 use Rattle.go_batch_core.proofs.Slots.{at_replicate, at_set_other, at_set_same, length_set}
@@ -46,7 +49,10 @@ steady_begun s ps b m begins begun = record {
   same = subst (λ (qs : List PackageModel). AreSameAt s.sources qs m.same) (sym begun.sources) begins.same;
   many = ap length begins.moved ∙ length-replicate {A = Bool} (length m.same) false ∙ begins.many ∙ sym begun.many;
   moved = λ n p at unmarked. absurd (let none : Some p ≡ None = begun.parts n (Some p) at in cc);
+  many_types = ap length begins.retyped ∙ length-replicate {A = Bool} (length m.same) false ∙ begins.many ∙ sym begun.many;
+  retyped = λ n p at unmarked. absurd (let none : Some p ≡ None = begun.parts n (Some p) at in cc);
   kept = λ n k i at marked. absurd (none_marked m.kept (length m.same) n begins.kept marked);
+  stood = λ n k i at marked. absurd (none_marked m.stood (length m.same) n begins.stood marked);
   again = λ n marked. absurd (none_marked m.kept (length m.same) n begins.kept marked);
   finished = λ n p at. absurd (let none : Some p ≡ None = begun.parts n (Some p) at in cc);
 }
@@ -56,10 +62,10 @@ none_untaken : (s : SnapshotModel) (b : BatchModel) (m : SteadyModel) (place : �
 none_untaken s b m place p is untaken at = (let both : Some Finished ≡ Some Untaken = sym (is.finished place p at) ∙ untaken in cc)
 
 -- an action is handed out
-pub steady_handed : (s : SnapshotModel) (b : BatchModel) (m : SteadyModel) (place number : ℕ) (i : InputModel) (kept : Bool) → IsSteady s b m → slice_get b.slots place ≡ Some Untaken → slice_get b.sources place ≡ Some i.source
-    → (kept ≡ true → (p : PartModel) × WasAt s.parts place p × (p.input ≡ i))
-    → IsSteady s (batch_with b.sources (set b.slots place (Taken number i)) b.parts) (steady_with m.same m.moved (set m.kept place kept))
-steady_handed s b m place number i kept is untaken numbered known = record {
+pub steady_handed : (s : SnapshotModel) (b : BatchModel) (m : SteadyModel) (place number : ℕ) (i : InputModel) (kept stood : Bool) → IsSteady s b m → slice_get b.slots place ≡ Some Untaken → slice_get b.sources place ≡ Some i.source
+    → (kept ≡ true → (p : PartModel) × WasAt s.parts place p × (p.input ≡ i)) → (stood ≡ true → IsStoodFor s place i)
+    → IsSteady s (batch_with b.sources (set b.slots place (Taken number i)) b.parts) (steady_with m.same m.moved m.retyped (set m.kept place kept) (set m.stood place stood))
+steady_handed s b m place number i kept stood is untaken numbered known stands = record {
   same = is.same;
   many = is.many ∙ sym (length_set b.slots place (Taken number i));
   moved = is.moved;
@@ -72,6 +78,18 @@ steady_handed s b m place number i kept is untaken numbered known = record {
       let p = known mark in
       (p.0, subst (λ (x : ℕ). WasAt s.parts x p.0) (sym same) p.1, p.2 ∙ input))
       (λ (ne : n ≢ place). is.kept n k j (sym (at_set_other b.slots place n (Taken number i) ne) ∙ at) (sym (at_set_other m.kept place n kept ne) ∙ marked))
+      (cases_eq n place);
+  many_types = is.many_types ∙ sym (length_set b.slots place (Taken number i));
+  retyped = is.retyped;
+  stood = λ n k j at marked. ⊎_elim
+      (λ (same : n ≡ place).
+      let here : slice_get (set b.slots place (Taken number i)) place ≡ Some (Taken k j) = subst (λ (x : ℕ). slice_get (set b.slots place (Taken number i)) x ≡ Some (Taken k j)) same at in
+      let slot : Taken number i ≡ Taken k j = set_there b.slots place (Taken number i) (Taken k j) here in
+      let input : i ≡ j = cc in
+      let mark : stood ≡ true = set_there m.stood place stood true (subst (λ (x : ℕ). slice_get (set m.stood place stood) x ≡ Some true) same marked) in
+      let p = stands mark in
+      subst (λ (x : ℕ). IsStoodFor s x j) (sym same) (subst (IsStoodFor s place) input p))
+      (λ (ne : n ≢ place). is.stood n k j (sym (at_set_other b.slots place n (Taken number i) ne) ∙ at) (sym (at_set_other m.stood place n stood ne) ∙ marked))
       (cases_eq n place);
   again = λ n marked. ⊎_elim
       (λ (same : n ≡ place).
@@ -111,25 +129,60 @@ again_finished s b m place number part is awaits n marked =
           (cases_eq n place);
     }
 
+-- what a part tells beside the one that was there
+pub retold_at : (r : Retold) (parts : List (Option PartModel)) (n : ℕ) (earlier p : PartModel) → WasAt parts n earlier → IsRetoldOf r earlier.content.summary p.content.summary → IsRetold r parts n p
+retold_at retolds.Same parts n earlier p was is = record { of_part = earlier; there = was; is = is }
+retold_at retolds.SameTypes parts n earlier p was is = (earlier.content.summary, record { of_part = earlier; there = was; is = refl }, is)
+retold_at retolds.OtherTypes parts n earlier p was is = tt
+
+-- what an unmarked part tells
+
+unmoved : (r : Retold) (parts : List (Option PartModel)) (n : ℕ) (p : PartModel) → IsRetold r parts n p → is_moved r ≡ false → Tells parts n p.content.summary
+unmoved retolds.Same parts n p tells e = tells
+unmoved retolds.SameTypes parts n p tells e = absurd (let no : true ≡ false = e in cc)
+unmoved retolds.OtherTypes parts n p tells e = absurd (let no : true ≡ false = e in cc)
+
+unretyped : (r : Retold) (parts : List (Option PartModel)) (n : ℕ) (p : PartModel) → IsRetold r parts n p → is_retyped r ≡ false → TellsTypes parts n p.content.summary
+unretyped retolds.Same parts n p tells e = (p.content.summary, tells, refl)
+unretyped retolds.SameTypes parts n p tells e = tells
+unretyped retolds.OtherTypes parts n p tells e = absurd (let no : true ≡ false = e in cc)
+
+-- what stays of marks where one is set, of the parts that are there
+set_marks : (Is : ℕ → PartModel → Type 0) (parts : List (Option PartModel)) (marks : List Bool) (place : ℕ) (part : PartModel) (mark : Bool) → place < length marks
+    → ((n : ℕ) (p : PartModel) → slice_get parts n ≡ Some (Some p) → (slice_get marks n ≡ Some true → ⊥) → Is n p) → (mark ≡ false → Is place part)
+    → (n : ℕ) (p : PartModel) → slice_get (set parts place (Some part)) n ≡ Some (Some p) → (slice_get (set marks place mark) n ≡ Some true → ⊥) → Is n p
+set_marks Is parts marks place part mark within each here n p at unmarked = ⊎_elim
+    (λ (same : n ≡ place).
+    let there : slice_get (set parts place (Some part)) place ≡ Some (Some p) = subst (λ (x : ℕ). slice_get (set parts place (Some part)) x ≡ Some (Some p)) same at in
+    let both : Some part ≡ Some p = set_there parts place (Some part) (Some p) there in
+    let is_part : part ≡ p = cc in
+    let no : mark ≡ true → ⊥ = λ said. unmarked (subst (λ (x : ℕ). slice_get (set marks place mark) x ≡ Some true) (sym same) (at_set_same marks place mark within ∙ ap Some said)) in
+    let off : mark ≡ false = elim mark as (λ x. (x ≡ true → ⊥) → x ≡ false) [ true ↦ λ n'. absurd (n' refl) | false ↦ λ n'. refl ] no in
+    subst (λ (x : ℕ). Is x p) (sym same) (subst (Is place) is_part (here off)))
+    (λ (ne : n ≢ place). each n p (sym (at_set_other parts place n (Some part) ne) ∙ at) (λ marked. unmarked (at_set_other marks place n mark ne ∙ marked)))
+    (cases_eq n place)
+
 -- an action is finished
-pub steady_finished : (s : SnapshotModel) (b : BatchModel) (m : SteadyModel) (place number : ℕ) (part : PartModel) (moved : Bool) → IsSteady s b m → Awaits b place number part → (moved ≡ false → Tells s.parts place part.content.summary)
-    → IsSteady s (with_part b place part) (steady_with m.same (set m.moved place moved) m.kept)
-steady_finished s b m place number part moved is awaits tells =
+pub steady_finished : (s : SnapshotModel) (b : BatchModel) (m : SteadyModel) (place number : ℕ) (part : PartModel) (retold : Retold) → IsSteady s b m → Awaits b place number part → IsRetold retold s.parts place part
+    → IsSteady s (with_part b place part) (steady_with m.same (set m.moved place (is_moved retold)) (set m.retyped place (is_retyped retold)) m.kept m.stood)
+steady_finished s b m place number part retold is awaits tells =
+    let moved = is_moved retold in
+    let retyped = is_retyped retold in
     let taken : place < length b.slots = slice_get_within b.slots place (Taken number part.input) awaits in
     let within : place < length m.moved = omega (arith, is.many, taken) in
+    let within_types : place < length m.retyped = omega (arith, is.many_types, taken) in
     record {
       same = is.same;
-      many = length_set m.moved place moved ∙ is.many ∙ sym (length_set b.slots place Finished);
-      moved = λ n p at unmarked. ⊎_elim
+      many_types = length_set m.retyped place retyped ∙ is.many_types ∙ sym (length_set b.slots place Finished);
+      retyped = set_marks (λ n p. TellsTypes s.parts n p.content.summary) b.parts m.retyped place part retyped within_types is.retyped (unretyped retold s.parts place part tells);
+      stood = λ n k i at marked. ⊎_elim
           (λ (same : n ≡ place).
-          let here : slice_get (set b.parts place (Some part)) place ≡ Some (Some p) = subst (λ (x : ℕ). slice_get (set b.parts place (Some part)) x ≡ Some (Some p)) same at in
-          let both : Some part ≡ Some p = set_there b.parts place (Some part) (Some p) here in
-          let is_part : part ≡ p = cc in
-          let no : moved ≡ true → ⊥ = λ said. unmarked (subst (λ (x : ℕ). slice_get (set m.moved place moved) x ≡ Some true) (sym same) (at_set_same m.moved place moved within ∙ ap Some said)) in
-          let mark : moved ≡ false = elim moved as (λ x. (x ≡ true → ⊥) → x ≡ false) [ true ↦ λ n'. absurd (n' refl) | false ↦ λ n'. refl ] no in
-          subst (λ (x : ℕ). Tells s.parts x p.content.summary) (sym same) (subst (λ (q : PartModel). Tells s.parts place q.content.summary) is_part (tells mark)))
-          (λ (ne : n ≢ place). is.moved n p (sym (at_set_other b.parts place n (Some part) ne) ∙ at) (λ marked. unmarked (at_set_other m.moved place n moved ne ∙ marked)))
+          let here : slice_get (set b.slots place Finished) place ≡ Some (Taken k i) = subst (λ (x : ℕ). slice_get (set b.slots place Finished) x ≡ Some (Taken k i)) same at in
+          absurd (let no : Finished ≡ Taken k i = set_there b.slots place Finished (Taken k i) here in cc))
+          (λ (ne : n ≢ place). is.stood n k i (sym (at_set_other b.slots place n Finished ne) ∙ at) marked)
           (cases_eq n place);
+      many = length_set m.moved place moved ∙ is.many ∙ sym (length_set b.slots place Finished);
+      moved = set_marks (λ n p. Tells s.parts n p.content.summary) b.parts m.moved place part moved within is.moved (unmoved retold s.parts place part tells);
       kept = λ n k i at marked. ⊎_elim
           (λ (same : n ≡ place).
           let here : slice_get (set b.slots place Finished) place ≡ Some (Taken k i) = subst (λ (x : ℕ). slice_get (set b.slots place Finished) x ≡ Some (Taken k i)) same at in
@@ -151,7 +204,7 @@ steady_awaits s b m place number i p is taken marked was =
     taken ∙ ap (λ (x : InputModel). Some (Taken number x)) (sym known.2 ∙ ap (λ (q : PartModel). q.input) same)
 
 -- what tells the same there and here
-tells_both : (old parts : List (Option PartModel)) (m : ℕ) (s t : SummaryModel) → Tells old m s → Tells old m t → Tells parts m t → Tells parts m s
+pub tells_both : (old parts : List (Option PartModel)) (m : ℕ) (s t : SummaryModel) → Tells old m s → Tells old m t → Tells parts m t → Tells parts m s
 tells_both old parts m s t a b c =
     let same : a.of_part ≡ b.of_part = one_part old m a.of_part b.of_part a.there b.there in
     let is : s ≡ t = a.is ∙ ap (λ (p : PartModel). p.content.summary) same ∙ sym b.is in
@@ -172,7 +225,7 @@ steady_input s b m place p is has same none input =
     p.input input
 
 -- a part of a snapshot is made of the input of its package
-part_in : (ps : List PackageModel) (parts : List (Option PartModel)) (n : ℕ) (p : PartModel) → AreParts ps parts → WasAt parts n p → IsInputAt ps parts n p.input
+pub part_in : (ps : List PackageModel) (parts : List (Option PartModel)) (n : ℕ) (p : PartModel) → AreParts ps parts → WasAt parts n p → IsInputAt ps parts n p.input
 part_in ps parts n p all was =
     let source = numbered_back (λ k q part. IsPartOf ps parts k q part) 0 ps parts n (Some p) all was in
     let of_part : IsPartOf ps parts n source.0 (Some p) = subst (λ (k : ℕ). IsPartOf ps parts k source.0 (Some p)) (let e : 0 + n ≡ n = omega arith in e) source.2 in

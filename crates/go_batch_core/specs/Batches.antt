@@ -2,10 +2,12 @@
 use Rattle.std.specs.Prelude.{◌≡◌, ℕ, ◌+◌, Bool, true, false, if◌then◌else◌, List, [], ◌∷◌, Option, Some, None, length, slice_get, slice_set}
 use Rattle.go_digraph_core.specs.declared.cycle.edge.Edge.{Edge}
 use Rattle.go_block_core.specs.graph_core.Workspaces.{PackageModel}
+use Rattle.go_block_core.specs.graph_core.Packages.{trees_of}
 use Rattle.go_block_core.specs.graph_core.Plans.{IsAssembledAt}
-use Rattle.go_package_core.specs.package_part.Inputs.{InputModel}
-use Rattle.go_package_core.specs.package_part.Parts.{PartModel}
-use Rattle.go_snap_core.specs.whole_workspace.Inputs.{IsInputAt, IsPassingImport}
+use Rattle.go_block_core.specs.Naming.{AreInPackage}
+use Rattle.go_package_core.specs.package_part.Inputs.{InputModel, IsInput}
+use Rattle.go_package_core.specs.package_part.Parts.{ContentOf, IsPart, PartModel}
+use Rattle.go_snap_core.specs.whole_workspace.Inputs.{ComesTo, IsInputAt, IsPassingImport}
 use Rattle.go_batch_core.specs.declared.batch.Ending.{Ending}
 use Rattle.go_batch_core.specs.declared.batch.Next.{Next}
 use Rattle.go_batch_core.specs.declared.slot.Slot.{Slot}
@@ -58,6 +60,15 @@ pub record IsNext (b : BatchModel) (x : Next) : Type 0 where
   pub ready : IsReady b x.place
   pub input : IsInputAt b.sources b.parts x.place x.input
   pub awaited : x.awaited ≡ x.input
+
+-- an input has the files of the package of a number, and what its imports come to in the batch
+pub record HasImports (b : BatchModel) (n : ℕ) (i : InputModel) : Type 0 where
+  pub numbered : slice_get b.sources n ≡ Some i.source
+  pub imports : AreInPackage (ComesTo b.sources b.parts) n (trees_of i.source.1) i.imports
+
+-- each input that the package of a number has in the batch gives this content
+pub record StandsOnInputs (b : BatchModel) (n : ℕ) (c : ContentOf) : Type 0 where
+  pub each : (i : InputModel) → IsInput i → IsInputAt b.sources b.parts n i → IsPart i c
 
 -- a ready action is handed out under a number, with its input
 pub record HandsOut (b : BatchModel) (number : ℕ) (input : InputModel) (after : BatchModel) : Type 0 where

@@ -1,13 +1,18 @@
 //! The running batch.
 ghost use Rattle.std.specs.Prelude.{◌≡◌, ◌+◌, ◌↔◌, ℕ, Contains, IfOk, IsTrue, MatchOption, Some, false, length, map, slice_get, slice_set, true};
 ghost use Rattle.go_block_core.specs.graph_core.Plans.{AreImporters, IsOrderly};
-ghost use Rattle.go_block_core.specs.graph_core.Workspaces.{AreAllRead};
+ghost use Rattle.go_block_core.specs.graph_core.Imports.{IsOutcome};
+ghost use Rattle.go_block_core.specs.graph_core.Workspaces.{AreAllRead, IsWorkspace};
+ghost use Rattle.go_block_core.specs.graph_core.declared.imports.ImportAt.{ImportAt};
+ghost use Rattle.go_block_core.specs.graph_core.declared.imports.ImportOutcome.TheVariants.{Package};
+ghost use Rattle.go_snap_core.specs.whole_workspace.mirrors.Steps.{AreRight};
 ghost use Rattle.go_snap_core.specs.make.Telling.{told_of};
 ghost use Rattle.go_package_core.specs.package_part.Inputs.{InputModel};
+ghost use Rattle.go_package_core.specs.package_part.Parts.{IsPart};
 ghost use Rattle.go_snap_core.specs.whole_workspace.Inputs.{AreParts, HasReached, IsInputAt, ReachesPackage};
 ghost use Rattle.go_snap_core.specs.Snapshots.{IsSnapshot};
 ghost use Rattle.go_batch_core.specs.declared.slot.Slot.TheVariants.{Taken};
-ghost use Rattle.go_batch_core.specs.Batches.{Awaits, IsBegun, IsBusy, IsEnding, IsForeign, IsKnown, IsNext, IsReady, NoneReady, actions_left, batch_with, with_part};
+ghost use Rattle.go_batch_core.specs.Batches.{Awaits, HasImports, IsBegun, IsBusy, IsEnding, IsForeign, IsKnown, IsNext, IsReady, NoneReady, StandsOnInputs, actions_left, batch_with, with_part};
 ghost use Rattle.go_batch_core.specs.Telling.{IsToldOnce};
 ghost use Rattle.go_batch_core.specs.Planning.{IsPlanned};
 ghost use Rattle.go_batch_core.specs.mirrors.Keeping.{AreFreshSlots, IsReadSlot, mark_of};
@@ -16,6 +21,7 @@ use crate::begin::{left_of, marks_of, slots_of};
 use crate::marks::is_marked;
 use crate::planned::{Planned, SharedReached};
 use crate::read::{ReadInput, ReadPart};
+use crate::rows::{files_at, rows_marked};
 use crate::seen::inputs_are_local;
 use crate::slot::Slot;
 use crate::tell::{Tell, push_tell, tell_all, told_with};
@@ -23,7 +29,7 @@ use go_block_core::graph_core::Workspace;
 use go_digraph_core::ready_queue::Turns;
 use go_import_core::head::ListedPlan;
 use go_package_core::package_part::{Part, PartInput, Parts, one_part};
-use go_snap_core::make::{Told, input_of, package_of};
+use go_snap_core::make::{Told, input_of, input_over, package_of};
 use go_snap_core::whole_workspace::{inputs_stay, parts_come_in_order};
 use go_snap_core::{Snapshot, join_parts};
 use std::alloc::{AllocError, Global};
@@ -238,6 +244,52 @@ impl Batch {
         self.input_by(alloc, place, &told)
     }
 
+    // The same by what all packages tell that are finished, where an earlier input has the files of the package, and what its imports come to.
+    fn input_over_by(
+        &self,
+        alloc: Global,
+        place: usize,
+        told: &Told,
+        earlier: &PartInput,
+    ) -> Result<PartInput, AllocError>
+        requires ready { IsReady self.now place }
+        requires told { told.now ≡ told_of self.now.parts }
+        requires imports { HasImports self.now place earlier.now }
+        ensures { IfOk result (λ i. IsInputAt self.now.sources self.now.parts place i) }
+    {
+        parts_come_in_order();
+        let parts = self.parts.as_slice();
+        let input = input_over(
+            alloc,
+            &self.sources,
+            self.plan.as_plan(),
+            self.reached.get(),
+            place,
+            parts,
+            told,
+            earlier,
+        )?;
+        Ok(input)
+    }
+
+    // The same.
+    fn input_over_at(
+        &self,
+        alloc: Global,
+        place: usize,
+        earlier: &PartInput,
+    ) -> Result<PartInput, AllocError>
+        requires ready { IsReady self.now place }
+        requires imports { HasImports self.now place earlier.now }
+        ensures { IfOk result (λ i. IsInputAt self.now.sources self.now.parts place i) }
+    {
+        if self.untold.is_empty() {
+            return self.input_over_by(alloc, place, &self.told, earlier);
+        }
+        let told = told_with(alloc, &self.told, &self.untold)?;
+        self.input_over_by(alloc, place, &told, earlier)
+    }
+
     // What the package of an action reaches that is ready has its parts.
     pub(crate) fn has_reached(&self, place: usize)
         requires { IsReady self.now place }
@@ -245,6 +297,14 @@ impl Batch {
     {
         let _ = place;
         parts_come_in_order();
+        let _parts = self.parts.as_slice();
+    }
+
+    // The packages are those of a workspace, and each part that is there is made of its input.
+    pub(crate) fn has_right_parts(&self)
+        ensures well { IsWorkspace self.now.sources }
+        ensures right { AreRight self.now.sources self.now.parts }
+    {
         let _parts = self.parts.as_slice();
     }
 
@@ -301,6 +361,53 @@ impl Batch {
         })
     }
 
+    // An action that is ready, with the input that its package has, and its part, which is known.
+    fn next_known(&self, place: usize, part: Part) -> Result<Next, AllocError>
+        requires ready { IsReady self.now place }
+        requires input { IsInputAt self.now.sources self.now.parts place part.input }
+        ensures place { IfOk result (λ x. x.place ≡ place) }
+        ensures input { IfOk result (λ x. x.input ≡ part.input) }
+        ensures next { IfOk result (IsNext self.now) }
+    {
+        // Its files are as they are read, and what it reaches is finished.
+        inputs_are_local();
+        let _packages = self.sources.packages();
+        let _count = self.parts.as_slice();
+        let awaited = part.input().share()?;
+        let input = ReadInput::known(part)?;
+        Ok(Next {
+            place,
+            input,
+            awaited,
+        })
+    }
+
+    /// An action that is ready, with an input that is made of what the packages tell that are finished, and its part, which is known: where its package has
+    /// the files of this part, its imports come to what they came to there, and its input gives what this part has. The content is shared.
+    ///
+    /// # Errors
+    ///
+    /// `AllocError` where memory is wanting.
+    pub fn next_standing(
+        &self,
+        alloc: Global,
+        place: usize,
+        part: &Part,
+    ) -> Result<Next, AllocError>
+        requires ready { IsReady self.now place }
+        requires imports { HasImports self.now place part.now.input }
+        requires stands { StandsOnInputs self.now place part.now.content }
+        ensures place { IfOk result (λ x. x.place ≡ place) }
+        ensures made { IfOk result (λ x. IsPart x.input part.now.content) }
+        ensures next { IfOk result (IsNext self.now) }
+    {
+        let input = self.input_over_at(alloc, place, part.input())?;
+        let _reached = input.reached();
+        let known = part.with_input(alloc, input)?;
+        let next = self.next_known(place, known)?;
+        Ok(next)
+    }
+
     /// Adds what is told by packages that were finished since the last call, in place, so that inputs are made sooner. Contracts see no change.
     ///
     /// # Errors
@@ -332,6 +439,14 @@ impl Batch {
         };
         let numbers = set.list(alloc)?;
         Ok(any_marked(&numbers, marks))
+    }
+
+    /// Whether an import of the package of a number comes to one that is marked. The time is linear in its imports.
+    pub fn imports_marked(&self, place: usize, marks: &[bool]) -> bool
+        ensures { result ≡ false → (at : ImportAt) (m : ℕ) → at.«package» ≡ place → IsOutcome self.now.sources at (Package m) → slice_get marks.now m ≡ Some true → ⊥ }
+    {
+        let files = files_at(self.sources.packages(), place);
+        rows_marked(self.plan.as_plan(), place, files, marks)
     }
 
     /// Whether the action of a package was taken under a number, and is not finished.

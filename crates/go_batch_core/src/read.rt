@@ -12,20 +12,22 @@ use std::marker::Model;
 use std::thread::Threads;
 
 /// The input of a package of a workspace: each of its files has the content that its text has, and over what any other packages tell beside those that it
-/// reaches, the package has what the input gives. Contracts see the input.
+/// reaches, the package has what the input gives. It has the package's part with it where that is known. Contracts see the input.
 pub struct ReadInput {
     input: PartInput,
+    part: Option<Part>,
 }
 
 impl Drop for ReadInput {
     fn drop(self) {
-        let ReadInput { input: _ } = self;
+        let ReadInput { input: _, part: _ } = self;
     }
 }
 
 impl Model for ReadInput {
     ghost use Rattle.go_block_core.specs.graph_core.Workspaces.{AreAllRead};
     ghost use Rattle.go_package_core.specs.package_part.Inputs.{InputModel, coded_input};
+    ghost use Rattle.std.specs.Prelude.{◌≡◌, IfSome};
     ghost use Rattle.go_batch_core.specs.seen.Local.{IsLocal};
 
     ghost Value = { InputModel };
@@ -34,7 +36,7 @@ impl Model for ReadInput {
 
     ghost view = { λ i. i.input };
 
-    ghost invariant = { λ i. AreAllRead i.input.source × IsLocal i.input };
+    ghost invariant = { λ i. AreAllRead i.input.source × IsLocal i.input × IfSome i.part (λ p. p.input ≡ i.input) };
 }
 
 impl ReadInput {
@@ -44,7 +46,31 @@ impl ReadInput {
         requires local { IsLocal input }
         ensures { result ≡ input }
     {
-        ReadInput { input }
+        ReadInput { input, part: None }
+    }
+
+    /// The input of a part, with the part.
+    ///
+    /// # Errors
+    ///
+    /// `AllocError` where the input has too many owners.
+    pub fn known(part: Part) -> Result<ReadInput, AllocError>
+        requires read { AreAllRead part.input.source }
+        requires local { IsLocal part.input }
+        ensures { IfOk result (λ i. i ≡ part.input) }
+    {
+        let input = part.input().share()?;
+        Ok(ReadInput {
+            input,
+            part: Some(part),
+        })
+    }
+
+    /// The part of the input, where it is known.
+    pub fn part(&self) -> Option<&Part>
+        ensures { IfSome result (λ p. p.now.input ≡ self.now) }
+    {
+        self.part.as_ref()
     }
 
     /// The input.
@@ -120,7 +146,20 @@ fn is_made_of(part: &ReadPart, input: &ReadInput) -> bool
     part.get().input().is_same(input.get())
 }
 
-/// An earlier part once more, where it was made of an input. The time is linear in the two inputs.
+// The part of an input once more, where it is known.
+fn known_of(input: &ReadInput) -> Result<Option<ReadPart>, AllocError>
+    ensures { IfOk result (λ o. IfSome o (λ p. p.input ≡ input.now)) }
+{
+    // Its files are as they are read.
+    let _input = input.get();
+    match input.part() {
+        Some(part) => Ok(Some(ReadPart::new(part.share()?))),
+        None => Ok(None),
+    }
+}
+
+/// The part of an input once more, where it is known, and else an earlier one, where that was made of the input. The time is none, or linear in the two
+/// inputs.
 ///
 /// # Errors
 ///
@@ -131,6 +170,9 @@ pub fn earlier_of(
 ) -> Result<Option<ReadPart>, AllocError>
     ensures { IfOk result (λ o. IfSome o (λ p. p.input ≡ input.now)) }
 {
+    if let Some(part) = known_of(input)? {
+        return Ok(Some(part));
+    }
     let Some(part) = earlier else {
         return Ok(None);
     };

@@ -2,16 +2,16 @@
 ghost use Rattle.std.specs.Prelude.{◌≡◌, IfOk};
 
 use crate::hall::Hall;
-use go_batch_core::ReadPart;
+use go_batch_core::{ReadPart, earlier_of};
 use go_hall_core::sched_core::{Action, Reply};
-use go_hall_core::{Errand, Named, Seen};
+use go_hall_core::{Counted, Errand, Named, Seen};
 use go_path_core::text_core::Rule;
 use std::alloc::{AllocError, Global};
 use std::sync::{CondvarTimeouts, Wait};
 use std::thread::Threads;
 use std::time::{Clock, Duration};
 
-/// Lets actions be done, with no lock held. It is not asked of an action that was finished by its earlier part.
+/// Lets actions be done, with no lock held. It is not asked of an action whose part was known as it was taken.
 pub trait Gate {
     /// Whether the work of an action may be done: not where the gate is closed.
     fn lets(&self, action: &Action) -> bool;
@@ -55,7 +55,22 @@ pub enum WorkEnd {
     GateClosed,
 }
 
-// Waits for the next action that has work to do: one that the core knows to have its earlier part is finished at once, where memory is at hand. `None` where
+// Ends an action by the part that its input has with it. None where it has none, and where memory is wanting: the action is then as it was taken.
+fn finish_standing<L: Named, R: Wait>(
+    rt: &R,
+    state: &mut Counted<L>,
+    errand: &Errand<L>,
+) -> Option<Reply> {
+    let Ok(Some(part)) = earlier_of(&errand.action.input, None) else {
+        return None;
+    };
+    match state.finish(rt, errand, part) {
+        Reply::Refused(_) => None,
+        reply => Some(reply),
+    }
+}
+
+// Waits for the next action that has work to do: one whose part is known as it is taken is finished at once, where memory is at hand. `None` where
 // the hall is stopped. Where memory is wanting it tries again a millisecond later, or where something changed; builds give up after some seconds of that.
 fn next<L: Named, R: Wait + Clock>(rt: &R, hall: &Hall<L>) -> Option<Errand<L>> {
     let mut state = hall.state.lock(rt);
@@ -68,7 +83,7 @@ fn next<L: Named, R: Wait + Clock>(rt: &R, hall: &Hall<L>) -> Option<Errand<L>> 
                 hall.note_taken();
                 let kept = match errand.action.kept {
                     Some(place) => state.finish_kept(rt, place, errand.action.number),
-                    None => None,
+                    None => finish_standing(rt, &mut state, &errand),
                 };
                 match kept {
                     None => {

@@ -15,7 +15,7 @@ use crate::event::{Action, Event, Held, Reply, SessionId};
 use crate::machine::Core;
 use crate::rules::MAX_EVENTS;
 use crate::running::Running;
-use go_batch_core::{Ending, Next, Planned, Steady};
+use go_batch_core::{Ending, Next, Planned, Retold, Steady};
 use go_path_core::Module;
 use go_submit_core::package_core::PartInput;
 use go_submit_core::{Batches, Submission, Ticket};
@@ -124,20 +124,20 @@ fn place_if(is: bool, place: usize) -> Option<usize>
 }
 
 // Marks a package whose action is handed out.
-fn mark_handed(steady: &mut Option<Steady>, place: usize, kept: bool)
-    ensures { steady.new ≡ handed steady.old place kept }
+fn mark_handed(steady: &mut Option<Steady>, place: usize, kept: bool, stood: bool)
+    ensures { steady.new ≡ handed steady.old place kept stood }
 {
     if let Some(steady) = steady {
-        steady.hand_out(place, kept);
+        steady.hand_out(place, kept, stood);
     }
 }
 
 // Marks a package whose action is finished.
-fn mark_finished(steady: &mut Option<Steady>, place: usize, moved: bool)
-    ensures { steady.new ≡ finished steady.old place moved }
+fn mark_finished(steady: &mut Option<Steady>, place: usize, retold: Retold)
+    ensures { steady.new ≡ finished steady.old place retold }
 {
     if let Some(steady) = steady {
-        steady.finish(place, moved);
+        steady.finish(place, retold);
     }
 }
 
@@ -228,6 +228,7 @@ impl Core {
             next,
             earlier,
             kept,
+            stood,
             other,
         } = hand;
         let Next {
@@ -237,7 +238,7 @@ impl Core {
         } = next;
         let number = self.actions + 1;
         let generation = hand_out(&mut self.running, place, number, awaited);
-        mark_handed(&mut self.steady, place, kept);
+        mark_handed(&mut self.steady, place, kept, stood);
         self.actions = number;
         self.accepted = counted(self.accepted);
         Reply::Act(Action {
@@ -260,6 +261,7 @@ impl Core {
             next,
             earlier,
             kept,
+            stood,
             other,
         } = hand;
         let Next {
@@ -271,7 +273,7 @@ impl Core {
         let mut running = running;
         hand_out_of(&mut running, place, number, awaited);
         let mut steady = steady;
-        mark_handed(&mut steady, place, kept);
+        mark_handed(&mut steady, place, kept, stood);
         let generation = running.generation;
         self.waiting = LinkedList::new(self.alloc);
         self.generations += 1;
@@ -289,11 +291,11 @@ impl Core {
         })
     }
 
-    fn commit_finish(&mut self, ending: Ending, moved: bool)
-        requires { (r : Running) × (self.old.running ≡ Some r) × IsEnding r.batch ending × IsMove self.old.published ending.place ending.part moved }
+    fn commit_finish(&mut self, ending: Ending, retold: Retold)
+        requires { (r : Running) × (self.old.running ≡ Some r) × IsEnding r.batch ending × IsMove self.old.published ending.place ending.part retold }
         ensures { (r : Running) × (self.old.running ≡ Some r) × (actions_left (with_part r.batch ending.place ending.part) + 1 ≡ actions_left r.batch) × (self.new ≡ counts (record self.old { running = Some (with_batch r (with_part r.batch ending.place ending.part)) })) }
     {
-        mark_finished(&mut self.steady, ending.place, moved);
+        mark_finished(&mut self.steady, ending.place, retold);
         finish(&mut self.running, ending);
         self.accepted = counted(self.accepted);
     }
@@ -319,8 +321,8 @@ impl Core {
             Change::HandOut(hand) => self.commit_hand_out(hand),
             Change::Begin(running, steady, hand) => self.commit_begin(running, steady, hand),
             Change::PublishNew(batches) => self.commit_publish_new(batches),
-            Change::Finish(ending, moved) => {
-                self.commit_finish(ending, moved);
+            Change::Finish(ending, retold) => {
+                self.commit_finish(ending, retold);
                 Reply::Finished
             }
             Change::PublishLast(batches) => self.commit_publish_last(batches),

@@ -17,7 +17,7 @@ use crate::event::{Event, Reply, SessionId};
 use crate::machine::Core;
 use crate::rules::is_running;
 use crate::running::{Formed, Running};
-use go_batch_core::{Batch, Over, Planned, ReadPart, Steady, plan_over};
+use go_batch_core::{Batch, Over, Planned, ReadPart, Retold, Steady, plan_over};
 use go_graph_core::Workspace;
 use go_path_core::text_core::Rule;
 use go_path_core::{ImportPath, Module};
@@ -176,6 +176,7 @@ impl Core {
             next,
             earlier: Some(earlier),
             kept: true,
+            stood: false,
             other: false,
         }))
     }
@@ -191,8 +192,37 @@ impl Core {
             next,
             earlier,
             kept: false,
+            stood: false,
             other,
         })
+    }
+
+    // A ready action of a batch, with an input that is made and the last published part of its package over it, where that part is known to stand over it.
+    fn standing_hand(
+        &self,
+        batch: &Batch,
+        steady: &Steady,
+        last: &PublishedBatch,
+        place: usize,
+    ) -> Result<Option<Hand>, AllocError>
+        requires ready { IsReady batch.now place }
+        requires last { last_of self.now.published ≡ Some last.now }
+        requires steady { IsSteady last.now.snapshot batch.now steady.now }
+        ensures { IfOk result (λ o. IfSome o (IsHand self.now.published batch.now)) }
+    {
+        let snapshot = last.snapshot.get();
+        let Some(part) = steady.standing_at(self.alloc, batch, snapshot, place)? else {
+            return Ok(None);
+        };
+        let next = batch.next_standing(self.alloc, place, part)?;
+        let earlier = read_again(part)?;
+        Ok(Some(Hand {
+            next,
+            earlier: Some(earlier),
+            kept: false,
+            stood: true,
+            other: true,
+        }))
     }
 
     // A ready action of a batch.
@@ -209,7 +239,10 @@ impl Core {
         let (Some(steady), Some(last)) = (steady, self.published.last()) else {
             return self.new_hand(batch, place, false);
         };
-        match self.kept_hand(batch, steady, last, place)? {
+        if let Some(hand) = self.kept_hand(batch, steady, last, place)? {
+            return Ok(hand);
+        }
+        match self.standing_hand(batch, steady, last, place)? {
             Some(hand) => Ok(hand),
             // Where the package is the same, one that it reaches tells something else.
             None => self.new_hand(batch, place, steady.is_same(place)),
@@ -410,14 +443,22 @@ impl Core {
         }
     }
 
-    // Whether a part tells something else than the last published part of the package of a number.
-    fn moves(&self, place: usize, part: &ReadPart) -> bool
+    // What a part that ends an action tells beside what the last published part of its package tells.
+    fn retold(&self, running: &Running, place: usize, number: u64, part: &ReadPart) -> Retold
+        requires running { self.now.running ≡ Some running.now }
+        requires awaits { Awaits running.now.batch place number part.now }
         ensures { IsMove self.now.published place part.now result }
     {
-        match self.published.last() {
-            Some(last) => !Steady::tells_again(last.snapshot.get(), place, part),
-            None => true,
+        let Some(last) = self.published.last() else {
+            return Retold::OtherTypes;
+        };
+        let snapshot = last.snapshot.get();
+        if let Some(steady) = &self.steady {
+            if steady.has_stood(&running.batch, snapshot, place, number, part) {
+                return Retold::Same;
+            }
         }
+        Steady::retold(snapshot, place, part)
     }
 
     // The end of an action of the batch that runs, which was taken under a number.
@@ -427,11 +468,11 @@ impl Core {
         place: usize,
         number: u64,
         part: &ReadPart,
-        moved: bool,
+        retold: Retold,
     ) -> Result<Change, Reply>
         requires running { self.now.running ≡ Some running.now }
         requires awaits { Awaits running.now.batch place number part.now }
-        requires moved { IsMove self.now.published place part.now moved }
+        requires retold { IsMove self.now.published place part.now retold }
         ensures ok { IfOk result (λ change. Fits self.now (Event.Finish number part.now) change) }
         ensures err { IfErr result (λ reply. Step self.now (Event.Finish number part.now) reply self.now × (accepts reply ≡ false)) }
     {
@@ -439,7 +480,7 @@ impl Core {
         let _ = number;
         if running.batch.left() != 1 {
             return match running.batch.ending(place, part) {
-                Ok(ending) => Ok(Change::Finish(ending, moved)),
+                Ok(ending) => Ok(Change::Finish(ending, retold)),
                 Err(AllocError) => Err(Reply::Refused(Rule::M0)),
             };
         }
@@ -465,8 +506,8 @@ impl Core {
         let Some(place) = place else {
             return Err(Reply::Refused(Rule::Z1));
         };
-        let moved = self.moves(place, part);
-        self.prepare_end(running, place, number, part, moved)
+        let retold = self.retold(running, place, number, part);
+        self.prepare_end(running, place, number, part, retold)
     }
 
     fn prepare_finish(&self, number: u64, part: &ReadPart) -> Result<Change, Reply>
@@ -523,7 +564,7 @@ impl Core {
         let Ok(part) = read_again(part) else {
             return None;
         };
-        let change = self.prepare_end(running, place, number, &part, false);
+        let change = self.prepare_end(running, place, number, &part, Retold::Same);
         Some((part, change))
     }
 

@@ -10,7 +10,7 @@ mod marks;
 mod search;
 mod told;
 
-pub use crate::make::inputs::input_of;
+pub use crate::make::inputs::{input_of, input_over};
 pub use crate::make::kept::{earlier_part, is_told_again};
 pub use crate::make::making::{parts_again, parts_of};
 pub use crate::make::search::{package_of, part_of};

@@ -97,6 +97,15 @@ impl ReachedSummaries {
         }
     }
 
+    /// Where the summary of a number stands in the list that it is shared from. No contract says so: inputs of one batch share a list, so it is what to
+    /// remember a summary by that is looked up for each of them.
+    pub fn place(&self, number: usize) -> usize {
+        match self.places.get(number) {
+            Some(place) => *place,
+            None => 0,
+        }
+    }
+
     /// The summaries, each a handle.
     ///
     /// # Errors

@@ -22,11 +22,17 @@ use std::thread::Threads;
 pub struct Sight {
     told: Vec<Summary>,
     view: View,
+    // By the place of a summary in the list that inputs share, which one of these it may be. Each guess is tried.
+    guesses: Vec<usize>,
 }
 
 impl Drop for Sight {
     fn drop(self) {
-        let Sight { told: _, view: _ } = self;
+        let Sight {
+            told: _,
+            view: _,
+            guesses: _,
+        } = self;
     }
 }
 
@@ -61,6 +67,67 @@ fn has_package(told: &Vec<Summary>, view: &View, path: &ImportPath) -> bool
 {
     let _ = told;
     view.faces.locate(path).is_some()
+}
+
+// Whether the summary of a number is of this path, if there is one.
+fn is_at(told: &Vec<Summary>, number: usize, path: &ImportPath) -> bool
+    ensures { IsTrue result → IsSeenOf told.now.items path.now }
+{
+    match told.get(number) {
+        Some(summary) => summary.path().is_same(path),
+        None => false,
+    }
+}
+
+// What is guessed for a place.
+fn guess_at(guesses: &Vec<usize>, place: usize) -> usize {
+    match guesses.get(place) {
+        Some(guess) => *guess,
+        None => usize::MAX,
+    }
+}
+
+// Notes a guess for a place, where there is memory.
+fn note(guesses: &mut Vec<usize>, place: usize, guess: usize) {
+    for _place in guesses.len()..place {
+        if guesses.push(usize::MAX).is_err() {
+            return;
+        }
+    }
+    if place < guesses.len() {
+        guesses[place] = guess;
+    } else {
+        let _ = guesses.push(guess);
+    }
+}
+
+// Whether a package of this path is seen, whose summary stands at a place of the list that inputs share: what is guessed for the place is tried, then what was
+// added last, and then the path is looked up.
+fn is_seen(
+    told: &Vec<Summary>,
+    view: &View,
+    guesses: &mut Vec<usize>,
+    place: usize,
+    path: &ImportPath,
+) -> bool
+    requires { AreSeen told.now.items view.now.types view.now.shown view.now.faces }
+    ensures there { IsTrue result → IsSeenOf told.now.items path.now }
+    ensures none { result ≡ false → NoneIsOf told.now.items path.now }
+{
+    if is_at(told, guess_at(guesses, place), path) {
+        return true;
+    }
+    let last = told.len().wrapping_sub(1);
+    if is_at(told, last, path) {
+        note(guesses, place, last);
+        return true;
+    }
+    if has_package(told, view, path) {
+        return true;
+    }
+    // It is added next.
+    note(guesses, place, told.len());
+    false
 }
 
 // Adds what a package tells, of which nothing is seen yet.
@@ -101,8 +168,28 @@ fn add_after_types(
     Ok(())
 }
 
-// Adds what a package tells, where nothing is seen of it yet.
-fn add_new(told: &mut Vec<Summary>, view: &mut View, summary: &Summary) -> Result<(), AllocError>
+// Adds what a package tells, where nothing is seen of it yet. Its summary stands at a place of the list that inputs share.
+fn add_new(
+    told: &mut Vec<Summary>,
+    view: &mut View,
+    guesses: &mut Vec<usize>,
+    place: usize,
+    summary: &Summary,
+) -> Result<(), AllocError>
+    requires seen { AreSeen told.old.items view.old.types view.old.shown view.old.faces }
+    requires agrees { Agrees told.old.items (summary.now ∷ []) }
+    ensures seen { OnOk result (AreSeen told.new.items view.new.types view.new.shown view.new.faces) }
+    ensures all { OnOk result (AreWithReached told.old.items (summary.now ∷ []) told.new.items) }
+{
+    if is_seen(told, view, guesses, place, summary.path()) {
+        return Ok(());
+    }
+    add_summary(told, view, summary)?;
+    Ok(())
+}
+
+// The same of a summary that stands at no place of that list.
+fn add_told(told: &mut Vec<Summary>, view: &mut View, summary: &Summary) -> Result<(), AllocError>
     requires seen { AreSeen told.old.items view.old.types view.old.shown view.old.faces }
     requires agrees { Agrees told.old.items (summary.now ∷ []) }
     ensures seen { OnOk result (AreSeen told.new.items view.new.types view.new.shown view.new.faces) }
@@ -119,6 +206,7 @@ fn add_new(told: &mut Vec<Summary>, view: &mut View, summary: &Summary) -> Resul
 fn add_reached(
     told: &mut Vec<Summary>,
     view: &mut View,
+    guesses: &mut Vec<usize>,
     reached: &ReachedSummaries,
 ) -> Result<(), AllocError>
     requires seen { AreSeen told.old.items view.old.types view.old.shown view.old.faces }
@@ -129,7 +217,7 @@ fn add_reached(
 {
     for number in 0..reached.len() {
         match reached.get(number) {
-            Some(summary) => add_new(told, view, summary)?,
+            Some(summary) => add_new(told, view, guesses, reached.place(number), summary)?,
             None => unreachable!(),
         }
     }
@@ -146,9 +234,11 @@ impl Sight {
         ensures { IfOk result (λ s. s ≡ []) }
     {
         let view = view_of(alloc, &[])?;
+        let guesses = Vec::new(alloc);
         Ok(Sight {
             told: Vec::new(alloc),
             view,
+            guesses,
         })
     }
 
@@ -170,13 +260,50 @@ impl Sight {
         requires apart { PathsAreApart reached.now }
         ensures { IfOk result (λ s. AreWithReached self reached.now s) }
     {
-        let Sight { mut told, mut view } = self;
-        add_reached(&mut told, &mut view, reached)?;
-        Ok(Sight { told, view })
+        let Sight {
+            mut told,
+            mut view,
+            mut guesses,
+        } = self;
+        add_reached(&mut told, &mut view, &mut guesses, reached)?;
+        Ok(Sight {
+            told,
+            view,
+            guesses,
+        })
     }
 
-    // The part of an input, where all that it reaches is seen, and its package is not. What it tells is seen after it.
-    fn make<R: Threads + Sync>(
+    /// The same, and what a package tells, where nothing is seen of it yet. Where memory is wanting nothing is seen any more. It takes one look-up of a path.
+    ///
+    /// # Errors
+    ///
+    /// `AllocError` where memory is wanting.
+    pub fn with_told(self, summary: &Summary) -> Result<Sight, AllocError>
+        requires agrees { Agrees self (summary.now ∷ []) }
+        ensures { IfOk result (λ s. AreWithReached self (summary.now ∷ []) s) }
+    {
+        let Sight {
+            mut told,
+            mut view,
+            guesses,
+        } = self;
+        add_told(&mut told, &mut view, summary)?;
+        Ok(Sight {
+            told,
+            view,
+            guesses,
+        })
+    }
+
+    /// The part of an input, where all that it reaches is seen and its own package is not, where its files are checked in pieces of source at once. Nothing
+    /// is looked up of what is reached. What the part tells is seen after it. Where memory is wanting nothing is seen any more.
+    ///
+    /// The Go specification, "Packages", "Import declarations".
+    ///
+    /// # Errors
+    ///
+    /// `AllocError` where memory is wanting, or a thread.
+    pub fn compile_seen_at_once<R: Threads + Sync>(
         self,
         rt: &R,
         alloc: Global,
@@ -189,17 +316,32 @@ impl Sight {
         ensures made { IfOk result (λ c. IsPart input.now c.part.content) }
         ensures seen { IfOk result (λ c. c.sight ≡ self ++ c.part.content.summary ∷ []) }
     {
-        let Sight { mut told, mut view } = self;
+        let Sight {
+            mut told,
+            mut view,
+            guesses,
+        } = self;
         let content = compile_over_at_once(rt, alloc, input, &mut view)?;
         add_after_types(&mut told, &mut view, &content.summary)?;
         let shared = input.share()?;
         let part = Part::new(alloc, shared, content)?;
-        let sight = Sight { told, view };
+        let sight = Sight {
+            told,
+            view,
+            guesses,
+        };
         Ok(Compiled { part, sight })
     }
 
-    // The same on this thread alone.
-    fn make_alone(self, alloc: Global, input: &PartInput) -> Result<Compiled, AllocError>
+    /// The same part as [`Sight::compile_seen_at_once`] gives, with the same seen after it. Nothing of it is checked at once, so a thread without a handle may
+    /// call it.
+    ///
+    /// The Go specification, "Packages", "Import declarations".
+    ///
+    /// # Errors
+    ///
+    /// `AllocError` where memory is wanting.
+    pub fn compile_seen(self, alloc: Global, input: &PartInput) -> Result<Compiled, AllocError>
         requires local { IsLocal input.now }
         requires none { NoneIsOf self (path_in input.now) }
         requires all { AreAmong input.now.reached self }
@@ -207,18 +349,26 @@ impl Sight {
         ensures made { IfOk result (λ c. IsPart input.now c.part.content) }
         ensures seen { IfOk result (λ c. c.sight ≡ self ++ c.part.content.summary ∷ []) }
     {
-        let Sight { mut told, mut view } = self;
+        let Sight {
+            mut told,
+            mut view,
+            guesses,
+        } = self;
         let content = compile_over(alloc, input, &mut view)?;
         add_after_types(&mut told, &mut view, &content.summary)?;
         let shared = input.share()?;
         let part = Part::new(alloc, shared, content)?;
-        let sight = Sight { told, view };
+        let sight = Sight {
+            told,
+            view,
+            guesses,
+        };
         Ok(Compiled { part, sight })
     }
 
     /// The part of an input: the one that `compile_part` gives, where its files are checked in pieces of source at once. Of what the input reaches only that
     /// is added to what is seen of which nothing is seen yet; what the part tells is seen after it. Where memory is wanting nothing is seen any more. The time
-    /// is that of the check, of a look-up for each package that is reached, and of what is added.
+    /// is that of the check, of a comparison of paths for each package that is reached, and of what is added.
     ///
     /// The Go specification, "Packages", "Import declarations".
     ///
@@ -240,7 +390,7 @@ impl Sight {
         let reached = input.reached();
         let others = self.without(alloc, input.path())?;
         let whole = others.with_reached(reached)?;
-        let made = whole.make(rt, alloc, input)?;
+        let made = whole.compile_seen_at_once(rt, alloc, input)?;
         Ok(made)
     }
 
@@ -261,7 +411,7 @@ impl Sight {
         let reached = input.reached();
         let others = self.without(alloc, input.path())?;
         let whole = others.with_reached(reached)?;
-        let made = whole.make_alone(alloc, input)?;
+        let made = whole.compile_seen(alloc, input)?;
         Ok(made)
     }
 }

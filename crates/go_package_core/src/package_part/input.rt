@@ -111,6 +111,25 @@ impl PartInput {
         Ok(input)
     }
 
+    /// The input of the same package where other packages tell something else: what its imports come to is as here, and shared.
+    ///
+    /// # Errors
+    ///
+    /// `AllocError` where memory is wanting.
+    pub fn with_reached(
+        &self,
+        alloc: Global,
+        reached: ReachedSummaries,
+    ) -> Result<PartInput, AllocError>
+        requires { AreOfOthers (path_in self.now) reached }
+        ensures { IfOk result (λ i. i ≡ input_with self.now.source self.now.imports reached) }
+    {
+        let imports = shared_imports(alloc, self.imports())?;
+        let source = self.package().share()?;
+        let input = PartInput::new(alloc, source, imports, reached)?;
+        Ok(input)
+    }
+
     /// The path of the package.
     pub fn path(&self) -> &ImportPath
         ensures { result.now ≡ path_in self.now }

@@ -14,11 +14,11 @@ use std::alloc::{AllocError, Global};
 use std::marker::Model;
 use std::sync::Arc;
 
-// What is shared of a part.
+// What is shared of a part. Its content is shared with the parts of other inputs that give the same.
 #[derive(Drop)]
 struct Made {
     input: PartInput,
-    content: PackageContent,
+    content: Arc<PackageContent>,
     generation: u64,
 }
 
@@ -48,9 +48,9 @@ impl Model for Part {
 
     ghost coded = { Prim.hlevel (codes, coded_input, coded_blocks, coded_face, coded_operand, coded_summary) };
 
-    ghost view = { λ p. part_with (arc_value p.made).input (part_content_shown (arc_value p.made).content) };
+    ghost view = { λ p. part_with (arc_value p.made).input (part_content_shown (arc_value (arc_value p.made).content)) };
 
-    ghost invariant = { λ p. IsPart (arc_value p.made).input (part_content_shown (arc_value p.made).content) };
+    ghost invariant = { λ p. IsPart (arc_value p.made).input (part_content_shown (arc_value (arc_value p.made).content)) };
 }
 
 impl Part {
@@ -77,10 +77,31 @@ impl Part {
         requires { IsPart input (part_content_shown content) }
         ensures { IfOk result (λ p. p ≡ part_with input (part_content_shown content)) }
     {
+        let content = Arc::new(alloc, content)?;
         let made = Made {
             input,
             content,
             generation,
+        };
+        Ok(Part {
+            made: Arc::new(alloc, made)?,
+        })
+    }
+
+    /// The part of another input that gives the same: its content is shared, and it says that it was made in the same generation.
+    ///
+    /// # Errors
+    ///
+    /// `AllocError` where memory is wanting, or the content has too many owners.
+    pub fn with_input(&self, alloc: Global, input: PartInput) -> Result<Part, AllocError>
+        requires { IsPart input self.now.content }
+        ensures { IfOk result (λ p. p ≡ part_with input self.now.content) }
+    {
+        let content = Arc::try_clone(&self.made.content)?;
+        let made = Made {
+            input,
+            content,
+            generation: self.made.generation,
         };
         Ok(Part {
             made: Arc::new(alloc, made)?,

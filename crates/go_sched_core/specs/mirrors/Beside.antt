@@ -1,14 +1,15 @@
 -- What the core keeps beside its state: the plan of what is published, and what of the last snapshot is as it was in the batch that runs.
-use Rattle.std.specs.Prelude.{◌≡◌, ℕ, Bool, true, false, List, Option, Some, None, ⊤, slice_set}
+use Rattle.std.specs.Prelude.{◌≡◌, ℕ, Bool, List, Option, Some, None, ⊤, slice_set}
 use Rattle.go_graph_core.specs.Workspaces.{PackageModel}
 use Rattle.go_submit_core.specs.package_core.PackagePartParts.{PartModel}
 use Rattle.go_submit_core.specs.snap_core.Snapshots.{SnapshotModel}
 use Rattle.go_submit_core.specs.Published.{last_of, sources_of}
 use Rattle.go_submit_core.specs.declared.published.PublishedBatch.{PublishedBatch}
-use Rattle.go_submit_core.specs.snap_core.WholeWorkspaceInputs.{Tells}
 use Rattle.go_batch_core.specs.Batches.{Awaits, BatchModel}
 use Rattle.go_batch_core.specs.Planning.{IsPlanned}
-use Rattle.go_batch_core.specs.Steadiness.{AreAgain, BeginsSteady, IsSteady, SteadyModel, WasAt, steady_with}
+use Rattle.go_batch_core.specs.Steadiness.{AreAgain, BeginsSteady, IsRetold, IsSteady, SteadyModel, WasAt, is_moved, is_retyped, steady_with}
+use Rattle.go_batch_core.specs.declared.retold.Retold.{Retold}
+use Rattle.go_batch_core.specs.declared.retold.Retold.TheVariants as retolds
 use Rattle.go_batch_core.specs.declared.planned.Planned.{Planned}
 use Rattle.go_sched_core.specs.declared.running.Running.{Running}
 
@@ -49,13 +50,13 @@ abbrev pub IsPlannedFor : List PublishedBatch → Option Planned → Type 0
 IsPlannedFor bs None = ⊤
 IsPlannedFor bs (Some p) = IsPlanned (sources_of bs) p.plan p.reached
 
--- a part that tells something else than the last published one of a number is marked
-abbrev pub IsMoveOf : Option PublishedBatch → ℕ → PartModel → Bool → Type 0
-IsMoveOf None place part moved = moved ≡ true
-IsMoveOf (Some b) place part moved = moved ≡ false → Tells b.snapshot.parts place part.content.summary
+-- what a part tells beside what the last published one of a number told
+abbrev pub IsMoveOf : Option PublishedBatch → ℕ → PartModel → Retold → Type 0
+IsMoveOf None place part retold = retold ≡ retolds.OtherTypes
+IsMoveOf (Some b) place part retold = IsRetold retold b.snapshot.parts place part
 
-abbrev pub IsMove : List PublishedBatch → ℕ → PartModel → Bool → Type 0
-IsMove bs place part moved = IsMoveOf (last_of bs) place part moved
+abbrev pub IsMove : List PublishedBatch → ℕ → PartModel → Retold → Type 0
+IsMove bs place part retold = IsMoveOf (last_of bs) place part retold
 
 -- the last published part of the package of a number
 abbrev pub IsLastAt : List PublishedBatch → ℕ → PartModel → Type 0
@@ -63,14 +64,14 @@ IsLastAt bs place p = (b : PublishedBatch) × (last_of bs ≡ Some b) × WasAt b
 
 -- an action that was taken under a number ends by the last published part of its package
 abbrev pub IsKeptEnd : List PublishedBatch → BatchModel → ℕ → ℕ → PartModel → Type 0
-IsKeptEnd bs b place number p = Awaits b place number p × IsMove bs place p false
+IsKeptEnd bs b place number p = Awaits b place number p × IsMove bs place p retolds.Same
 
 -- the marks where an action is handed out, and where it is finished
 
-abbrev pub handed : Option SteadyModel → ℕ → Bool → Option SteadyModel
-handed None place kept = None
-handed (Some m) place kept = Some (steady_with m.same m.moved (slice_set m.kept place kept))
+abbrev pub handed : Option SteadyModel → ℕ → Bool → Bool → Option SteadyModel
+handed None place kept stood = None
+handed (Some m) place kept stood = Some (steady_with m.same m.moved m.retyped (slice_set m.kept place kept) (slice_set m.stood place stood))
 
-abbrev pub finished : Option SteadyModel → ℕ → Bool → Option SteadyModel
-finished None place moved = None
-finished (Some m) place moved = Some (steady_with m.same (slice_set m.moved place moved) m.kept)
+abbrev pub finished : Option SteadyModel → ℕ → Retold → Option SteadyModel
+finished None place retold = None
+finished (Some m) place retold = Some (steady_with m.same (slice_set m.moved place (is_moved retold)) (slice_set m.retyped place (is_retyped retold)) m.kept m.stood)

@@ -3,7 +3,7 @@ use Rattle.std.specs.Prelude.{◌≡◌, ◌≢◌, ℕ, ◌+◌, ◌<◌, ◌^�
 use Rattle.go_submit_core.specs.package_core.PackagePartInputs.{path_in}
 use Rattle.go_submit_core.specs.package_core.PackagePartParts.{PartModel}
 use Rattle.go_submit_core.specs.snap_core.Snapshots.{IsSnapshot, SnapshotModel}
-use Rattle.go_submit_core.specs.Published.{IsEarlierPart, batch_of}
+use Rattle.go_submit_core.specs.Published.{IsEarlierPart, batch_of, last_of}
 use Rattle.go_submit_core.specs.Submitted.{submission_with}
 use Rattle.go_submit_core.specs.Trees.{TreeModel}
 use Rattle.go_submit_core.specs.declared.published.PublishedBatch.{PublishedBatch}
@@ -18,7 +18,8 @@ use Rattle.go_sched_core.specs.declared.change.Hand.{Hand}
 use Rattle.go_sched_core.specs.declared.event.Event.{Event}
 use Rattle.go_sched_core.specs.declared.event.Event.TheVariants.{Open, Close, Submit, Take, Finish, GiveBack}
 use Rattle.go_sched_core.specs.declared.event.SessionId.{SessionId}
-use Rattle.go_batch_core.specs.Steadiness.{SteadyModel}
+use Rattle.go_batch_core.specs.Steadiness.{IsStoodFor, SteadyModel}
+use Rattle.go_batch_core.specs.declared.retold.Retold.{Retold}
 use Rattle.go_sched_core.specs.declared.running.Running.{Running}
 use Rattle.go_sched_core.specs.mirrors.Beside.{IsLastAt, IsMove, IsSteadyBeside}
 
@@ -26,11 +27,17 @@ use Rattle.go_sched_core.specs.mirrors.Beside.{IsLastAt, IsMove, IsSteadyBeside}
 abbrev pub IsKeptHand : List PublishedBatch → Hand → Type 0
 IsKeptHand bs h = (p : PartModel) × (h.earlier ≡ Some p) × (p.input ≡ h.next.input) × IsLastAt bs h.next.place p
 
--- a ready action of a batch, and the last published part of its package; that this is made of the action's input is marked
+-- the last published part of an action's package has what the action's input gives
+abbrev pub IsStoodHand : List PublishedBatch → Hand → Type 0
+IsStoodHand bs h = (b : PublishedBatch) × (last_of bs ≡ Some b) × IsStoodFor b.snapshot h.next.place h.next.input
+
+-- a ready action of a batch, and the last published part of its package; that this is made of the action's input is marked, and so is that it has what this
+-- input gives
 pub record IsHand (bs : List PublishedBatch) (b : BatchModel) (h : Hand) : Type 0 where
   pub next : IsNext b h.next
   pub earlier : IsEarlierPart bs (path_in h.next.input) h.earlier
   pub kept : h.kept ≡ true → IsKeptHand bs h
+  pub stood : h.stood ≡ true → IsStoodHand bs h
 
 -- the batches with this one, of which no action is left
 pub record ArePublished (before : List PublishedBatch) (r : Running) (bs : List PublishedBatch) : Type 0 where
@@ -94,12 +101,12 @@ pub record IsFinishing (s : Service) (e : Event) (place : ℕ) (part : PartModel
   pub running : s.running ≡ Some r
   pub awaits : Awaits r.batch place number part
 
-pub record FitsFinish (s : Service) (e : Event) (ending : Ending) (moved : Bool) : Type 0 where
+pub record FitsFinish (s : Service) (e : Event) (ending : Ending) (retold : Retold) : Type 0 where
   pub r : Running
   pub finishing : IsFinishing s e ending.place ending.part r
   pub others : actions_left r.batch ≢ 1
   pub ends : IsEnding r.batch ending
-  pub moves : IsMove s.published ending.place ending.part moved
+  pub moves : IsMove s.published ending.place ending.part retold
 
 pub record FitsPublishLast (s : Service) (e : Event) (bs : List PublishedBatch) : Type 0 where
   pub r : Running

@@ -5,7 +5,7 @@ ghost use Rattle.go_graph_core.specs.Packages.{trees_of};
 ghost use Rattle.go_graph_core.specs.Plans.{AreReached, IsAssembledAt, IsPlan};
 ghost use Rattle.go_names_core.specs.block_core.Naming.{AreInFile, AreInPackage, IsGiven, imported_in};
 ghost use Rattle.go_names_core.specs.block_core.mirrors.Steps.{AreReady, AreReadyIn, HasExports, IsPlanned, IsReady, IsShownIn};
-ghost use Rattle.go_snap_core.specs.whole_workspace.Inputs.{HasReached, IsInputAt};
+ghost use Rattle.go_snap_core.specs.whole_workspace.Inputs.{ComesTo, HasReached, IsInputAt};
 ghost use Rattle.go_snap_core.specs.whole_workspace.mirrors.Steps.{AreToldBySet, exports_in};
 ghost use Rattle.go_snap_core.specs.make.Telling.{told_of};
 ghost use Rattle.go_snap_core.specs.make.mirrors.Telling.{AreToldFor, AreToldOf};
@@ -170,5 +170,40 @@ pub fn input_of(
     let package = package_at(packages, number)?;
     let (imports, summaries) = given_to(alloc, plan, reached, number, &package, parts, told)?;
     let input = PartInput::new(alloc, package, imports, summaries)?;
+    Ok(input)
+}
+
+/// The same where an earlier input has the files of the package, and what its imports come to: these are shared.
+///
+/// The Go specification, "Import declarations".
+///
+/// # Errors
+///
+/// `AllocError` where memory is wanting.
+pub fn input_over(
+    alloc: Global,
+    workspace: &Workspace,
+    plan: &Plan,
+    reached: &Reached,
+    number: usize,
+    parts: &[Option<Part>],
+    told: &Told,
+    earlier: &PartInput,
+) -> Result<PartInput, AllocError>
+    requires plan { IsPlan workspace.now plan.now }
+    requires reached { AreReached plan.now reached.now }
+    requires many { length reached.now ≡ length plan.now.outcomes }
+    requires assembled { IsAssembledAt workspace.now number }
+    requires parts { HasReached workspace.now parts.now number }
+    requires told { told.now ≡ told_of parts.now }
+    requires numbered { slice_get workspace.now number ≡ Some earlier.now.source }
+    requires imports { AreInPackage (ComesTo workspace.now parts.now) number (trees_of earlier.now.source.1) earlier.now.imports }
+    ensures { IfOk result (IsInputAt workspace.now parts.now number) }
+{
+    // Its packages stand in order of path, and these are their plan and their parts.
+    let _packages = workspace.packages();
+    let (_, _) = (plan, parts);
+    let summaries = told_to(alloc, reached, number, told)?;
+    let input = earlier.with_reached(alloc, summaries)?;
     Ok(input)
 }

@@ -21,7 +21,7 @@ invariant_of-self c =
     let asked = c.requires in
     let same : asked.0 ≡ r = some_same c.args.self.now.running asked.0 r asked.1 (ap (λ (x : Service). x.running) (sym c.self.view_is) ∙ q.1) in
     let ends : IsEnding r.batch e = subst (λ (x : Running). IsEnding x.batch e) same asked.2 in
-    let moves : IsMove i.published e.place e.part c.args.moved = subst (λ (x : Service). IsMove x.published e.place e.part c.args.moved) (sym c.self.view_is) asked.3 in
+    let moves : IsMove i.published e.place e.part c.args.retold = subst (λ (x : Service). IsMove x.published e.place e.part c.args.retold) (sym c.self.view_is) asked.3 in
     record {
       few = c.self.invariant.few;
       has_room = c.self.invariant.has_room;
@@ -29,5 +29,5 @@ invariant_of-self c =
       plans = c.self.invariant.plans;
       steady_is = subst (λ (o : Option Running). SteadyRuns i.published o c.mark_finished.new.steady) (sym q.2)
           (subst (λ (st : Option SteadyModel). SteadyRuns i.published (Some (with_batch r (with_part r.batch e.place e.part))) st) (sym c.mark_finished.ensures)
-          (steady_end i.published i.running r i.steady e.place e.part c.args.moved ends.number c.self.invariant.steady_is q.1 ends.awaits moves));
+          (steady_end i.published i.running r i.steady e.place e.part c.args.retold ends.number c.self.invariant.steady_is q.1 ends.awaits moves));
     }

@@ -14,14 +14,14 @@ with_reached-requires-clause-agrees g c =
 pub with_reached-requires-clause-apart : goal.with_reached-requires-clause-apart
 with_reached-requires-clause-apart g c = subst PathsAreApart (sym c.reached-reached.ensures.value) c.reached-reached.ensures.well.reached.apart
 
-pub make-requires-clause-none : goal.make-requires-clause-none
-make-requires-clause-none g c κs within =
+pub compile_seen_at_once-requires-clause-none : goal.compile_seen_at_once-requires-clause-none
+compile_seen_at_once-requires-clause-none g c κs within =
     let i = c.args.input.now in
     let whole = subst (λ (l : List SummaryModel). AreWithReached c.in_ok-others.others l c.in_ok-whole.whole) c.reached-reached.ensures.value c.in_ok-whole.ensures in
     none_whole c.in_ok-others.others i.reached c.in_ok-whole.whole (path_in i) whole (subst (NoneIsOf c.in_ok-others.others) c.path.ensures c.in_ok-others.ensures.none) c.reached-reached.ensures.well.reached.others
 
-pub make-requires-clause-all : goal.make-requires-clause-all
-make-requires-clause-all g c κs within =
+pub compile_seen_at_once-requires-clause-all : goal.compile_seen_at_once-requires-clause-all
+compile_seen_at_once-requires-clause-all g c κs within =
     let whole = subst (λ (l : List SummaryModel). AreWithReached c.in_ok-others.others l c.in_ok-whole.whole) c.reached-reached.ensures.value c.in_ok-whole.ensures in
     whole.reached
 

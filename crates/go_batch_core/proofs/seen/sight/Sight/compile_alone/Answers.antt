@@ -14,14 +14,14 @@ with_reached-requires-clause-agrees c =
 pub with_reached-requires-clause-apart : goal.with_reached-requires-clause-apart
 with_reached-requires-clause-apart c = subst PathsAreApart (sym c.reached-reached.ensures.value) c.reached-reached.ensures.well.reached.apart
 
-pub make_alone-requires-clause-none : goal.make_alone-requires-clause-none
-make_alone-requires-clause-none c =
+pub compile_seen-requires-clause-none : goal.compile_seen-requires-clause-none
+compile_seen-requires-clause-none c =
     let i = c.args.input.now in
     let whole = subst (λ (l : List SummaryModel). AreWithReached c.in_ok-others.others l c.in_ok-whole.whole) c.reached-reached.ensures.value c.in_ok-whole.ensures in
     none_whole c.in_ok-others.others i.reached c.in_ok-whole.whole (path_in i) whole (subst (NoneIsOf c.in_ok-others.others) c.path.ensures c.in_ok-others.ensures.none) c.reached-reached.ensures.well.reached.others
 
-pub make_alone-requires-clause-all : goal.make_alone-requires-clause-all
-make_alone-requires-clause-all c =
+pub compile_seen-requires-clause-all : goal.compile_seen-requires-clause-all
+compile_seen-requires-clause-all c =
     let whole = subst (λ (l : List SummaryModel). AreWithReached c.in_ok-others.others l c.in_ok-whole.whole) c.reached-reached.ensures.value c.in_ok-whole.ensures in
     whole.reached
 

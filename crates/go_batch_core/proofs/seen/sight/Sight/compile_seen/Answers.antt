@@ -6,16 +6,16 @@ use Rattle.go_package_core.specs.package_part.Inputs.{InputModel, path_in}
 use Rattle.go_package_core.specs.package_part.Parts.{ContentOf, IsPart, PartModel, part_content_shown}
 use Rattle.go_batch_core.specs.seen.Local.{AreAmong, NoneIsOf}
 use Rattle.go_batch_core.proofs.SeenAdding.{made_alone, others_before, path_made, seen_push}
-use Rattle.go_batch_core.proofs.seen.sight.Sight.make.Goals as goal
+use Rattle.go_batch_core.proofs.seen.sight.Sight.compile_seen.Goals as goal
 
-pub compile_over_at_once-requires-clause-others : goal.compile_over_at_once-requires-clause-others
-compile_over_at_once-requires-clause-others g c κs within =
+pub compile_over-requires : goal.compile_over-requires
+compile_over-requires c =
     let s = c.self.inside in
     let path = path_in c.args.input.now in
     others_before s.told.items path s.view.types s.view.shown s.view.faces c.self.invariant (subst (λ (l : List SummaryModel). NoneIsOf l path) (sym c.self.view_is) c.requires.none)
 
 pub new-requires : goal.new-requires
-new-requires g c =
+new-requires c =
     let s = c.self.inside in
     let i = c.args.input.now in
     let content = part_content_shown c.in_ok-content.content in
@@ -24,7 +24,7 @@ new-requires g c =
     subst (λ (j : InputModel). IsPart j content) (sym c.in_ok-shared.ensures) (made_alone i s.told.items s.view.types s.view.shown s.view.faces content c.requires.local c.self.invariant none all c.in_ok-content.ensures.made)
 
 pub invariant_of-sight : goal.invariant_of-sight
-invariant_of-sight g c =
+invariant_of-sight c =
     let s = c.self.inside in
     let i = c.args.input.now in
     let content = part_content_shown c.in_ok-content.content in
@@ -39,10 +39,10 @@ invariant_of-sight g c =
     (c.in_ok-add_after_types.ensures.faces ∙ ap (λ l. with_faces l content.summary.faces) c.in_ok-content.ensures.faces)
 
 pub returns-clause-input : goal.returns-clause-input
-returns-clause-input g c = ap (λ (p : PartModel). p.input) c.in_ok-part.ensures ∙ c.in_ok-shared.ensures
+returns-clause-input c = ap (λ (p : PartModel). p.input) c.in_ok-part.ensures ∙ c.in_ok-shared.ensures
 
 pub returns-clause-made : goal.returns-clause-made
-returns-clause-made g c =
+returns-clause-made c =
     let s = c.self.inside in
     let i = c.args.input.now in
     let content = part_content_shown c.in_ok-content.content in
@@ -51,6 +51,6 @@ returns-clause-made g c =
     subst (λ (x : ContentOf). IsPart i x) (sym (ap (λ (p : PartModel). p.content) c.in_ok-part.ensures)) (made_alone i s.told.items s.view.types s.view.shown s.view.faces content c.requires.local c.self.invariant none all c.in_ok-content.ensures.made)
 
 pub returns-clause-seen : goal.returns-clause-seen
-returns-clause-seen g c =
+returns-clause-seen c =
     c.in_ok-add_after_types.ensures.told ∙ (ap (λ (l : List SummaryModel). l ++ c.in_ok-content.content.summary ∷ []) c.self.view_is
     ∙ ap (λ (p : PartModel). c.args.self ++ p.content.summary ∷ []) (sym c.in_ok-part.ensures))
