@@ -17,6 +17,7 @@ use Rattle.go_query_core.specs.Entries.{EntryOf}
 use Rattle.go_query_core.specs.Listing.{IsEntryOf, IsListing}
 use Rattle.go_query_core.specs.Parts.{IsPartOf}
 use Rattle.go_completion_laws.specs.Completing.{CompletesExactly}
+use Rattle.go_documentation_laws.specs.Types.{OwnTypesExactly, TypeRefusalsExactly, TypesExactly}
 use Rattle.go_headline_laws.specs.Headline.{ListsExactly, RefusesExactly, ShowsWhatResolves}
 
 module _ (judged : AddedImportsAreJudged) (ps : List PackageModel) (s : SnapshotModel) (well : IsWorkspace ps) (same : s.sources ≡ ps) where
@@ -59,5 +60,5 @@ module _ (judged : AddedImportsAreJudged) (ps : List PackageModel) (s : Snapshot
   refuses from path rule number importer own other more h =
       ((λ r. refused_breaks from path rule number importer own other more h r), (λ o. breaks_refused from path rule number importer own other more h o))
 
-  pub shows : CompletesExactly ps s → ShowsWhatResolves ps s
-  shows completes = record { completes = completes; lists = lists; refuses = refuses }
+  pub shows : CompletesExactly ps s → TypesExactly ps s → OwnTypesExactly s → TypeRefusalsExactly ps s → ShowsWhatResolves ps s
+  shows completes types own_types refuses_types = record { completes = completes; lists = lists; refuses = refuses; types = types; own_types = own_types; refuses_types = refuses_types }

@@ -35,6 +35,7 @@ use Rattle.go_sched_core.specs.declared.event.Reply.TheVariants.{Submitted}
 use Rattle.go_sched_core.specs.declared.event.SessionId.{SessionId}
 use Rattle.go_workspace_laws.specs.AnswerLaws.{IsOccurrenceAt, IsUseOfOccurrence}
 use Rattle.go_completion_laws.specs.Completing.{CompletesExactly}
+use Rattle.go_documentation_laws.specs.Types.{OwnTypesExactly, TypeRefusalsExactly, TypesExactly}
 use Rattle.go_headline_laws.specs.separation.Laws.{AreHandedIn}
 
 -- ---- 1. each import, name, selector, key and call has one answer
@@ -66,11 +67,16 @@ RefusesExactly ps s =
     (from path : List ℕ) (rule : Rule) (number : ℕ) (importer : PartModel) → IsPartOf s from number importer → path ≢ from
     → (more : List PackageModel) (h : AddsImport ps number path more) → IsImportRefused s from path rule ↔ IsOutcome more (added_at number h.files) (come.Refused rule)
 
--- all of it. Of completion: the names that complete an identifier are exactly those that have a declaration once they stand in its place
+-- all of it. Of completion: the names that complete an identifier are exactly those that have a declaration once they stand in its place. Of documentation of a
+-- type: its members are exactly those that selectors behind a variable of it have in a file that is added to the package that asks and imports that of the type,
+-- and in each file of the package that declares it; and it is refused by exactly the rule that its name breaks in that file
 pub record ShowsWhatResolves (ps : List PackageModel) (s : SnapshotModel) : Type 0 where
   pub completes : CompletesExactly ps s
   pub lists : ListsExactly ps s
   pub refuses : RefusesExactly ps s
+  pub types : TypesExactly ps s
+  pub own_types : OwnTypesExactly s
+  pub refuses_types : TypeRefusalsExactly ps s
 
 -- ---- 3. an edit changes its session's module alone
 
@@ -112,7 +118,8 @@ OrderDoesNotCount =
 
 -- after any list of what sessions send and workers do, in every published snapshot each import, name, selector, key and call has exactly the declaration
 -- that the written rules give it, or the number of the rule it breaks; `list` shows exactly the packages that an import could name, `complete` exactly
--- the names that have a declaration once they are put there, and `doc` of another package is refused by exactly the rule that an import of it would break;
+-- the names that have a declaration once they are put there, and `doc` of another package is refused by exactly the rule that an import of it would break,
+-- and of a type tells exactly what selectors behind a variable of it have;
 -- an edit changes its session's module alone; every answer is the one that one worker gives
 --
 -- That each submitted tree is a workspace (`AreHandedIn`) every list of events fulfils that a caller can have: `are_handed_in` of `go_headline_laws::separation`.

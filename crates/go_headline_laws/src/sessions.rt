@@ -8,6 +8,7 @@ use crate::separation::{runs_are_sound, trees_are_well};
 use go_board_core::Board;
 use go_completion_laws::completions_are_exact;
 use go_cursor_core::names_are_occurrences;
+use go_documentation_laws::types_are_exact;
 use go_import_core::list::added_imports_are_judged;
 use go_program_laws::references::programs_run;
 use go_submit_core::{PublishedBatch, one_worker};
@@ -72,5 +73,6 @@ pub fn session_headline()
     added_imports_are_judged();
     names_are_occurrences();
     completions_are_exact();
+    types_are_exact();
     session_runs_as_meant();
 }
