@@ -9,7 +9,7 @@ const MEANINGS: [&str; 84] = [
     "a character that no token may have, a text that is not UTF-8, or a file that cannot be read", // L1
     "a string or a comment without its end", // L2
     "a literal that is written wrongly, or of a kind that is not supported yet", // L3
-    "the text is not written as Go, or uses what is not supported yet, as slices, or an alias of what is no type's name", // P1
+    "a syntax error, or a form of Go that is not supported yet, such as a slice, a switch or a generic type", // P1
     "something is nested more than 200 deep", // P2
     "the package clause differs from that of the first file in this folder", // K2
     "a package cannot be named _", // K3
@@ -19,25 +19,25 @@ const MEANINGS: [&str; 84] = [
     "an internal package is imported from outside the folder that holds it", // I3
     "packages that import one another in a circle", // I4
     "a package main cannot be imported", // I5
-    "the imported package is not checked, since its files make no package", // I6
+    "the imported package is not checked, since it has K2, K3 or K4", // I6
     "an import that is not used", // I7
     "the name is declared a second time in the same block", // B1
     "an import brings a name that the package declares", // B2
-    "init, and main in package main, is a function without parameters and results", // B3
+    "init, and main in package main, must be functions without parameters and results", // B3
     "no name to the left of := is new", // B4
     "a second field or method of this name", // B5
-    "the receiver is of no type that this package defines, by its name or by an alias, and that may have methods", // B6
+    "the receiver is of a type that this package does not define, or of one defined as a pointer or an interface", // B6
     "no declaration of this name holds here", // N1
     "the package declares this name, but does not export it", // N2
     "the package does not declare this name", // N3
-    "a package stands here for a value", // N4
-    "a type stands here for a value", // N5
-    "this is no type, or before a dot no package", // N6
+    "a package stands where a value is wanted", // N4
+    "a type stands where a value is wanted", // N5
+    "this is not a type, or, before a dot, not a package", // N6
     "a predeclared name of Go that is not supported yet", // N7
     "the blank identifier _ has no value", // N8
-    "the import that binds this name is refused", // N9
+    "the import that brings this name has a fault", // N9
     "the type has no field or method of this name", // S1
-    "several embedded fields have a member of this name", // S2
+    "ambiguous: several embedded fields have a member of this name", // S2
     "the member belongs to another package, and is not exported", // S3
     "what stands before the dot has no type", // S4
     "the method needs a pointer, and this value is none and has no address", // S5
@@ -55,16 +55,16 @@ const MEANINGS: [&str; 84] = [
     "this is no function, method or type, and cannot be called", // C1
     "too many or too few arguments", // C2
     "an argument is of another type than its parameter", // C3
-    "a value of this type cannot be converted so", // C4
+    "this value cannot be converted to this type", // C4
     "a type that contains itself, or an alias that leads back to itself", // Y1
     "a pointer type, or a pointer to an interface, cannot be embedded", // Y2
     "the operands do not fit the operator, or no single value stands where one is wanted", // Y3
-    "a value is not of the type that is wanted, or there are too many or too few", // Y4
+    "a value is of another type than is wanted, or there are too many or too few values", // Y4
     "the function has a result, and its end can be reached without a return", // Y5
-    "break and continue stand inside a for", // Y6
-    "no constant of bool, int or string, out of range, a division by 0, or defined through itself", // Y7
+    "break and continue may stand only inside a for", // Y6
+    "not a constant of bool, int or string, or one that is out of range, divides by 0 or is defined through itself", // Y7
     "only a call may stand alone as a statement", // Y8
-    "not supported yet: a function that is used as a value, a shift or a bit operator, string of an int, a package variable that begins with no constant, or a constant of more than 64 bits", // X1
+    "not supported yet: a function that is used as a value, a shift or a bit operator, string of an int, a package variable whose initialiser is no constant, or a constant of more than 64 bits", // X1
     "a request names a package that is not there, or that is not checked", // Q1
     "a request names a place where no identifier stands", // Q2
     "a request names an identifier that is not a use of a name", // Q3
