@@ -1,5 +1,5 @@
 #!/bin/sh
-# The sum of the sources that a program is made from, `govisd` or `govisd_lsp`: its crates in crates.txt, with their lists, and their files.
+# The sum of the sources that a program is made from, as `govisd`: its crates in crates.txt, with their lists, and their files.
 # tools/sums.sh PROGRAM [ROOT]
 set -eu
 cd "${2:-$(dirname -- "$0")/..}"

@@ -1,9 +1,10 @@
 #!/usr/bin/env python3
-"""Tries the programs as a person would, without the toolchain: python3 tools/test_program.py PROGRAM EDITOR
+"""Tries the program as a person would, without the toolchain: python3 tools/test_program.py PROGRAM [SERVER WORD ..]
 
-`./govisd --test` calls it with the two programs that `./govisd` starts, the second of them the editor's server. It runs the examples of examples/README.md, modules with a small mistake each, small
+`./govisd --test` calls it with the program that `./govisd` starts. It runs the examples of examples/README.md, modules with a small mistake each, small
 programs, the example of each rule, stored sessions with one and with eight workers, and those of an editor, and compares what comes with what is written
-there. It takes a minute or two, and ends with status 0 where all is as it must be. That says nothing of the proofs: `rt ci` makes those.
+there. An editor is served by `PROGRAM lsp`, or by another command that is given. It takes a minute or two, and ends with status 0 where all is as it must
+be. That says nothing of the proofs: `rt ci` makes those.
 """
 import os
 import re
@@ -30,7 +31,7 @@ TABLES = [
     ("scripts of sessions", "bench/serving/script.sh", r"^(\d+) scripts, 0 differ$"),
 ]
 
-# The same of the editor's server.
+# The same of the command that serves an editor.
 EDITOR_TABLES = [
     ("messages to an editor", "bench/editor/stored.py", r"^(\d+) messages to editors, 0 sessions differ$"),
     ("cases of the editor's server", "bench/editor/check.py", r"^(\d+) cases, 0 do not hold$"),
@@ -56,10 +57,10 @@ def example_holds(program, section, words, given, status):
     return True
 
 
-def table_holds(program, script, last):
+def table_holds(command, script, last):
     """How many cases a table has, where all of them hold; what its script printed is shown where one does not."""
     words = [sys.executable, "-B"] if script.endswith(".py") else ["sh"]
-    ran = subprocess.run([*words, f"{ROOT}/{script}", program], capture_output=True, text=True, cwd=ROOT, timeout=600)
+    ran = subprocess.run([*words, f"{ROOT}/{script}", *command], capture_output=True, text=True, cwd=ROOT, timeout=600)
     lines = (ran.stdout + ran.stderr).strip().split("\n")
     found = re.match(last, lines[-1])
     if ran.returncode or not found:
@@ -68,25 +69,26 @@ def table_holds(program, script, last):
     return int(found[1])
 
 
-def tables_hold(program, tables):
+def tables_hold(command, tables):
     """How many cases of some tables hold, and how many tables do not; each is told of in a line."""
     passed, failed = 0, 0
     for name, script, last in tables:
-        count = table_holds(program, script, last)
+        count = table_holds(command, script, last)
         passed, failed = passed + count, failed + (not count)
         print(f"{name}: {f'all {count} as they must be' if count else 'NOT as they must be'}", flush=True)
     return passed, failed
 
 
 def main():
-    if len(sys.argv) != 3:
+    if len(sys.argv) < 2:
         sys.exit(__doc__)
-    program, editor = map(os.path.abspath, sys.argv[1:])
+    program, *server = sys.argv[1:]
+    program = os.path.abspath(program)
     passed = sum(example_holds(program, *example) for example in EXAMPLES)
     failed = len(EXAMPLES) - passed
     print(f"examples: {passed} of {len(EXAMPLES)} print what examples/README.md says", flush=True)
-    for server, tables in ((program, TABLES), (editor, EDITOR_TABLES)):
-        good, bad = tables_hold(server, tables)
+    for command, tables in (([program], TABLES), (server or [program, "lsp"], EDITOR_TABLES)):
+        good, bad = tables_hold(command, tables)
         passed, failed = passed + good, failed + bad
     print(f"{passed} passed, {failed} failed")
     return 1 if failed else 0

@@ -82,7 +82,7 @@ def manners(server, root):
     client.server.stdin.close()
     holds("a client that is gone ends it with 1", client.server.wait(timeout=WAIT) == 1)
     said = client.server.stderr.read()
-    holds("and it says so", said == b"govisd_lsp: the editor's messages ended before it said exit\n", said)
+    holds("and it says so", said == b"govisd: the editor's messages ended before it said exit\n", said)
 
 
 def definitions(client, root):

@@ -4,8 +4,8 @@
     python3 bench/serving/machine.py [--program FILE] [--build] [--shapes near] [--kinds body] [--places first,middle,last] [--parts kept]
                              [--packages N] [--imports N] [--times N] [--runs N]
 
-The program is `crates/test_events`; its `src/measured.rt` says what the words mean. Where none is given it is the one that the gate proved and built; where there is
-none, or with `--build`, it is built by `tools/quick_build.py --bare`, which proves nothing, as `bench/out/machine/test_batches`. It makes a workspace, runs its first batch, and does a work no time or so
+The program is `crates/test_cases`; `crates/test_events/src/measured.rt` says what the words mean. Where none is given it is the one that the gate proved and built; where there is
+none, or with `--build`, it is built by `tools/quick_build.py --bare`, which proves nothing, as `bench/out/machine/test_cases`. It makes a workspace, runs its first batch, and does a work no time or so
 many times. What one time takes is the difference between the two, the least of so many runs of each, in turn, by the number of times. The works are batches of
 one edit each, the trees that these submit, and the compilation of the edited package, ten times as many of both. What a batch takes less these two are its
 steps: all that the core machine does from the submission to the publication, and what it compiles of other packages where a constant is edited.
@@ -22,7 +22,7 @@ from collections import namedtuple
 
 ROOT = os.path.dirname(os.path.dirname(os.path.dirname(os.path.abspath(__file__))))
 OUT = os.environ.get("BENCH_OUT", f"{ROOT}/bench/out")
-CRATE = "test_events"
+CRATE = "test_cases"
 MODULE = 128  # the most packages of a module
 PACKAGES, BOUND = 4096, 10  # the ms that the steps of a batch of one edited body may take among so many packages
 
@@ -45,7 +45,7 @@ def build():
 
 def run(program, work, edit, times):
     """Runs the program: what it spent, and what it counted."""
-    words = [program, "--", work, *map(str, edit), str(times)]
+    words = [program, "measured", work, *map(str, edit), str(times)]
     began = time.perf_counter()
     with subprocess.Popen(words, stdout=subprocess.PIPE, text=True) as process:
         told = process.stdout.read()

@@ -3,6 +3,7 @@
 # given), or of `govisd check` with what follows the word check: each run must end with the right report, or with none, a
 # message and status 1; never with another report. With the word internal it is `govisd check` of a workspace in which one
 # package may import an internal one and another may not, and what is right was worked out by hand from docs/RULES.md. With
+# the word branches and an archive the program is test_cases, which GOVISD names then: no function may differ. With
 # the words script or serve it is the daemon, each of whose replies must be the right one, or M0, or none where it ends or
 # the connection does: fail_alloc.py says how.
 #
@@ -10,6 +11,7 @@
 #     bench/stress/fail_alloc.sh FILE.go
 #     bench/stress/fail_alloc.sh check examples/shop --module ex.com/shop
 #     bench/stress/fail_alloc.sh internal
+#     GOVISD=crates/test_cases/out/test_cases bench/stress/fail_alloc.sh branches ARCHIVE
 #     bench/stress/fail_alloc.sh [--every N] [--workers N] script FILE..
 #     bench/stress/fail_alloc.sh [--every N] [--workers N] serve
 set -euo pipefail
@@ -45,7 +47,7 @@ case ${1:-} in
     python3 "$here/fail_alloc.py" "$work/fail.so" "$govisd" "$@"
     exit
     ;;
-check)
+check | branches)
     words=("$@")
     ;;
 internal)

@@ -50,7 +50,21 @@ func operands() {
 	const c = 1 / 0 // Y7: 1 / 0
 	const d = x     // Y7: x
 	_ = x << 2      // X1: x << 2
+	_ = number() | 2        // X1: number() | 2
+	_ = big + 1 + x         // X1: big + 1
+	_ = int(big) * 2        // Y7: int(big) * 2
+	const point pair = 1    // Y7: 1
 }
+
+const big = 9223372036854775807
+
+var (
+	set     = number()       // X1: number()
+	sum     = number() + 1   // X1: number() + 1
+	zero    = pair{}         // X1: pair{}
+	pointer *pair = nil      // X1: nil
+	a, b    = two()          // X1: two()
+)
 
 func calls() {
 	x := 1

@@ -42,7 +42,6 @@ impl<'t> Owner<'t> {
 }
 
 /// A member that a type has itself or by embedded fields.
-#[derive(Drop)]
 pub struct Way<'t> {
     /// The names of the embedded fields that lead there and its own, with dots between them.
     pub path: String,
@@ -52,14 +51,33 @@ pub struct Way<'t> {
     pub is_open: bool,
 }
 
+impl Drop for Way<'_> {
+    fn drop(self) {
+        let Way {
+            path: _,
+            owner: _,
+            is_open: _,
+        } = self;
+    }
+}
+
 // A type that embedded fields lead to.
-#[derive(Drop)]
 struct Step<'t> {
     /// The names of these fields, with a dot after each.
     path: String,
     term: &'t TypeTerm,
     /// Whether each of them is seen in the package that asks.
     is_open: bool,
+}
+
+impl Drop for Step<'_> {
+    fn drop(self) {
+        let Step {
+            path: _,
+            term: _,
+            is_open: _,
+        } = self;
+    }
 }
 
 /// An embedded field of a struct type, with its type.
@@ -103,6 +121,26 @@ pub fn has_method(table: &TypeTable, term: &TypeTerm, name: &str) -> bool {
         TypeTerm::Struct(_, _, _) => false,
         TypeTerm::Interface(_, _) => false,
     }
+}
+
+/// The name of the first method of a defined type that differs from a name in upper and lower case of ASCII letters alone, and is declared with a receiver; none where
+/// none does.
+pub(crate) fn method_in_case<'t>(
+    table: &'t TypeTable,
+    term: &'t TypeTerm,
+    name: &str,
+) -> Option<&'t str> {
+    let TypeTerm::Defined(key) = term else {
+        return None;
+    };
+    let located = table.locate(key)?;
+    for method in located.defined.methods() {
+        let found = method.name.as_str();
+        if found != name && found.eq_ignore_ascii_case(name) {
+            return Some(found);
+        }
+    }
+    None
 }
 
 // Where a defined type is declared; none of another type.

@@ -2,11 +2,13 @@
 
 use crate::case::Case;
 use crate::lists::{Misfit, Values};
-use crate::missing::add_missing;
+use crate::missing::{GivenValue, add_address, add_assertion, add_missing, add_no_methods};
+use crate::telling::{is_nil, type_of};
 use go_diagnostic_core::{Message, Words};
-use go_judge_core::{Extent, extent_of};
+use go_handle_core::table_core::TypeTable;
+use go_judge_core::{Extent, TypeText, extent_of};
 use go_report_core::operand_core::Operand;
-use go_term_core::{TypeTerm, identical};
+use go_term_core::{Basic, TypeTerm, identical};
 use go_tree_nodes::Expr;
 use std::alloc::{AllocError, Global};
 
@@ -36,21 +38,86 @@ pub fn add_why(
     message: &mut Message,
 ) -> Result<(), AllocError> {
     values.mark(found.number, message);
-    let Some(value) = values.type_at(found.number) else {
-        return Ok(());
+    let Some(term) = values.type_at(found.number) else {
+        return add_why_untyped(alloc, case, values, found, message);
     };
     let written = values.written(alloc, case, found.number)?;
-    let written = written.as_str();
-    add_missing(alloc, case, value, found.wanted, written, message)?;
-    if values.call().is_some() || is_cut(written) {
-        return Ok(());
+    let is_one = values.call().is_none();
+    let addressable = is_one && has_address(values, found.number);
+    let value = GivenValue::new(term, written.as_str(), addressable);
+    add_missing(alloc, case, value, found.wanted, message)?;
+    add_assertion(alloc, case, value, found.wanted, message)?;
+    if is_one {
+        add_conversion(alloc, case, value, found.wanted, message)?;
+        return add_pointer(alloc, value, found.wanted, message);
     }
-    add_pointer(alloc, values, value, found, written, message)
+    Ok(())
 }
 
-// Whether an expression is not shown to its end: two dots stand for the rest, and none ends an expression.
-fn is_cut(written: &str) -> bool {
-    written.ends_with('.')
+// Which of bool, int and string lies under a type; none where another type does.
+fn basic_of<'t>(table: &'t TypeTable, term: &'t TypeTerm) -> Option<Basic> {
+    match table.underlying(term) {
+        TypeTerm::Basic(basic) => Some(*basic),
+        _ => None,
+    }
+}
+
+/// Adds how a value is converted to a type that is wanted, where the same one of bool, int and string lies under this type and its own.
+///
+/// The Go specification, "Conversions".
+///
+/// # Errors
+///
+/// `AllocError` where memory is wanting.
+pub fn add_conversion(
+    alloc: Global,
+    case: &Case<'_>,
+    value: GivenValue<'_>,
+    wanted: &TypeTerm,
+    message: &mut Message,
+) -> Result<(), AllocError> {
+    let table = case.setting.table();
+    let own = basic_of(table, value.term);
+    if own.is_none() || own != basic_of(table, wanted) || !value.is_whole() {
+        return Ok(());
+    }
+    let TypeText { text, is_exact } = case.setting.type_text(alloc, wanted)?;
+    if !is_exact {
+        return Ok(());
+    }
+    message.help(
+        Words::new(alloc)
+            .and("write ")
+            .and(text.as_str())
+            .and("(")
+            .and(value.written)
+            .and(")"),
+    )
+}
+
+// The same of a value without a type, where it is known.
+fn add_why_untyped(
+    alloc: Global,
+    case: &Case<'_>,
+    values: &Values<'_>,
+    found: &Misfit<'_>,
+    message: &mut Message,
+) -> Result<(), AllocError> {
+    match values.operand(found.number) {
+        Some(operand) if !is_nil(operand) => {
+            let told = type_of(alloc, case, operand)?;
+            add_no_methods(alloc, &*case, told.as_str(), found.wanted, message)
+        }
+        _ => Ok(()),
+    }
+}
+
+// Whether the value of a number has an address.
+fn has_address(values: &Values<'_>, number: usize) -> bool {
+    match values.operand(number) {
+        Some(operand) => operand.addressable,
+        None => false,
+    }
 }
 
 // Whether a type is that of pointers to another.
@@ -66,31 +133,18 @@ fn points_to(pointer: &TypeTerm, target: &TypeTerm) -> bool {
     }
 }
 
-// Whether the value of a number takes `&` in front: a composite literal, or what has an address.
-fn takes_ampersand(values: &Values<'_>, number: usize, written: &str) -> bool {
-    if written.ends_with('}') {
-        return true;
-    }
-    match values.operand(number) {
-        Some(operand) => operand.addressable,
-        None => false,
-    }
-}
-
 // Adds what to write where a pointer to a value fits, or what it points to.
 fn add_pointer(
     alloc: Global,
-    values: &Values<'_>,
-    value: &TypeTerm,
-    found: &Misfit<'_>,
-    written: &str,
+    value: GivenValue<'_>,
+    wanted: &TypeTerm,
     message: &mut Message,
 ) -> Result<(), AllocError> {
-    if points_to(value, found.wanted) {
-        return add_pointed(alloc, written, message);
+    if points_to(value.term, wanted) && value.is_whole() {
+        return add_pointed(alloc, value.written, message);
     }
-    if points_to(found.wanted, value) && takes_ampersand(values, found.number, written) {
-        return message.help(Words::new(alloc).and("write &").and(written));
+    if points_to(wanted, value.term) {
+        return add_address(alloc, value, message);
     }
     Ok(())
 }

@@ -15,10 +15,10 @@ pub use embedded::{
     Embedded, Owner, Way, deep_pointer, embedded_with, has_method, shallowest, target_of,
 };
 pub use fields::{StructParts, add_difference, add_hidden_field, parts_of};
-pub use fitting::{add_why, mark, mark_between, why_fixed};
+pub use fitting::{add_conversion, add_why, mark, mark_between, why_fixed};
 pub use headers::{Header, header_of, results_written};
 pub use lists::{Misfit, Values, misfit_in, values_of};
-pub use missing::add_missing;
+pub use missing::{GivenValue, add_assertion, add_missing};
 pub use telling::{
     article_of, counted, is_nil, is_value, params_of, type_of, type_told, types_told, under_told,
     values_told,

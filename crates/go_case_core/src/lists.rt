@@ -4,7 +4,7 @@ use crate::case::Case;
 use crate::fitting::{mark, mark_between};
 use crate::telling::{is_of, is_value, kinds_told, results_of, type_told, types_told};
 use go_diagnostic_core::{Message, Words, digits};
-use go_judge_core::{Given, Judged};
+use go_judge_core::{Given, Judged, inside};
 use go_report_core::denote_core::Stand;
 use go_report_core::operand_core::Operand;
 use go_term_core::{Basic, Signature, TypeTerm};
@@ -75,6 +75,18 @@ impl<'s> Values<'s> {
         match self.alone()?.count() {
             Some(_) => self.exprs.first().copied(),
             None => None,
+        }
+    }
+
+    /// The one call that stands there alone, in parentheses or not, however many values it gives; none where something else stands there.
+    pub fn only_call(&self) -> Option<&'s Expr> {
+        if self.exprs.len() != 1 {
+            return None;
+        }
+        let expr = self.exprs.first().copied()?;
+        match inside(expr) {
+            Expr::Call(_) => Some(expr),
+            _ => None,
         }
     }
 

@@ -1,21 +1,55 @@
 //! Why a value of a type does not fit an interface type.
 
 use crate::case::Case;
-use crate::embedded::{deep_pointer, has_method, is_shown, owner_in, shallowest};
-use crate::telling::type_told;
-use go_diagnostic_core::{Message, Words};
+use crate::embedded::{deep_pointer, method_in_case, shallowest};
+use crate::telling::{method_told, type_told};
+use go_diagnostic_core::{LineKind, Message, Words};
 use go_graph_core::path_core::ImportPath;
 use go_handle_core::table_core::TypeTable;
+use go_mset_core::select_core::{Member, select};
 use go_mset_core::{Missing, implements, implements_by_pointer};
-use go_term_core::TypeTerm;
+use go_term_core::{Signature, TypeTerm};
+use go_tree_nodes::text_core::Rule;
 use std::alloc::{AllocError, Global};
+
+/// A value that is given where a type is wanted.
+#[derive(Clone, Copy)]
+pub struct GivenValue<'t> {
+    /// Its type.
+    pub(crate) term: &'t TypeTerm,
+    /// The value as it is shown.
+    pub(crate) written: &'t str,
+    /// Whether it has an address.
+    pub(crate) addressable: bool,
+}
+
+impl<'t> GivenValue<'t> {
+    /// A value of a type, as it is shown, and whether it has an address.
+    pub fn new(term: &'t TypeTerm, written: &'t str, addressable: bool) -> GivenValue<'t> {
+        GivenValue {
+            term,
+            written,
+            addressable,
+        }
+    }
+
+    /// Whether it is shown to its end: two dots stand for the rest, and no expression ends with one.
+    pub(crate) fn is_whole(self) -> bool {
+        !self.written.ends_with('.')
+    }
+
+    /// Whether it takes `&` in front, as it is shown: it is a composite literal, or has an address.
+    pub(crate) fn takes_ampersand(self) -> bool {
+        self.written.ends_with('}') || self.addressable
+    }
+}
 
 /// A value that is given where an interface type is wanted.
 #[derive(Clone, Copy)]
 struct Asked<'t> {
     table: &'t TypeTable,
-    value: &'t TypeTerm,
-    /// Its type without the star.
+    value: GivenValue<'t>,
+    /// The type of the value without its star.
     base: &'t TypeTerm,
     /// Whether there is a star.
     is_pointer: bool,
@@ -91,33 +125,13 @@ fn pointed(term: &TypeTerm) -> (&TypeTerm, bool) {
     }
 }
 
-// Whether what is written ends as a composite literal does.
-fn is_literal(written: &str) -> bool {
-    match written.as_bytes().last() {
-        Some(byte) => *byte == b'}',
-        None => false,
-    }
-}
-
-// Whether what is written takes `&` in front: a composite literal, or a local that has an address.
-fn takes_ampersand(case: &Case<'_>, written: &str) -> bool {
-    if is_literal(written) {
-        return true;
-    }
-    match case.setting.local_value(written) {
-        Some(operand) => operand.addressable,
-        None => false,
-    }
-}
-
 // Adds that a method has a pointer receiver, so that a pointer has it alone, and what to write where a pointer has all methods.
 fn add_by_pointer(
     alloc: Global,
-    case: &Case<'_>,
     name: &str,
-    value: &str,
+    told: &str,
+    value: GivenValue<'_>,
     has_all: bool,
-    written: &str,
     message: &mut Message,
 ) -> Result<(), AllocError> {
     message.note(
@@ -125,91 +139,182 @@ fn add_by_pointer(
             .and("method ")
             .and(name)
             .and(" has a pointer receiver: *")
-            .and(value)
-            .and(" has it, and ")
-            .and(value)
-            .and(" not"),
+            .and(told)
+            .and(" has it, but ")
+            .and(told)
+            .and(" does not"),
     )?;
-    if has_all && takes_ampersand(case, written) {
-        return message.help(Words::new(alloc).and("write &").and(written));
+    if has_all {
+        return add_address(alloc, value, message);
     }
     Ok(())
 }
 
+/// Adds how a pointer to a value is written: with `&` in front of it, or in front of a variable that it is put in first.
+///
+/// # Errors
+///
+/// `AllocError` where memory is wanting.
+pub(crate) fn add_address(
+    alloc: Global,
+    value: GivenValue<'_>,
+    message: &mut Message,
+) -> Result<(), AllocError> {
+    if !value.is_whole() {
+        return Ok(());
+    }
+    let words = Words::new(alloc);
+    if value.takes_ampersand() {
+        return message.help(words.and("write &").and(value.written));
+    }
+    message.help(
+        words.and("put ").and(value.written).and(
+            " in a variable first, and write & in front of the variable",
+        ),
+    )
+}
+
 // What there is of the name of a method that a type lacks.
-#[derive(Drop)]
-enum Instead {
-    /// A method with another signature.
-    Method,
+enum Instead<'t> {
+    /// A method with another signature; none stands for that of the method of `error`.
+    Method(Option<&'t Signature>),
     /// A field, or a member of an embedded field, by the names that lead there.
     Member(String),
+    /// A method whose name differs in upper and lower case.
+    InCase(&'t str),
     Nothing,
 }
 
-// The first member of a name by embedded fields.
-fn by_embedding(alloc: Global, asked: &Asked<'_>, name: &str) -> Result<Instead, AllocError> {
+impl Drop for Instead<'_> {
+    fn drop(self) {
+        match self {
+            Instead::Method(_) => {}
+            Instead::Member(_) => {}
+            Instead::InCase(_) => {}
+            Instead::Nothing => {}
+        }
+    }
+}
+
+// What a selector of a name denotes after a value without the star of its type; none where it denotes nothing.
+fn selected<'t>(
+    alloc: Global,
+    asked: &Asked<'t>,
+    name: &str,
+) -> Result<Option<Member<'t>>, AllocError> {
+    match select(alloc, asked.table, asked.base, name, asked.from) {
+        Ok(found) => Ok(Some(found.member)),
+        Err(rule) => {
+            if rule == Rule::M0 {
+                return Err(AllocError);
+            }
+            Ok(None)
+        }
+    }
+}
+
+// The first member of a name by embedded fields, or else a method whose name is spelled nearly so.
+fn by_embedding<'t>(
+    alloc: Global,
+    asked: &Asked<'t>,
+    name: &str,
+) -> Result<Instead<'t>, AllocError> {
     let ways = shallowest(alloc, asked.table, asked.base, name, asked.from, true)?;
-    match ways.first() {
-        Some(way) => Ok(Instead::Member(String::from_str(alloc, way.path.as_str())?)),
+    if let Some(way) = ways.first() {
+        let path = String::from_str(alloc, way.path.as_str())?;
+        return Ok(Instead::Member(path));
+    }
+    match method_in_case(asked.table, asked.base, name) {
+        Some(found) => Ok(Instead::InCase(found)),
         None => Ok(Instead::Nothing),
     }
 }
 
-// Whether the type of a value has a method of a name itself that is seen where the method is asked for.
-fn has_own_method(asked: &Asked<'_>, name: &str) -> bool {
-    let owner = owner_in(asked.table, asked.base, name);
-    if is_shown(owner, name, asked.from) {
-        return has_method(asked.table, asked.base, name) || is_interface(asked.table, asked.base);
-    }
-    false
-}
-
 // What there is of the name of a method that the type of a value lacks.
-fn in_place(alloc: Global, asked: &Asked<'_>, name: &str) -> Result<Instead, AllocError> {
-    if has_own_method(asked, name) {
-        return Ok(Instead::Method);
+fn in_place<'t>(alloc: Global, asked: &Asked<'t>, name: &str) -> Result<Instead<'t>, AllocError> {
+    match selected(alloc, asked, name)? {
+        Some(Member::Method(_, method)) => Ok(Instead::Method(Some(&method.signature))),
+        Some(Member::InterfaceMethod(_, method)) => Ok(Instead::Method(Some(&method.signature))),
+        Some(Member::ErrorMethod) => Ok(Instead::Method(None)),
+        Some(Member::Field(_, _)) => by_embedding(alloc, asked, name),
+        None => by_embedding(alloc, asked, name),
     }
-    by_embedding(alloc, asked, name)
 }
 
-// Adds that a type has no method of a name, or what it has in place of it.
-fn add_lack(
+// The signature of the method of a name that an interface type asks for; none of the method of `error`.
+fn wanted_signature<'t>(asked: &Asked<'t>, name: &str) -> Option<&'t Signature> {
+    let TypeTerm::Interface(_, methods) = asked.table.underlying(asked.wanted) else {
+        return None;
+    };
+    for method in methods {
+        if method.name.as_str() == name {
+            return Some(&method.signature);
+        }
+    }
+    None
+}
+
+// A method of a name with its signature; where there is none, the method of `error`.
+fn signature_told(
     alloc: Global,
-    found: &Instead,
+    case: &Case<'_>,
     name: &str,
-    value: &str,
-    wanted: &str,
+    signature: Option<&Signature>,
+) -> Result<String, AllocError> {
+    match signature {
+        Some(signature) => method_told(alloc, case, name, signature),
+        None => String::from_str(alloc, "Error() string"),
+    }
+}
+
+// Adds the method that a type has, and the one that is wanted of it.
+fn add_signatures(
+    alloc: Global,
+    case: &Case<'_>,
+    asked: &Asked<'_>,
+    name: &str,
+    has: Option<&Signature>,
     message: &mut Message,
 ) -> Result<(), AllocError> {
+    let have = signature_told(alloc, case, name, has)?;
+    message.line(LineKind::Have, Words::new(alloc).and(have.as_str()))?;
+    let want = signature_told(alloc, case, name, wanted_signature(asked, name))?;
+    message.line(LineKind::Want, Words::new(alloc).and(want.as_str()))
+}
+
+// That a type has no method of a name, or what it has in place of it, in words.
+fn lack_told(alloc: Global, found: &Instead<'_>, name: &str, value: &str, wanted: &str) -> Words {
     let words = Words::new(alloc);
     match found {
-        Instead::Method => message.note(
-            words
-                .and("method ")
-                .and(name)
-                .and(" of ")
-                .and(value)
-                .and(" has other parameters or results than that of ")
-                .and(wanted),
-        ),
-        Instead::Member(path) => message.note(
-            words
-                .and(path.as_str())
-                .and(" of ")
-                .and(value)
-                .and(" is not the method ")
-                .and(name)
-                .and(" of ")
-                .and(wanted),
-        ),
-        Instead::Nothing => message.note(
-            words
-                .and(value)
-                .and(" has no method ")
-                .and(name)
-                .and(" of ")
-                .and(wanted),
-        ),
+        Instead::Method(_) => words
+            .and("method ")
+            .and(name)
+            .and(" of ")
+            .and(value)
+            .and(" has other parameters or results than that of ")
+            .and(wanted),
+        Instead::Member(path) => words
+            .and(path.as_str())
+            .and(" of ")
+            .and(value)
+            .and(" is not the method ")
+            .and(name)
+            .and(" of ")
+            .and(wanted),
+        Instead::InCase(other) => words
+            .and(value)
+            .and(" has method ")
+            .and(*other)
+            .and(", but ")
+            .and(wanted)
+            .and(" wants ")
+            .and(name),
+        Instead::Nothing => words
+            .and(value)
+            .and(" has no method ")
+            .and(name)
+            .and(" of ")
+            .and(wanted),
     }
 }
 
@@ -229,37 +334,44 @@ fn add_deep(
     )
 }
 
+// Adds which method a value lacks of an interface type, or what it has in place of it.
+fn add_instead(
+    alloc: Global,
+    case: &Case<'_>,
+    asked: &Asked<'_>,
+    name: &str,
+    told: &str,
+    message: &mut Message,
+) -> Result<(), AllocError> {
+    let wanted = type_told(alloc, case, asked.wanted)?;
+    let found = in_place(alloc, asked, name)?;
+    message.note(lack_told(alloc, &found, name, told, wanted.as_str()))?;
+    match &found {
+        Instead::Method(has) => add_signatures(alloc, case, asked, name, *has, message),
+        _ => Ok(()),
+    }
+}
+
 // Adds which method a value lacks of an interface type.
 fn add_lacked(
     alloc: Global,
     case: &Case<'_>,
     asked: &Asked<'_>,
     name: &str,
-    written: &str,
     message: &mut Message,
 ) -> Result<(), AllocError> {
-    let value = type_told(alloc, case, asked.value)?;
-    if let Some(what) = deep_pointer(asked.table, asked.value) {
-        return add_deep(alloc, value.as_str(), what, message);
+    let told = type_told(alloc, case, asked.value.term)?;
+    let told = told.as_str();
+    if let Some(what) = deep_pointer(asked.table, asked.value.term) {
+        return add_deep(alloc, told, what, message);
     }
     if !asked.is_pointer && !is_interface(asked.table, asked.base) {
         let left = lacked(alloc, asked, true)?;
         if !is_named(&left, name) {
-            let has_all = left.is_none();
-            let value = value.as_str();
-            return add_by_pointer(alloc, case, name, value, has_all, written, message);
+            return add_by_pointer(alloc, name, told, asked.value, left.is_none(), message);
         }
     }
-    let wanted = type_told(alloc, case, asked.wanted)?;
-    let found = in_place(alloc, asked, name)?;
-    add_lack(
-        alloc,
-        &found,
-        name,
-        value.as_str(),
-        wanted.as_str(),
-        message,
-    )
+    add_instead(alloc, case, asked, name, told, message)
 }
 
 // Whether what is lacked has this name.
@@ -273,11 +385,11 @@ fn is_named(method: &Option<String>, name: &str) -> bool {
 // A value of a type where an interface type is wanted, in the package of a path.
 fn asked_of<'t>(
     table: &'t TypeTable,
-    value: &'t TypeTerm,
+    value: GivenValue<'t>,
     wanted: &'t TypeTerm,
     path: &'t ImportPath,
 ) -> Asked<'t> {
-    let (base, is_pointer) = pointed(value);
+    let (base, is_pointer) = pointed(value.term);
     let from = written_in(table, wanted, path);
     Asked {
         table,
@@ -289,8 +401,8 @@ fn asked_of<'t>(
     }
 }
 
-/// Adds which method a value of a type lacks where a type is wanted, with what to write where a pointer to the value has all; nothing where no interface type is
-/// wanted.
+/// Adds which method a value lacks where a type is wanted: with both signatures where it has another method of the name, and with what to write where a pointer to the
+/// value has all. Nothing where no interface type is wanted.
 ///
 /// The Go specification, "Implementing an interface".
 ///
@@ -300,18 +412,69 @@ fn asked_of<'t>(
 pub fn add_missing(
     alloc: Global,
     case: &Case<'_>,
-    value: &TypeTerm,
+    value: GivenValue<'_>,
     wanted: &TypeTerm,
-    written: &str,
     message: &mut Message,
 ) -> Result<(), AllocError> {
     let table = case.setting.table();
     if !is_interface(table, wanted) {
         return Ok(());
     }
-    let asked = asked_of(table, &*value, &*wanted, case.here.path());
+    let asked = asked_of(table, value, &*wanted, case.here.path());
     match lacked(alloc, &asked, asked.is_pointer)? {
-        Some(name) => add_lacked(alloc, case, &asked, name.as_str(), written, message),
+        Some(name) => add_lacked(alloc, case, &asked, name.as_str(), message),
         None => Ok(()),
     }
+}
+
+// The name of the first method that an interface type asks for; none where it asks for none.
+fn first_wanted<'t>(table: &'t TypeTable, wanted: &'t TypeTerm) -> Option<&'t str> {
+    match table.underlying(wanted) {
+        TypeTerm::Interface(_, methods) => Some(methods.first()?.name.as_str()),
+        TypeTerm::Error => Some("Error"),
+        _ => None,
+    }
+}
+
+/// Adds that an untyped value, of this type by itself, has no methods where an interface type with methods is wanted; nothing where none is wanted.
+///
+/// # Errors
+///
+/// `AllocError` where memory is wanting.
+pub(crate) fn add_no_methods<'t>(
+    alloc: Global,
+    case: &'t Case<'_>,
+    told: &str,
+    wanted: &'t TypeTerm,
+    message: &mut Message,
+) -> Result<(), AllocError> {
+    let Some(name) = first_wanted(case.setting.table(), wanted) else {
+        return Ok(());
+    };
+    let asked_by = type_told(alloc, case, wanted)?;
+    let found = Instead::Nothing;
+    message.note(lack_told(alloc, &found, name, told, asked_by.as_str()))
+}
+
+/// Adds that a value of an interface type is no value of another type without a type assertion; nothing where it has no interface type, or one is wanted.
+///
+/// The Go specification, "Type assertions".
+///
+/// # Errors
+///
+/// `AllocError` where memory is wanting.
+pub fn add_assertion(
+    alloc: Global,
+    case: &Case<'_>,
+    value: GivenValue<'_>,
+    wanted: &TypeTerm,
+    message: &mut Message,
+) -> Result<(), AllocError> {
+    let table = case.setting.table();
+    if is_interface(table, wanted) || !is_interface(table, value.term) {
+        return Ok(());
+    }
+    message.note(Words::new(alloc).and(
+        "a type assertion would be needed: Go has these, govisd does not support them yet",
+    ))
 }

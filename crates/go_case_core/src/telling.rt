@@ -266,3 +266,44 @@ pub(crate) fn results_of(
     }
     Ok(all)
 }
+
+// The results of a signature after its parameters: nothing where it has none, and in parentheses where it has several.
+fn results_told(
+    alloc: Global,
+    case: &Case<'_>,
+    signature: &Signature,
+) -> Result<String, AllocError> {
+    let types = results_of(alloc, signature)?;
+    let mut text = String::new(alloc);
+    if let Some(first) = types.first() {
+        text.push_str(" ")?;
+        if types.len() == 1 {
+            push_type(alloc, case, *first, &mut text)?;
+        } else {
+            let all = types_told(alloc, case, &types)?;
+            text.push_str(all.as_str())?;
+        }
+    }
+    Ok(text)
+}
+
+/// A method of a name with its signature, as an interface type lists it: `Area(int) string`.
+///
+/// # Errors
+///
+/// `AllocError` where memory is wanting.
+pub(crate) fn method_told(
+    alloc: Global,
+    case: &Case<'_>,
+    name: &str,
+    signature: &Signature,
+) -> Result<String, AllocError> {
+    let types = params_of(alloc, signature)?;
+    let params = types_told(alloc, case, &types)?;
+    let results = results_told(alloc, case, signature)?;
+    Words::new(alloc)
+        .and(name)
+        .and(params.as_str())
+        .and(results.as_str())
+        .text()
+}

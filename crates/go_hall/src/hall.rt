@@ -18,7 +18,7 @@ use go_path_core::text_core::Rule;
 use std::alloc::Global;
 use std::sync::atomic::{AtomicU64, Ordering};
 use std::sync::ledger::Blank;
-use std::sync::{Condvar, Mutex, Wait};
+use std::sync::{Condvar, Mutex, MutexGuard, Wait};
 
 /// The core, its history and the board, which sessions and workers share.
 pub struct Hall<L: Named> {
@@ -30,6 +30,8 @@ pub struct Hall<L: Named> {
     pub(crate) built: Condvar,
     // Takes in a row that were refused for want of memory. Nothing but when a build gives up rests on it.
     refused: AtomicU64,
+    // Sessions that wait for the lock. A worker that goes through packages which stay lets it go while there are any; nothing else rests on it.
+    waiting: AtomicU64,
 }
 
 // After so many Takes that were refused in a row builds give up. A worker tries once a millisecond.
@@ -43,6 +45,7 @@ impl<L: Named> Drop for Hall<L> {
             work: _,
             built: _,
             refused: _,
+            waiting: _,
         } = self;
     }
 }
@@ -73,6 +76,7 @@ impl<L: Named> Hall<L> {
             work: Condvar::new(),
             built: Condvar::new(),
             refused: AtomicU64::new(0),
+            waiting: AtomicU64::new(0),
         })
     }
 
@@ -92,7 +96,9 @@ impl<L: Named> Hall<L> {
             return Err(Rule::M0);
         };
         let draft = ModuleTree::make(self.alloc, again, Workspace::empty(self.alloc))?;
-        let (id, reader, mine) = self.state.lock(rt).open(own)?;
+        let opened = self.enter(rt).open(own);
+        self.work.notify_all();
+        let (id, reader, mine) = opened?;
         Ok(Session::new(self, self.alloc, id, draft, reader, mine))
     }
 
@@ -115,6 +121,7 @@ impl<L: Named> Hall<L> {
             work: _,
             built: _,
             refused: _,
+            waiting: _,
         } = self;
         state.into_inner().end(all)
     }
@@ -132,14 +139,33 @@ impl<L: Named> Hall<L> {
         ensures refused { OnErr result (mine.new.count ≡ mine.old.count) }
         ensures err { IfErr result (λ rule. IsSubmitRefusal id tree rule) }
     {
-        let answer = self.state.lock(rt).submit(mine, id, tree);
+        let answer = self.enter(rt).submit(mine, id, tree);
         self.work.notify_all();
         answer
     }
 
     // Closes a session, which hands its reader back.
     pub(crate) fn close<R: Wait>(&self, rt: &R, id: SessionId, reader: Option<BoardReader>) {
-        self.state.lock(rt).close(id, reader);
+        self.enter(rt).close(id, reader);
+        self.work.notify_all();
+    }
+
+    /// How many events the history has. Once it has 1,048,576, nothing is opened or submitted any more.
+    pub fn events<R: Wait>(&self, rt: &R) -> usize {
+        self.enter(rt).events()
+    }
+
+    // The lock, for a session. A worker that let it go looks again a millisecond later, or once it is waked.
+    fn enter<R: Wait>(&self, rt: &R) -> MutexGuard<'_, Counted<L>> {
+        let _before = self.waiting.fetch_add(1, Ordering::Relaxed);
+        let state = self.state.lock(rt);
+        let _before = self.waiting.fetch_sub(1, Ordering::Relaxed);
+        state
+    }
+
+    // Whether a session waits for the lock.
+    pub(crate) fn is_wanted(&self) -> bool {
+        self.waiting.load(Ordering::Relaxed) > 0
     }
 
     // Counts a Take that was refused for want of memory. Builds are waked where there were so many in a row that they give up.
@@ -163,7 +189,7 @@ impl<L: Named> Hall<L> {
     pub(crate) fn published<R: Wait>(&self, rt: &R, ticket: Ticket) -> Result<u64, Rule>
         ensures { IfErr result (λ rule. (rule ≡ Rule.M0) ⊎ (rule ≡ Rule.H2)) }
     {
-        let state = self.built.wait_while(rt, self.state.lock(rt), |state| {
+        let state = self.built.wait_while(rt, self.enter(rt), |state| {
             is_pending(state, ticket) && !self.is_starved()
         });
         match state.ticket(ticket) {

@@ -70,8 +70,21 @@ fn finish_standing<L: Named, R: Wait>(
     }
 }
 
-// Waits for the next action that has work to do: one whose part is known as it is taken is finished at once, where memory is at hand. `None` where
-// the hall is stopped. Where memory is wanting it tries again a millisecond later, or where something changed; builds give up after some seconds of that.
+// Ends an action whose part is known as it is taken. None where it has work to do, and where memory is wanting: the action is then as it was taken.
+fn finish_at_once<L: Named, R: Wait>(
+    rt: &R,
+    state: &mut Counted<L>,
+    errand: &Errand<L>,
+) -> Option<Reply> {
+    match errand.action.kept {
+        Some(place) => state.finish_kept(rt, place, errand.action.number),
+        None => finish_standing(rt, state, errand),
+    }
+}
+
+// Waits for the next action that has work to do. One whose part is known as it is taken is finished at once, where memory is at hand, and after it sessions
+// that wait for the lock have it. `None` where the hall is stopped. Where memory is wanting it tries again a millisecond later, or where something changed;
+// builds give up after some seconds of that.
 fn next<L: Named, R: Wait + Clock>(rt: &R, hall: &Hall<L>) -> Option<Errand<L>> {
     let mut state = hall.state.lock(rt);
     for _ in rt.forever() {
@@ -81,11 +94,7 @@ fn next<L: Named, R: Wait + Clock>(rt: &R, hall: &Hall<L>) -> Option<Errand<L>> 
         match state.take(rt) {
             Ok(errand) => {
                 hall.note_taken();
-                let kept = match errand.action.kept {
-                    Some(place) => state.finish_kept(rt, place, errand.action.number),
-                    None => finish_standing(rt, &mut state, &errand),
-                };
-                match kept {
+                match finish_at_once(rt, &mut state, &errand) {
                     None => {
                         // Others may be ready beside it.
                         hall.work.notify_all();
@@ -93,6 +102,12 @@ fn next<L: Named, R: Wait + Clock>(rt: &R, hall: &Hall<L>) -> Option<Errand<L>> 
                     }
                     Some(Reply::Published(_)) => hall.built.notify_all(),
                     Some(_) => {}
+                }
+                if hall.is_wanted() {
+                    state = hall
+                        .work
+                        .wait_timeout(rt, state, Duration::from_millis(1))
+                        .0;
                 }
             }
             Err(reply) => match reply {

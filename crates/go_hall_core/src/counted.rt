@@ -263,6 +263,13 @@ impl<L: Named> Counted<L> {
         self.state.is_stopped()
     }
 
+    /// How many events were accepted.
+    pub fn events(&self) -> usize
+        ensures { result ≡ length self.now.history }
+    {
+        self.state.events()
+    }
+
     /// As `HallState::ticket`.
     pub fn ticket(&self, ticket: Ticket) -> Option<TicketState>
         ensures { result ≡ ticket_of self.now.service ticket.0 }

@@ -358,6 +358,13 @@ impl HallState {
         self.stopped
     }
 
+    /// How many events were accepted.
+    pub fn events(&self) -> usize
+        ensures { result ≡ length self.now.history }
+    {
+        self.history.len()
+    }
+
     /// Where a submission stands.
     pub fn ticket(&self, ticket: Ticket) -> Option<TicketState>
         ensures { result ≡ ticket_of self.now.service ticket.0 }

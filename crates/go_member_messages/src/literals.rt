@@ -440,9 +440,9 @@ fn mark_extra(elements: &[Item], fields: usize, message: &mut Message) {
 // What stands in front of how many elements are there.
 fn here_is(count: usize) -> &'static str {
     if count == 1 {
-        return ", and here is ";
+        return ", but there is ";
     }
-    ", and here are "
+    ", but there are "
 }
 
 // A literal that would set a field which another package hides.
@@ -474,7 +474,7 @@ fn no_struct(
     };
     match &of.term {
         Some(term) => no_struct_type(alloc, case, words, of.written.as_str(), term),
-        None => Message::of(words.and(of.written.as_str()).and(" breaks a rule itself")),
+        None => Message::of(words.and(of.written.as_str()).and(" has a fault itself")),
     }
 }
 
@@ -486,7 +486,7 @@ fn no_struct_type(
     written: &str,
     term: &TypeTerm,
 ) -> Result<Message, AllocError> {
-    let mut message = Message::of(words.and(written).and(" is no struct type"))?;
+    let mut message = Message::of(words.and(written).and(" is not a struct type"))?;
     let under = under_told(alloc, &*case, &*term)?;
     if under.as_str() != written {
         message.note(

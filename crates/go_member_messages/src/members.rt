@@ -265,9 +265,8 @@ pub(crate) fn add_package(
     message.note(
         Words::new(alloc)
             .and(name)
-            .and(" is seen in package ")
-            .and(path.as_str())
-            .and(" alone"),
+            .and(" may be used only in package ")
+            .and(path.as_str()),
     )
 }
 
@@ -331,14 +330,14 @@ fn untyped(
     }
     match judged {
         Judged::Typeless => Message::of(words.and(
-            " has no type, since what gives it one breaks a rule",
+            " has no type, since what gives it one has a fault",
         )),
         Judged::Face(_)
         | Judged::Several(_)
         | Judged::Nothing
         | Judged::Package
         | Judged::Builtin(_)
-        | Judged::Refused => Message::of(words.and(" breaks a rule itself, and has no type")),
+        | Judged::Refused => Message::of(words.and(" has a fault itself, and so no type")),
     }
 }
 

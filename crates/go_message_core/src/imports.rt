@@ -33,7 +33,7 @@ pub(crate) fn of_import(alloc: Global, here: &Here<'_>, rule: Rule) -> Result<Me
         Rule::I6 => Message::of(
             Words::new(alloc)
                 .and(written.as_str())
-                .and(" is not checked, since its files make no package"),
+                .and(" is not checked: its files have a fault of K2, K3 or K4"),
         ),
         _ => unused(alloc, here, written.as_str(), path),
     }
@@ -65,12 +65,12 @@ fn why_no_path(path: &str) -> &'static str {
         return "an element is empty";
     }
     if path.contains(' ') {
-        return "a blank stands in it";
+        return "it has a space";
     }
     if path.contains('\\') {
-        return "a backslash stands in it: write /";
+        return "it has a backslash: write /";
     }
-    "its elements, at most 16, have letters, digits and - . _ ~ alone, and no dot at their ends"
+    "its 1 to 16 elements may have only letters, digits and - . _ ~, and no dot at their ends"
 }
 
 // An import of what is no path.
@@ -83,7 +83,7 @@ fn no_path(
     let mut message = Message::of(
         Words::new(alloc)
             .and(written)
-            .and(" is no import path: ")
+            .and(" is not an import path: ")
             .and(why_no_path(path)),
     )?;
     if let Some(below) = path.strip_prefix("./") {
@@ -196,7 +196,7 @@ fn other_or_standard(
     if package_at(here, full.as_str()).is_some() {
         let mut message = Message::of(
             Words::new(alloc).and(written).and(
-                " is no package: an import is written with the path of its module",
+                " is not a package: an import begins with the path of its module",
             ),
         )?;
         message.help(
@@ -231,9 +231,9 @@ fn internal(alloc: Global, written: &str, path: &str) -> Result<Message, AllocEr
     Message::of(
         Words::new(alloc)
             .and(written)
-            .and(": an internal package is for ")
+            .and(" is internal: only packages in ")
             .and(parent)
-            .and(" and what lies below it alone"),
+            .and(" and below it may import it"),
     )
 }
 
@@ -501,7 +501,7 @@ fn unused(
     match local_of(here, name) {
         Some(offset) => add_variable(alloc, here, name, offset, &mut message)?,
         None if is_other => add_clause(alloc, written, path, name, &mut message)?,
-        None => message.help(Words::new(alloc).and("take the import away"))?,
+        None => message.help(Words::new(alloc).and("remove the import"))?,
     }
     Ok(message)
 }
@@ -529,7 +529,7 @@ fn add_variable(
             .and(name)
             .and(" in ")
             .and(place.as_str())
-            .and(" is the variable declared there, and not the package"),
+            .and(" is the variable declared there, not the package"),
     )
 }
 

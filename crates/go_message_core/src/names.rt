@@ -45,7 +45,7 @@ fn undeclared(alloc: Global, here: &Here<'_>) -> Result<Message, AllocError> {
         let first = here.tokens.word(here.at.saturating_sub(1));
         message.help(
             Words::new(alloc)
-                .and("the name stands in front of its type: write ")
+                .and("the name comes before its type: write ")
                 .and(name)
                 .and(" ")
                 .and(first),
@@ -241,9 +241,9 @@ fn add_ended(
         Some(number) => {
             let place = place_here(alloc, here, here.tokens.start(number))?;
             let why = if local_here(here, name).is_some() {
-                " is declared by this statement, and known after it alone"
+                " is declared by this statement, and is in scope only after it"
             } else {
-                " is no longer known here: its block has ended"
+                " is not in scope here: its block has ended"
             };
             message.note(
                 Words::new(alloc)
@@ -305,7 +305,7 @@ fn package_as_value(alloc: Global, here: &Here<'_>) -> Result<Message, AllocErro
     let mut message = Message::of(
         Words::new(alloc)
             .and(name)
-            .and(" is a package, and no value"),
+            .and(" is a package, not a value"),
     )?;
     message.help(
         Words::new(alloc)
@@ -322,7 +322,7 @@ fn type_as_value(alloc: Global, here: &Here<'_>) -> Result<Message, AllocError> 
     let mut message = Message::of(
         Words::new(alloc)
             .and(name.as_str())
-            .and(" is a type, and no value"),
+            .and(" is a type, not a value"),
     )?;
     let after = here.at.saturating_add(1);
     if here.tokens.is(after, Operator::Dot) {
@@ -377,9 +377,9 @@ fn no_type(alloc: Global, here: &Here<'_>) -> Result<Message, AllocError> {
     let name = with_qualifier(alloc, here)?;
     let is_qualifier = here.tokens.is(here.at.saturating_add(1), Operator::Dot);
     let wanted = if is_qualifier {
-        ", and no package"
+        ", not a package"
     } else {
-        ", and no type"
+        ", not a type"
     };
     let Denoted {
         text,
@@ -448,7 +448,7 @@ fn predeclared_text(here: &Here<'_>, name: &str) -> &'static str {
         Some(found) => match found.kind() {
             PredeclaredKind::Type => "a predeclared type",
             PredeclaredKind::Constant => "a predeclared constant",
-            PredeclaredKind::Nil => "no value of one type",
+            PredeclaredKind::Nil => "a predeclared value",
             PredeclaredKind::Function => "a predeclared function",
         },
         None => "something else",
@@ -522,8 +522,9 @@ fn of_refused_import(alloc: Global, here: &Here<'_>) -> Result<Message, AllocErr
     let name = here.word();
     let mut message = Message::of(
         Words::new(alloc)
+            .and("the import of ")
             .and(name)
-            .and(" is the name of an import that is refused"),
+            .and(" has a fault"),
     )?;
     if let Some(place) = import_place(alloc, here, name)? {
         message.note(Words::new(alloc).and("imported at ").and(place.as_str()))?;

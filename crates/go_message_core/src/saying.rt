@@ -172,7 +172,7 @@ fn other_clause(alloc: Global, here: &Here<'_>) -> Result<Message, AllocError> {
         Words::new(alloc)
             .and("package ")
             .and(name)
-            .and(": the first file of this folder is of package ")
+            .and(": the first file of this folder says package ")
             .and(clause.name.as_str()),
     )?;
     let offset = clause.span.start as usize;

@@ -99,7 +99,7 @@ fn second_import(alloc: Global, here: &Here<'_>) -> Result<Message, AllocError> 
     let mut message = Message::of(
         Words::new(alloc)
             .and(written.as_str())
-            .and(": another import of this file brings the same name"),
+            .and(": another import of this file has the same name"),
     )?;
     message.at(LineKind::First, import_place(alloc, here, name)?)?;
     message.help(
@@ -190,7 +190,7 @@ fn no_entry(alloc: Global, here: &Here<'_>) -> Result<Message, AllocError> {
     let name = here.word();
     let why = match here.tokens.kind_before(here.at) {
         Some(TokenKind::Keyword(Keyword::Func)) => " has parameters or results",
-        _ => " is no function",
+        _ => " is not a function",
     };
     Message::of(
         Words::new(alloc)
@@ -212,7 +212,7 @@ fn nothing_new(alloc: Global, here: &Here<'_>) -> Result<Message, AllocError> {
     };
     let names = here.tokens.piece(here.at, last);
     if names == "_" {
-        return Message::of(Words::new(alloc).and(":= declares nothing: _ is no variable"));
+        return Message::of(Words::new(alloc).and(":= declares nothing: _ is not a variable"));
     }
     let be = if last == here.at { " is" } else { " are" };
     let mut message = Message::of(
@@ -470,12 +470,12 @@ fn add_type_place(
 fn no_receiver(alloc: Global, here: &Here<'_>) -> Result<Message, AllocError> {
     let name = here.word();
     let why = match own_decl(here, name) {
-        Some(_) => " is defined as a pointer or an interface type, or is no type",
+        Some(_) => " is defined as a pointer or an interface type, or is not a type",
         None => " is not a type that this package defines",
     };
     Message::of(
         Words::new(alloc)
-            .and("methods cannot be declared of ")
+            .and("methods cannot be declared on ")
             .and(name)
             .and(": it")
             .and(why),

@@ -1,13 +1,14 @@
-//! What is said of constants that are none, and of forms of Go that are not supported.
+//! What is said of constants that are none.
 
-use crate::operators::some_of;
+use crate::operators::{some_of, spine_of};
+use crate::overflow::{outside, overflowing};
+use crate::types::names_extent;
 use go_case_core::diagnostic_core::{Message, Words};
-use go_case_core::judge_core::{Judged, Piece, inside, operand_type};
-use go_case_core::{Case, is_nil, mark, type_told};
+use go_case_core::judge_core::{Extent, Judged, Piece, inside};
+use go_case_core::{Case, is_nil, mark};
 use go_operand_core::constant_core::Constant;
-use go_term_core::TypeTerm;
 use go_tree_nodes::token_core::Operator;
-use go_tree_nodes::{Expr, Simple, ValueKind, ValueSpec};
+use go_tree_nodes::{Expr, ValueKind, ValueSpec};
 use std::alloc::{AllocError, Global};
 
 /// What is said of an expression or a specification that breaks the rule Y7; none where no more is known of it.
@@ -20,7 +21,7 @@ pub fn of_constant(alloc: Global, case: &Case<'_>) -> Result<Option<Message>, Al
         return some_of(Message::of(
             Words::new(alloc)
                 .and(case.here.word())
-                .and(" is defined by itself"),
+                .and(" is defined through itself"),
         ));
     }
     let Some(expr) = case.beginning(alloc)? else {
@@ -29,8 +30,9 @@ pub fn of_constant(alloc: Global, case: &Case<'_>) -> Result<Option<Message>, Al
     if let Some(message) = division(expr, alloc, case)? {
         return Ok(Some(message));
     }
-    if let Some(message) = other_type(alloc, case)? {
-        return Ok(Some(message));
+    let spine = spine_of(alloc, expr)?;
+    if let Some(part) = overflowing(alloc, case, &spine)? {
+        return some_of(outside(alloc, case, part));
     }
     not_constant(alloc, case, expr)
 }
@@ -88,50 +90,37 @@ fn division(expr: &Expr, alloc: Global, case: &Case<'_>) -> Result<Option<Messag
     division(&binary.left, alloc, case)
 }
 
-// Whether an underlying type is one that constants may not have.
-fn is_other(under: &TypeTerm) -> bool {
-    match under {
-        TypeTerm::Error => true,
-        TypeTerm::Pointer(_) => true,
-        TypeTerm::Struct(_, _, _) => true,
-        TypeTerm::Interface(_, _) => true,
-        TypeTerm::NoType => false,
-        TypeTerm::Defined(_) => false,
-        TypeTerm::Basic(_) => false,
+// The type that a specification of constants writes, as it stands there; nothing where it writes none.
+fn written_type<'s>(case: &Case<'s>) -> &'s str {
+    match case.setting.piece() {
+        Some(Piece::Spec(ValueKind::Const, spec)) => type_written(case, spec),
+        _ => "",
     }
 }
 
-// A constant whose specification writes a type that constants may not have.
-fn other_type(alloc: Global, case: &Case<'_>) -> Result<Option<Message>, AllocError> {
-    let Some(Piece::Spec(ValueKind::Const, spec)) = case.setting.piece() else {
-        return Ok(None);
-    };
+/// The type that a specification writes, as it stands between its names and its values; nothing where it writes none, or gives no values.
+pub(crate) fn type_written<'s>(case: &Case<'s>, spec: &ValueSpec) -> &'s str {
     if spec.type_expr.is_none() {
-        return Ok(None);
+        return "";
     }
-    let Some(operand) = case.setting.declared_local(&spec.names.first) else {
-        return Ok(None);
+    let Some(values) = &spec.values else {
+        return "";
     };
-    match operand_type(operand) {
-        Some(term) if is_other(case.setting.table().underlying(term)) => {
-            let told = type_told(alloc, case, term)?;
-            let words = Words::new(alloc)
-                .and("a constant cannot be of type ")
-                .and(told.as_str());
-            some_of(Message::of(words.and(": its type is over bool, int or string")))
-        }
-        _ => Ok(None),
-    }
+    let at = Extent {
+        start: names_extent(&spec.names).end,
+        end: values.assign.start as usize,
+    };
+    case.source(at).trim()
 }
 
 // Why an expression is not constant, by its form.
 fn why_not(expr: &Expr) -> &'static str {
     match inside(expr) {
-        Expr::Call(_) => " is a call, and not constant",
+        Expr::Call(_) => " is a call, not a constant",
         Expr::Literal(_) => " is a struct: a constant is a bool, an int or a string",
         Expr::StructLiteral(_) => " is a struct: a constant is a bool, an int or a string",
-        Expr::Name(_) => " is a variable, and not constant",
-        Expr::Select(_) => " is a variable or a field, and not constant",
+        Expr::Name(_) => " is a variable, not a constant",
+        Expr::Select(_) => " is a variable or a field, not a constant",
         Expr::Integer(_, _) => " is not constant",
         Expr::Text(_) => " is not constant",
         Expr::Paren(_, _, _) => " is not constant",
@@ -140,7 +129,7 @@ fn why_not(expr: &Expr) -> &'static str {
     }
 }
 
-// An expression that is a value and no constant, or a constant outside the range of its type.
+// An expression that is a value and no constant, or a constant of a type that constants may not have.
 fn not_constant(
     alloc: Global,
     case: &Case<'_>,
@@ -150,11 +139,12 @@ fn not_constant(
     let Some(operand) = judged.value() else {
         return Ok(None);
     };
+    if operand.constant.is_some() {
+        return some_of(other_type(alloc, case));
+    }
     let written = case.shown(alloc, expr)?;
     let why = if is_nil(operand) {
         " is not constant"
-    } else if operand.constant.is_some() {
-        " is outside the range of its type"
     } else {
         why_not(expr)
     };
@@ -163,133 +153,12 @@ fn not_constant(
     Ok(Some(message))
 }
 
-/// What is said of an expression that breaks the rule X1; none where no more is known of it.
-///
-/// # Errors
-///
-/// `AllocError` where memory is wanting.
-pub fn of_unsupported(alloc: Global, case: &Case<'_>) -> Result<Option<Message>, AllocError> {
-    if let Some(message) = of_mark(alloc, case)? {
-        return Ok(Some(message));
-    }
-    let Some(expr) = case.beginning(alloc)? else {
-        return Ok(None);
-    };
-    if has_bit_operator(expr) || is_bit_update(case) {
-        return some_of(not_yet(alloc, case, expr, "shifts and bit operators"));
-    }
-    let judged = case.value(alloc, expr)?;
-    if case.setting.func().is_none() && judged.value().is_some() {
-        let form = "initialisers of package variables that are not constant";
-        return some_of(not_yet(alloc, case, expr, form));
-    }
-    some_of(outside(alloc, case, expr))
-}
-
-// A form by the expression whose mark stands at the place: a conversion of an int to a string, a bit operator in front, or a function that is not called.
-fn of_mark(alloc: Global, case: &Case<'_>) -> Result<Option<Message>, AllocError> {
-    let Some(expr) = case.marked(alloc, case.here.offset)? else {
-        return Ok(None);
-    };
-    match expr {
-        Expr::Call(_) => {
-            let form = "conversions of an int to a string";
-            some_of(not_yet(alloc, case, expr, form))
-        }
-        Expr::Unary(Operator::Caret, _, _) => {
-            some_of(not_yet(alloc, case, expr, "shifts and bit operators"))
-        }
-        Expr::Name(_) => function_value(alloc, case, expr),
-        Expr::Select(_) => function_value(alloc, case, expr),
-        _ => Ok(None),
-    }
-}
-
-// A function or a method that is not called; none where the expression is none.
-fn function_value(
-    alloc: Global,
-    case: &Case<'_>,
-    expr: &Expr,
-) -> Result<Option<Message>, AllocError> {
-    let judged = case.callee(alloc, expr)?;
-    if judged.signature().is_none() {
-        return Ok(None);
-    }
-    let mut message = not_yet(alloc, case, expr, "functions as values")?;
-    let written = case.shown(alloc, expr)?;
-    message.help(
+// A constant whose specification writes a type that constants may not have: what it is given is a constant.
+fn other_type(alloc: Global, case: &Case<'_>) -> Result<Message, AllocError> {
+    Message::of(
         Words::new(alloc)
-            .and("to call it, write ")
-            .and(written.as_str())
-            .and("(..)"),
-    )?;
-    Ok(Some(message))
-}
-
-// A form of Go that is not supported.
-fn not_yet(alloc: Global, case: &Case<'_>, expr: &Expr, form: &str) -> Result<Message, AllocError> {
-    let written = case.shown(alloc, expr)?;
-    let mut message = Message::of(
-        Words::new(alloc)
-            .and(written.as_str())
-            .and(": ")
-            .and(form)
-            .and(": Go has these, govisd does not support them yet"),
-    )?;
-    mark(expr, &mut message);
-    Ok(message)
-}
-
-// Whether an operator is a shift or goes by bits.
-fn is_bit_operator(operator: Operator) -> bool {
-    matches!(
-        operator,
-        Operator::ShiftLeft
-            | Operator::ShiftRight
-            | Operator::And
-            | Operator::Or
-            | Operator::Caret
-            | Operator::AndNot
+            .and("a constant cannot be of type ")
+            .and(written_type(case))
+            .and(": its type is bool, int, string or one defined from these"),
     )
-}
-
-// Whether a shift or a bit operator stands between operands of an expression that begin where it begins.
-fn has_bit_operator(expr: &Expr) -> bool {
-    match expr {
-        Expr::Binary(binary) => {
-            is_bit_operator(binary.operator) || has_bit_operator(&binary.left)
-        }
-        _ => false,
-    }
-}
-
-// Whether the statement at the place is a shift or a bit operator with `=`.
-fn is_bit_update(case: &Case<'_>) -> bool {
-    match case.setting.piece() {
-        Some(Piece::Simple(Simple::Update(update))) => matches!(
-            update.operator,
-            Operator::ShiftLeftAssign
-                | Operator::ShiftRightAssign
-                | Operator::AndNotAssign
-                | Operator::AndAssign
-                | Operator::OrAssign
-                | Operator::CaretAssign
-        ),
-        _ => false,
-    }
-}
-
-// A constant outside 64 bits.
-fn outside(alloc: Global, case: &Case<'_>, expr: &Expr) -> Result<Message, AllocError> {
-    let written = case.shown(alloc, expr)?;
-    let mut message = Message::of(
-        Words::new(alloc)
-            .and(written.as_str())
-            .and(" is outside the range of int"),
-    )?;
-    mark(expr, &mut message);
-    message.note(Words::new(alloc).and(
-        "constants have 64 bits, from -9223372036854775808 to 9223372036854775807",
-    ))?;
-    Ok(message)
 }

@@ -2,9 +2,13 @@
 #![tactic(auto)]
 
 mod constants;
+mod initial;
 mod operators;
+mod overflow;
 mod types;
+mod unsupported;
 
-pub use constants::{of_constant, of_unsupported};
+pub use constants::of_constant;
 pub use operators::of_operands;
 pub use types::of_type;
+pub use unsupported::of_unsupported;

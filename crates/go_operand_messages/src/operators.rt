@@ -1,9 +1,10 @@
 //! What is said of operands that do not fit.
 
 use go_case_core::diagnostic_core::{Message, Words};
-use go_case_core::judge_core::{Extent, Judged, Piece};
+use go_case_core::judge_core::{Extent, Judged, Piece, operand_type};
 use go_case_core::{
-    Case, article_of, is_nil, is_value, mark, mark_between, type_of, values_told, why_fixed,
+    Case, GivenValue, add_conversion, add_missing, article_of, is_nil, is_value, mark,
+    mark_between, type_of, values_told, why_fixed,
 };
 use go_expr_core::start;
 use go_operand_core::Operand;
@@ -67,8 +68,12 @@ fn of_piece(
     }
 }
 
-// The parts of an expression that begin where it begins, the widest first: left operands, what is called, what stands left of dots.
-fn spine_of(alloc: Global, widest: &Expr) -> Result<Vec<&Expr>, AllocError> {
+/// The parts of an expression that begin where it begins, the widest first: left operands, what is called, what stands left of dots.
+///
+/// # Errors
+///
+/// `AllocError` where memory is wanting.
+pub(crate) fn spine_of(alloc: Global, widest: &Expr) -> Result<Vec<&Expr>, AllocError> {
     let mut spine = Vec::new(alloc);
     add_spine(widest, &mut spine)?;
     Ok(spine)
@@ -212,20 +217,95 @@ fn two_operands(
         let sign = sign_of(case, binary.span);
         return unfit(alloc, whole, sign, one.as_str());
     }
-    let left_written = case.shown(alloc, &binary.left)?;
-    let right_written = case.shown(alloc, &binary.right)?;
+    let mut message = differing(alloc, case, whole, binary, one.as_str(), other.as_str())?;
+    add_fitting(alloc, case, binary, left, right, &mut message)?;
+    Ok(message)
+}
+
+// Two values of different types, each with what its type is told as.
+fn differing(
+    alloc: Global,
+    case: &Case<'_>,
+    whole: Words,
+    binary: &BinaryExpr,
+    one: &str,
+    other: &str,
+) -> Result<Message, AllocError> {
+    let left = case.shown(alloc, &binary.left)?;
+    let right = case.shown(alloc, &binary.right)?;
     Message::of(
         whole
-            .and(left_written.as_str())
+            .and(left.as_str())
             .and(" is ")
-            .and(article_of(one.as_str()))
-            .and(one.as_str())
+            .and(article_of(one))
+            .and(one)
             .and(", and ")
-            .and(right_written.as_str())
+            .and(right.as_str())
             .and(" ")
-            .and(article_of(other.as_str()))
-            .and(other.as_str()),
+            .and(article_of(other))
+            .and(other),
     )
+}
+
+// Adds why two values are not compared that are of different types, where one is of an interface type, and how one is converted to the type of the other.
+fn add_fitting(
+    alloc: Global,
+    case: &Case<'_>,
+    binary: &BinaryExpr,
+    left: &Operand<TypeTerm>,
+    right: &Operand<TypeTerm>,
+    message: &mut Message,
+) -> Result<(), AllocError> {
+    let one = case.shown(alloc, &binary.left)?;
+    let other = case.shown(alloc, &binary.right)?;
+    if is_equation(binary.operator) {
+        add_lack(alloc, case, one.as_str(), left, right, message)?;
+        if message.lines.is_empty() {
+            add_lack(alloc, case, other.as_str(), right, left, message)?;
+        }
+    }
+    add_converted(alloc, case, other.as_str(), right, left, message)
+}
+
+// Adds how a value is converted to the type of another, where both have the same one of bool, int and string under them.
+fn add_converted(
+    alloc: Global,
+    case: &Case<'_>,
+    written: &str,
+    operand: &Operand<TypeTerm>,
+    other: &Operand<TypeTerm>,
+    message: &mut Message,
+) -> Result<(), AllocError> {
+    match (operand_type(operand), operand_type(other)) {
+        (Some(term), Some(wanted)) => {
+            let value = GivenValue::new(term, written, operand.addressable);
+            add_conversion(alloc, case, value, wanted, message)
+        }
+        _ => Ok(()),
+    }
+}
+
+// Whether an operator asks whether two values are equal.
+fn is_equation(operator: Operator) -> bool {
+    matches!(operator, Operator::Equal | Operator::NotEqual)
+}
+
+// Adds which method a value lacks that is compared with one of an interface type; nothing where the other has no interface type.
+fn add_lack(
+    alloc: Global,
+    case: &Case<'_>,
+    written: &str,
+    operand: &Operand<TypeTerm>,
+    other: &Operand<TypeTerm>,
+    message: &mut Message,
+) -> Result<(), AllocError> {
+    match (operand_type(operand), operand_type(other)) {
+        (Some(term), Some(wanted)) => {
+            let value = GivenValue::new(term, written, operand.addressable);
+            add_missing(alloc, case, value, wanted, message)
+        }
+        _ => Ok(()),
+    }
 }
 
 // An operator as it is written.
@@ -302,9 +382,9 @@ fn of_unary(
     let is = is_value(alloc, case, name.as_str(), operand)?;
     let words = words
         .and(case.here.word())
-        .and(" wants ")
+        .and(" takes ")
         .and(wanted_by(operator))
-        .and(", and ")
+        .and(", but ")
         .and(is.as_str());
     some_of(Message::of(words))
 }
@@ -333,6 +413,11 @@ fn of_condition(
     let words = Words::new(alloc).and("the condition ").and(is.as_str());
     let mut message = Message::of(words.and(", not a bool"))?;
     mark(expr, &mut message);
+    let is_whole = !written.ends_with('.');
+    if is_whole && case.setting.basic_under(operand)? == Some(Basic::Int) {
+        let words = Words::new(alloc).and("write ").and(written.as_str());
+        message.help(words.and(" != 0, if that is meant"))?;
+    }
     Ok(Some(message))
 }
 
@@ -360,7 +445,7 @@ fn stepped(
         return some_of(Message::of(words));
     }
     let is = is_value(alloc, case, written, operand)?;
-    let words = words.and(sign).and(" wants an int, and ").and(is.as_str());
+    let words = words.and(sign).and(" takes an int, but ").and(is.as_str());
     some_of(Message::of(words))
 }
 
@@ -399,7 +484,7 @@ fn update_told(
     let one = type_of(alloc, case, left)?;
     let other = type_of(alloc, case, right)?;
     if one.as_str() != other.as_str() {
-        return Message::of(
+        let mut message = Message::of(
             whole
                 .and(target.as_str())
                 .and(" is ")
@@ -410,7 +495,9 @@ fn update_told(
                 .and(" ")
                 .and(article_of(other.as_str()))
                 .and(other.as_str()),
-        );
+        )?;
+        add_converted(alloc, case, value.as_str(), right, left, &mut message)?;
+        return Ok(message);
     }
     if !left.addressable {
         return Message::of(whole.and(target.as_str()).and(why_fixed(left)));

@@ -61,8 +61,8 @@ fn is_name(type_expr: &TypeExpr, name: &str) -> bool {
     }
 }
 
-// Where some names stand, with what stands between them.
-fn extent_of(idents: &Idents) -> Extent {
+/// Where some names stand, with what stands between them.
+pub(crate) fn names_extent(idents: &Idents) -> Extent {
     let end = match idents.more.last() {
         Some(next) => next.ident.span.end as usize,
         None => idents.first.span.end as usize,
@@ -78,7 +78,7 @@ fn field_of(line: &FieldLine, name: &str) -> Option<Extent> {
     match &line.fields {
         Fields::Named(idents, type_expr) => {
             if is_name(type_expr, name) {
-                return Some(extent_of(idents));
+                return Some(names_extent(idents));
             }
             None
         }
@@ -108,7 +108,7 @@ fn circle(alloc: Global, case: &Case<'_>) -> Result<Message, AllocError> {
         Some(spec) => own_field(spec),
         None => None,
     };
-    let words = Words::new(alloc).and("a pointer breaks the circle: ");
+    let words = Words::new(alloc).and("a pointer breaks the cycle: ");
     match own {
         Some(at) => message.help(words.and("write ").and(case.source(at)).and(" *").and(name))?,
         None => message.help(

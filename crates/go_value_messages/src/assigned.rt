@@ -67,7 +67,7 @@ fn given<'t>(alloc: Global, case: &Case<'_>, exprs: &'t Exprs) -> Result<Values<
     values_of(alloc, case, list)
 }
 
-/// How many values are there, in a sentence, where others are wanted: `and here are 2 values`, or of one call `and f() gives 2 values`.
+/// How many values are there, in a sentence, where others are wanted: `, but 2 values are given`, or of one call `, but f() gives 2 values`.
 ///
 /// # Errors
 ///
@@ -77,23 +77,27 @@ pub(crate) fn here_are(
     case: &Case<'_>,
     values: &Values<'_>,
 ) -> Result<String, AllocError> {
-    if let Some(call) = values.call() {
+    if let Some(call) = values.only_call() {
         let written = case.shown(alloc, call)?;
         let told = values_told(alloc, values.count())?;
         return Words::new(alloc)
-            .and(", and ")
+            .and(", but ")
             .and(written.as_str())
             .and(" gives ")
             .and(told.as_str())
             .text();
     }
     let be = if values.count() == 1 {
-        ", and here is "
+        " is given"
     } else {
-        ", and here are "
+        " are given"
     };
     let told = counted(alloc, values.count(), "value")?;
-    Words::new(alloc).and(be).and(told.as_str()).text()
+    Words::new(alloc)
+        .and(", but ")
+        .and(told.as_str())
+        .and(be)
+        .text()
 }
 
 // As many values as variables are not there.
@@ -123,18 +127,18 @@ fn clash(
         .and(article_of(wanted.as_str()))
         .and(wanted.as_str());
     if is_nil_at(values, found.number) {
-        let mut message = Message::of(words.and(", and cannot be nil"))?;
+        let mut message = Message::of(words.and(", which cannot be nil"))?;
         values.mark(found.number, &mut message);
         return Ok(message);
     }
     let right = values.is_text(alloc, case, found.number)?;
-    let mut message = Message::of(words.and(", and ").and(right.as_str()))?;
+    let mut message = Message::of(words.and(", but ").and(right.as_str()))?;
     add_why(alloc, case, values, found, &mut message)?;
     Ok(message)
 }
 
-// Whether the value of a number is `nil`.
-fn is_nil_at(values: &Values<'_>, number: usize) -> bool {
+/// Whether the value of a number is `nil`.
+pub(crate) fn is_nil_at(values: &Values<'_>, number: usize) -> bool {
     match values.operand(number) {
         Some(operand) => is_nil(operand),
         None => false,
@@ -227,7 +231,27 @@ fn not_assignable(
     let why = why_fixed_at(targets, number);
     let mut message = Message::of(Words::new(alloc).and(written.as_str()).and(why))?;
     mark(*expr, &mut message);
+    if let Some(call) = selected_call(*expr) {
+        let base = case.shown(alloc, call)?;
+        message.help(
+            Words::new(alloc)
+                .and("put ")
+                .and(base.as_str())
+                .and(" in a variable first"),
+        )?;
+    }
     Ok(Some(message))
+}
+
+// The call of whose value an expression is a field, or a field of a field; none of another expression.
+fn selected_call(expr: &Expr) -> Option<&Expr> {
+    match expr {
+        Expr::Select(select) => match &select.operand {
+            Expr::Call(_) => Some(&select.operand),
+            _ => selected_call(&select.operand),
+        },
+        _ => None,
+    }
 }
 
 // Why the target of a number cannot be assigned to.
@@ -319,7 +343,7 @@ fn nil_given(
 fn nil_without_type(alloc: Global, name: &str) -> Result<Message, AllocError> {
     let mut message = Message::of(
         Words::new(alloc)
-            .and("nil has no type, so that ")
+            .and("nil has no type, so ")
             .and(name)
             .and(" has none"),
     )?;

@@ -1,11 +1,12 @@
 //! What is said of calls.
 
-use crate::assigned::some_of;
+use crate::assigned::{is_nil_at, some_of};
 use go_case_core::diagnostic_core::{LineKind, Message, Words, digits, kind_text, own_decl};
 use go_case_core::judge_core::{inside, operand_type};
 use go_case_core::{
-    Case, Header, Misfit, Values, add_difference, add_missing, add_why, article_of, counted,
-    header_of, is_value, mark, misfit_in, params_of, type_of, type_told, types_told, values_of,
+    Case, GivenValue, Header, Misfit, Values, add_assertion, add_difference, add_missing, add_why,
+    article_of, counted, header_of, is_value, mark, misfit_in, params_of, type_of, type_told,
+    types_told, values_of,
 };
 use go_expr_core::operand_core::Operand;
 use go_term_core::{Signature, TypeTerm};
@@ -143,11 +144,17 @@ fn miscounted(
     let written = case.shown(alloc, &call.callee)?;
     let arguments = counted(alloc, wanted, "argument")?;
     let has = digits(alloc, values.count())?;
+    let front = if callee.type_term().is_some() {
+        "a conversion to "
+    } else {
+        ""
+    };
     let pieces = Words::new(alloc)
+        .and(front)
         .and(written.as_str())
-        .and(" wants ")
+        .and(" takes ")
         .and(arguments.as_str())
-        .and(", and has ")
+        .and(", but has ")
         .and(has.as_str());
     let mut message = Message::of(pieces)?;
     mark_count(call, &values, wanted, &mut message);
@@ -214,6 +221,16 @@ fn add_header(
     message: &mut Message,
 ) -> Result<(), AllocError> {
     message.line(LineKind::Want, Words::new(alloc).and(header.params()))?;
+    add_place(alloc, case, header, message)
+}
+
+// Adds where a function is declared.
+fn add_place(
+    alloc: Global,
+    case: &Case<'_>,
+    header: &Header<'_>,
+    message: &mut Message,
+) -> Result<(), AllocError> {
     let place = header.place(alloc, case)?;
     message.line(LineKind::Declared, Words::new(alloc).and(place.as_str()))
 }
@@ -252,8 +269,21 @@ fn misfit_of(
     let callee = case.shown(alloc, &call.callee)?;
     let which = which_argument(alloc, callee.as_str(), name, found.number)?;
     let mut message = misfit_message(alloc, case, which.as_str(), values, &found)?;
-    add_want(alloc, case, &call.callee, signature, &mut message)?;
+    match &header {
+        Some(header) if has_want(&message) => add_place(alloc, case, header, &mut message)?,
+        _ => add_want(alloc, case, &call.callee, signature, &mut message)?,
+    }
     Ok(Some(message))
+}
+
+// Whether a message says already what is wanted.
+fn has_want(message: &Message) -> bool {
+    for line in &message.lines {
+        if line.kind == LineKind::Want {
+            return true;
+        }
+    }
+    false
 }
 
 // What is said of a value that does not fit, after what says which it is.
@@ -264,8 +294,19 @@ fn misfit_message(
     values: &Values<'_>,
     found: &Misfit<'_>,
 ) -> Result<Message, AllocError> {
-    let is = values.is_text(alloc, case, found.number)?;
     let wanted = type_told(alloc, case, found.wanted)?;
+    if is_nil_at(values, found.number) {
+        let mut message = Message::of(
+            Words::new(alloc)
+                .and(which)
+                .and(article_of(wanted.as_str()))
+                .and(wanted.as_str())
+                .and(" cannot be nil"),
+        )?;
+        values.mark(found.number, &mut message);
+        return Ok(message);
+    }
+    let is = values.is_text(alloc, case, found.number)?;
     let mut message = Message::of(
         Words::new(alloc)
             .and(which)
@@ -328,9 +369,9 @@ fn predeclared_wants_other(
     };
     let pieces = Words::new(alloc)
         .and(callee.as_str())
-        .and(" wants ")
+        .and(" takes ")
         .and(predeclared_wants(callee.as_str()))
-        .and(", and ")
+        .and(", but ")
         .and(what.as_str());
     let mut message = Message::of(pieces)?;
     values.mark(other, &mut message);
@@ -399,9 +440,11 @@ fn conversion_of(
             .and(wanted.as_str()),
     )?;
     mark(argument, &mut message);
-    if let Some(value) = operand_type(operand) {
-        add_missing(alloc, case, value, target, written.as_str(), &mut message)?;
-        add_difference(alloc, case, value, target, &mut message)?;
+    if let Some(term) = operand_type(operand) {
+        let value = GivenValue::new(term, written.as_str(), operand.addressable);
+        add_missing(alloc, case, value, target, &mut message)?;
+        add_assertion(alloc, case, value, target, &mut message)?;
+        add_difference(alloc, case, term, target, &mut message)?;
     }
     Ok(message)
 }

@@ -1,6 +1,6 @@
 //! What is said of statements: what functions return, their ends, and what stands alone.
 
-use crate::assigned::{here_are, of_values, some_of};
+use crate::assigned::{here_are, is_nil_at, of_values, some_of};
 use crate::own::{own_function, results_of};
 use go_case_core::diagnostic_core::{LineKind, Message, Words, digits, shown};
 use go_case_core::judge_core::{Piece, exprs_of};
@@ -58,7 +58,7 @@ fn returned(
                 .and(func.name.name.as_str())
                 .and(" returns ")
                 .and(results)
-                .and(", and here is no value"),
+                .and(", but no value is given"),
         )),
     }
 }
@@ -76,7 +76,7 @@ fn returned_values(
         let mut message = Message::of(
             Words::new(alloc)
                 .and(name)
-                .and(" returns nothing, and here is a value"),
+                .and(" returns nothing, but a value is given"),
         )?;
         values.mark_from(0, &mut message);
         return Ok(Some(message));
@@ -164,7 +164,6 @@ fn result_told(
             .and(" returns ")
             .and(article_of(wanted))
             .and(wanted)
-            .and(", and ")
             .text();
     }
     let which = digits(alloc, number.saturating_add(1))?;
@@ -176,7 +175,6 @@ fn result_told(
         .and(" is ")
         .and(article_of(wanted))
         .and(wanted)
-        .and(", and ")
         .text()
 }
 
@@ -191,8 +189,14 @@ fn value_told(
 ) -> Result<Message, AllocError> {
     let wanted = type_told(alloc, case, found.wanted)?;
     let front = result_told(alloc, name, wanted.as_str(), found.number, count)?;
+    let words = Words::new(alloc).and(front.as_str());
+    if is_nil_at(values, found.number) {
+        let mut message = Message::of(words.and(", which cannot be nil"))?;
+        values.mark(found.number, &mut message);
+        return Ok(message);
+    }
     let is = values.is_text(alloc, case, found.number)?;
-    let mut message = Message::of(Words::new(alloc).and(front.as_str()).and(is.as_str()))?;
+    let mut message = Message::of(words.and(", but ").and(is.as_str()))?;
     add_why(alloc, case, values, found, &mut message)?;
     Ok(message)
 }
@@ -208,7 +212,7 @@ fn open_end(alloc: Global, case: &Case<'_>) -> Result<Option<Message>, AllocErro
             .and(func.name.name.as_str())
             .and(" returns ")
             .and(results.as_str())
-            .and(", and its end can be reached without a return"),
+            .and(", but its end can be reached without a return"),
     )?;
     if let Some(line) = func.body.last() {
         add_why_open(alloc, &line.stmt, &mut message)?;
@@ -219,15 +223,23 @@ fn open_end(alloc: Global, case: &Case<'_>) -> Result<Option<Message>, AllocErro
 // Adds why the end after a statement can be reached, where that is an `if` or a `for`.
 fn add_why_open(alloc: Global, stmt: &Stmt, message: &mut Message) -> Result<(), AllocError> {
     match stmt {
-        Stmt::If(branch) => match &branch.otherwise {
-            Otherwise::Nothing => {
-                message.note(Words::new(alloc).and("the if at its end has no else"))
-            }
-            Otherwise::Block(_, _, _, _) => Ok(()),
-            Otherwise::If(_, _) => Ok(()),
-        },
+        Stmt::If(branch) if lacks_else(&branch.otherwise) => {
+            message.note(Words::new(alloc).and("the if at its end has no else"))
+        }
+        Stmt::If(_) => message.note(Words::new(alloc).and(
+            "one branch of the if at its end can be left without a return",
+        )),
         Stmt::For(turns) => message.note(Words::new(alloc).and(why_it_ends(&turns.head))),
         _ => Ok(()),
+    }
+}
+
+// Whether an `if` has no `else`, or ends with an `else if` that has none, by what stands after its block.
+fn lacks_else(otherwise: &Otherwise) -> bool {
+    match otherwise {
+        Otherwise::Nothing => true,
+        Otherwise::Block(_, _, _, _) => false,
+        Otherwise::If(_, branch) => lacks_else(&branch.otherwise),
     }
 }
 
@@ -259,12 +271,12 @@ fn header_keyword(case: &Case<'_>, open: usize) -> Option<Keyword> {
 // A `break` or `continue` outside loops.
 fn stray(alloc: Global, case: &Case<'_>) -> Result<Message, AllocError> {
     let word = case.here.word();
-    let mut message = Message::of(Words::new(alloc).and(word).and(" stands in no for loop"))?;
+    let mut message = Message::of(Words::new(alloc).and(word).and(" is not in a for loop"))?;
     if let Some(open) = case.here.tokens.open_round(case.here.at) {
         if header_keyword(case, open) == Some(Keyword::If) {
             message.note(
                 Words::new(alloc)
-                    .and("an if is no loop: ")
+                    .and("an if is not a loop: ")
                     .and(word)
                     .and(" needs a for around it"),
             )?;

@@ -11,7 +11,7 @@ use Rattle.govisd_words.specs.declared.words.ValueOption.{ValueOption}
 use Rattle.govisd_words.specs.declared.words.ValueOption.TheVariants.{Workers}
 use Rattle.govisd_words.specs.declared.words.Waits.{Waits}
 use Rattle.govisd_words.specs.declared.words.Request.{Request}
-use Rattle.govisd_words.specs.declared.words.Request.TheVariants.{Resolve, Explain, Check, Run, Script, Serve, Help, Version, BadValue}
+use Rattle.govisd_words.specs.declared.words.Request.TheVariants.{Resolve, Explain, Check, Run, Editor, Script, Serve, Help, Version, BadValue}
 use Rattle.govisd_words.specs.Asking.{Asks, ToRefuse, ToScript, ToServe, command_line, asked_by_subcommand as asked_by, refusals, said, script_with, serve_with, usual_waits}
 use Rattle.govisd.specs.Daemons.{Scripts, Serves}
 use Rattle.govisd.specs.Runs.{Around, Does, RefusesValue, RefusesNowhere, RefusesWorkers, Runs, ScriptsAlone, ScriptsEach, ServesAsTold, ServesEach}
@@ -34,6 +34,7 @@ module _ (among : Around) (ran : Ran) (given left out out' err err' : Option (Li
   scripts (Run order) workers is h = absurd (cc)
   scripts (Check order) workers is h = absurd (cc)
   scripts (Script count) workers is h = h
+  scripts Editor workers is h = absurd (cc)
   scripts (Serve daemon) workers is h = absurd (cc)
   scripts (Help topic) workers is h = absurd (cc)
   scripts Version workers is h = absurd (cc)
@@ -45,6 +46,7 @@ module _ (among : Around) (ran : Ran) (given left out out' err err' : Option (Li
   serves (Run order) address workers connections waits until is h = absurd (cc)
   serves (Check order) address workers connections waits until is h = absurd (cc)
   serves (Script count) address workers connections waits until is h = absurd (cc)
+  serves Editor address workers connections waits until is h = absurd (cc)
   serves (Serve daemon) address workers connections waits until is h = (subst (λ a. Serves a ran err err') (same_address _ address _ workers _ connections _ waits _ until is) h.0, h.1, h.2)
   serves (Help topic) address workers connections waits until is h = absurd (cc)
   serves Version address workers connections waits until is h = absurd (cc)
@@ -56,6 +58,7 @@ module _ (among : Around) (ran : Ran) (given left out out' err err' : Option (Li
   refuses (Run order) option is h = absurd (cc)
   refuses (Check order) option is h = absurd (cc)
   refuses (Script count) option is h = absurd (cc)
+  refuses Editor option is h = absurd (cc)
   refuses (Serve daemon) option is h = absurd (cc)
   refuses (Help topic) option is h = absurd (cc)
   refuses Version option is h = absurd (cc)

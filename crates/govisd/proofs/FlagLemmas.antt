@@ -11,7 +11,7 @@ use Rattle.clap.specs.declared.error.kind.ErrorKind.TheVariants as kind
 use Rattle.clap.proofs.OnLiterals.{clap_on_literals}
 use Rattle.govisd.specs.declared.program.Ran.{Ran}
 use Rattle.govisd_words.specs.declared.words.Request.{Request}
-use Rattle.govisd_words.specs.declared.words.Request.TheVariants.{Resolve, Explain, Check, Run, Script, Serve, Help, Version, BadValue}
+use Rattle.govisd_words.specs.declared.words.Request.TheVariants.{Resolve, Explain, Check, Run, Editor, Script, Serve, Help, Version, BadValue}
 use Rattle.govisd_words.specs.Asking.{Asks, ToHelp, ToResolve, ToTellVersion, command_behind, command_line, asked_by_subcommand as asked_by, refusals, said}
 use Rattle.govisd.specs.Runs.{Around, Does, HelpsAlone, HelpsByFlag, Refuses, RefusesFor, RefusesNothing, RefusesWordBehind, Resolves, ResolvesAlone, Runs, ShowsOrRunsOut, ShowsText, TellsVersion}
 use Rattle.govisd.specs.Says.{RunsOut}
@@ -62,6 +62,7 @@ module _ (among : Around) (ran : Ran) (given left out out' err err' : Option (Li
   resolves (Help topic) is h = absurd (cc)
   resolves Version is h = absurd (cc)
   resolves (Script workers) is h = absurd (cc)
+  resolves Editor is h = absurd (cc)
   resolves (Serve daemon) is h = absurd (cc)
   resolves (BadValue option) is h = absurd (cc)
 
@@ -73,6 +74,7 @@ module _ (among : Around) (ran : Ran) (given left out out' err err' : Option (Li
   tells (Help topic) is h = absurd (cc)
   tells Version is h = h
   tells (Script workers) is h = absurd (cc)
+  tells Editor is h = absurd (cc)
   tells (Serve daemon) is h = absurd (cc)
   tells (BadValue option) is h = absurd (cc)
 
@@ -172,10 +174,10 @@ no_help e = cc
 no_version : kind.MissingSubcommand ≢ kind.DisplayVersion
 no_version e = cc
 
-unknown_no_help : kind.UnknownArgument ≢ kind.DisplayHelp
+pub unknown_no_help : kind.UnknownArgument ≢ kind.DisplayHelp
 unknown_no_help e = cc
 
-unknown_no_version : kind.UnknownArgument ≢ kind.DisplayVersion
+pub unknown_no_version : kind.UnknownArgument ≢ kind.DisplayVersion
 unknown_no_version e = cc
 
 pub nothing_refused : (among : Around) → RefusesNothing among

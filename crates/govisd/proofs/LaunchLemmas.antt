@@ -6,7 +6,7 @@ use Rattle.clap.specs.Walk.{Text}
 use Rattle.govisd.specs.declared.program.Ran.{Ran}
 use Rattle.govisd_words.specs.declared.words.ValueOption.TheVariants.{Steps}
 use Rattle.govisd_words.specs.declared.words.Request.{Request}
-use Rattle.govisd_words.specs.declared.words.Request.TheVariants.{Resolve, Explain, Check, Run, Script, Serve, Help, Version, BadValue}
+use Rattle.govisd_words.specs.declared.words.Request.TheVariants.{Resolve, Explain, Check, Run, Editor, Script, Serve, Help, Version, BadValue}
 use Rattle.govisd_words.specs.Asking.{ToRun, command_line, asked_by_subcommand as asked_by, refusals, run_with, said}
 use Rattle.govisd.specs.Launches.{RunsFolder}
 use Rattle.govisd.specs.Runs.{Around, Does, RefusesSteps, Runs, RunsAsTold, RunsEach}
@@ -41,6 +41,7 @@ module _ (among : Around) (ran : Ran) (given left out out' err err' : Option (Li
       let of_main = subst (λ m. RunsFolder among.launches folder path m order.steps ran out out' err err') (same_main _ folder _ path _ main _ steps _ workers is) of_module in
       (subst (λ n. RunsFolder among.launches folder path main n ran out out' err err') (same_steps _ folder _ path _ main _ steps _ workers is) of_main, h.1)
   launches (Script count) folder path main steps workers is h = absurd (cc)
+  launches Editor folder path main steps workers is h = absurd (cc)
   launches (Serve daemon) folder path main steps workers is h = absurd (cc)
   launches (Help topic) folder path main steps workers is h = absurd (cc)
   launches Version folder path main steps workers is h = absurd (cc)

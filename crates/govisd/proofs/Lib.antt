@@ -1,4 +1,5 @@
 pub mod DaemonLemmas
+pub mod EditorLemmas
 pub mod FlagLemmas
 pub mod LaunchLemmas
 pub mod MadeLemmas

@@ -11,12 +11,12 @@ use Rattle.clap.proofs.OnLiterals.{clap_on_literals}
 use Rattle.go_text_core.specs.Rules.{rule_number}
 use Rattle.go_text_core.specs.declared.rule.Rule.{Rule}
 use Rattle.go_explain_core.specs.Naming.{rule_of_number}
-use Rattle.go_explain_core.specs.Telling.{explained_text, json_line, json_list, list_text, listed_text, told_text, unknown_text}
+use Rattle.go_explain_core.specs.Telling.{listed_text, told_text, unknown_text}
 use Rattle.go_explain_core.proofs.Everywhere.{everywhere}
 use Rattle.go_explain_core.proofs.Numbers.{names_each}
 use Rattle.govisd.specs.declared.program.Ran.{Ran}
 use Rattle.govisd_words.specs.declared.words.Request.{Request}
-use Rattle.govisd_words.specs.declared.words.Request.TheVariants.{Resolve, Explain, Check, Run, Script, Serve, Help, Version, BadValue}
+use Rattle.govisd_words.specs.declared.words.Request.TheVariants.{Resolve, Explain, Check, Run, Editor, Script, Serve, Help, Version, BadValue}
 use Rattle.govisd_words.specs.Asking.{Asks, ToCheck, ToExplain, ToHelp, is_plain, command_line, asked_by_subcommand as asked_by, refusals, said}
 use Rattle.go_folder_core.specs.declared.orders.Style.{Style}
 use Rattle.govisd_words.specs.Styles.{json_style, plain_style}
@@ -66,6 +66,7 @@ module _ (among : Around) (ran : Ran) (given left out out' err err' : Option (Li
   explains (Help topic) word told is h = absurd (cc)
   explains Version word told is h = absurd (cc)
   explains (Script workers) word told is h = absurd (cc)
+  explains Editor word told is h = absurd (cc)
   explains (Serve daemon) word told is h = absurd (cc)
   explains (BadValue option) word told is h = absurd (cc)
 
@@ -77,6 +78,7 @@ module _ (among : Around) (ran : Ran) (given left out out' err err' : Option (Li
   helps (Help topic) word is h = (subst (λ w. Helps w ran out out' err err') (same_topic _ word is) h.0, h.1)
   helps Version word is h = absurd (cc)
   helps (Script workers) word is h = absurd (cc)
+  helps Editor word is h = absurd (cc)
   helps (Serve daemon) word is h = absurd (cc)
   helps (BadValue option) word is h = absurd (cc)
 
@@ -92,6 +94,7 @@ module _ (among : Around) (ran : Ran) (given left out out' err err' : Option (Li
   checks (Help topic) folder path style workers is h = absurd (cc)
   checks Version folder path style workers is h = absurd (cc)
   checks (Script count) folder path style workers is h = absurd (cc)
+  checks Editor folder path style workers is h = absurd (cc)
   checks (Serve daemon) folder path style workers is h = absurd (cc)
   checks (BadValue option) folder path style workers is h = absurd (cc)
 

@@ -1,4 +1,5 @@
 pub mod Daemons
+pub mod Editors
 pub mod Launches
 pub mod Runs
 pub mod Says

@@ -1,5 +1,5 @@
 -- What the program does: its status, what it writes and where, and what it reads.
-use Rattle.std.specs.Prelude.{◌≡◌, ◌+◌, ◌++◌, ◌⊎◌, ℕ, Bool, true, false, List, [], ◌∷◌, take, Option, Some, None, Result, Ok, Err, IfSome, MatchResult, codes, option_map, string_bytes}
+use Rattle.std.specs.Prelude.{◌≡◌, ◌+◌, ◌++◌, ◌⊎◌, ℕ, Bool, true, List, [], ◌∷◌, take, Option, Some, None, Result, Ok, Err, IfSome, MatchResult, codes, option_map, string_bytes}
 use Rattle.std.specs.Io.KnownBytes.{Appends, Keeps}
 use Rattle.std.specs.declared.string.String.{String}
 use Rattle.clap.specs.Walk.{Text}
@@ -16,7 +16,7 @@ use Rattle.govisd.specs.declared.program.Ran.{Ran}
 use Rattle.govisd_words.specs.declared.words.ValueOption.{ValueOption}
 use Rattle.govisd_words.specs.declared.words.ValueOption.TheVariants.{Workers, Steps}
 use Rattle.govisd_words.specs.declared.words.Request.{Request}
-use Rattle.govisd_words.specs.declared.words.Request.TheVariants.{Resolve, Explain, Check, Run, Script, Serve, Help, Version, BadValue}
+use Rattle.govisd_words.specs.declared.words.Request.TheVariants.{Resolve, Explain, Check, Run, Editor, Script, Serve, Help, Version, BadValue}
 use Rattle.go_explain_core.specs.Naming.{rule_of_number}
 use Rattle.govisd_folders.specs.Checks.{IsAnswerOfCheck}
 use Rattle.govisd_folders.specs.declared.checking.CheckAnswer.{CheckAnswer}
@@ -28,6 +28,7 @@ use Rattle.govisd_words.specs.Counts.{connections_in, steps_in, workers_in}
 use Rattle.govisd_words.specs.Styles.{json_style, plain_style}
 use Rattle.go_folder_core.specs.declared.orders.Style.{Style}
 use Rattle.govisd.specs.Daemons.{Scripts, Serves}
+use Rattle.govisd.specs.Editors.{ServesEditor}
 use Rattle.govisd.specs.Launches.{Launching, RunsFolder}
 use Rattle.govisd.specs.Says.{RunsOut, SaysText, SaysUnwritten, WritesAnswer}
 use Rattle.govisd_words.specs.Statuses.{end_status, refusal_status}
@@ -131,6 +132,7 @@ Does among (Ok (Check order)) ran given left out out' err err' =
     ChecksFolder among.answers order.folder.now order.style (option_map (λ word. word.now) order.module_path) ran out out' err err' × Keeps given left
 Does among (Ok (Run order)) ran given left out out' err err' =
     RunsFolder among.launches order.folder.now (option_map (λ word. word.now) order.module_path) (option_map (λ word. word.now) order.main_path) order.steps ran out out' err err' × Keeps given left
+Does among (Ok Editor) ran given left out out' err err' = ServesEditor ran err err'
 Does among (Ok (Script workers)) ran given left out out' err err' = Scripts ran given left out out' err err'
 Does among (Ok (Serve daemon)) ran given left out out' err err' =
     Serves daemon.address.now ran err err' × Keeps out out' × Keeps given left
@@ -271,3 +273,18 @@ RunsAsTold among =
 abbrev pub RefusesSteps : Around → Type 0
 RefusesSteps among =
     (program folder count : Text) → is_plain folder ≡ true → is_plain count ≡ true → steps_in (Some count) ≡ None → RunsFor among (command_line program (codes "run" ∷ (folder ∷ (codes "--steps" ∷ (count ∷ []))))) (λ ran out out' err err'. (RefusesValue Steps ran err err' ⊎ RunsOut ran err err') × Keeps out out')
+
+-- `lsp` alone serves an editor, where memory does not run out before
+abbrev pub ServesEditorAlone : Around → Type 0
+ServesEditorAlone among =
+    (program : Text) (ran : Ran) (given left out out' err err' : Option (List ℕ)) → Runs among (command_line program (codes "lsp" ∷ [])) ran given left out out' err err' → ServesEditor ran err err' ⊎ (RunsOut ran err err' × Keeps out out' × Keeps given left)
+
+-- and so does `lsp --stdio`
+abbrev pub ServesEditorOnStdio : Around → Type 0
+ServesEditorOnStdio among =
+    (program : Text) (ran : Ran) (given left out out' err err' : Option (List ℕ)) → Runs among (command_line program (codes "lsp" ∷ (codes "--stdio" ∷ []))) ran given left out out' err err' → ServesEditor ran err err' ⊎ (RunsOut ran err err' × Keeps out out' × Keeps given left)
+
+-- but a line of `lsp` with a word behind it is refused
+abbrev pub RefusesEditorWord : Around → Type 0
+RefusesEditorWord among =
+    (program word : Text) → is_plain word ≡ true → RunsFor among (command_line program (codes "lsp" ∷ (word ∷ []))) (RefusesFor UnknownArgument)

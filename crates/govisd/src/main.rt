@@ -2,11 +2,15 @@
 #![tactic(auto)]
 
 mod daemons;
+mod editing;
 mod launches;
 mod program;
 mod watching;
 
 use daemons::Watches;
+use go_graph_core::Workspace;
+use govisd_editor::Disk;
+use govisd_editor::host::HostDisk;
 use govisd_folders::runs::{RunOrder, run_folder};
 use govisd_folders::{CheckAnswer, Order, check_folder};
 use govisd_words::unread_status;
@@ -53,6 +57,16 @@ impl<T: Threads> Launches for Folders<'_, T> {
 impl<T: Threads> Watches for Folders<'_, T> {
     fn watch(&self) -> Result<Arc<AtomicBool, Global>, AllocError> {
         watch(self.rt.alloc(), self.threads, self.rt.stdin())
+    }
+}
+
+impl<T: Threads> Disk for Folders<'_, T> {
+    fn packages(&self, folder: &str, module: &str) -> Result<Option<Workspace>, AllocError> {
+        HostDisk::new(self.rt).packages(folder, module)
+    }
+
+    fn text(&self, path: &str) -> Option<String> {
+        HostDisk::new(self.rt).text(path)
     }
 }
 

@@ -5,14 +5,16 @@ ghost use Rattle.std.specs.Result.{result_ok};
 ghost use Rattle.govisd_folders.specs.Checks.{IsAnswerOfCheck};
 ghost use Rattle.govisd_words.specs.Texts.{refused_text as text_of_refused};
 ghost use Rattle.govisd_words.specs.Asking.{is_script};
-ghost use Rattle.govisd.specs.Runs.{ChecksEach, ChecksEachAsJson, ChecksEachModule, ChecksFolder, ChecksHere, Does, Explains, Helps, Refuses, RefusesValue, RefusesMade, Resolves, Runs, ShowsText, ShowsMade, ExplainsEach, ExplainsEachAsJson, HelpsAlone, HelpsByFlag, HelpsEach, ListsAll, ListsAllAsJson, RefusesNothing, RefusesNowhere, RefusesOtherCommands, RefusesOthers, RefusesSteps, RefusesWordBehind, RefusesWorkers, ResolvesAlone, RunsAsTold, RunsEach, ScriptsAlone, ScriptsEach, ServesAsTold, ServesEach, TellsVersion, around};
+ghost use Rattle.govisd.specs.Runs.{ChecksEach, ChecksEachAsJson, ChecksEachModule, ChecksFolder, ChecksHere, Does, Explains, Helps, Refuses, RefusesValue, RefusesMade, Resolves, Runs, ShowsText, ShowsMade, ExplainsEach, ExplainsEachAsJson, HelpsAlone, HelpsByFlag, HelpsEach, ListsAll, ListsAllAsJson, RefusesEditorWord, RefusesNothing, RefusesNowhere, RefusesOtherCommands, RefusesOthers, RefusesSteps, RefusesWordBehind, RefusesWorkers, ResolvesAlone, RunsAsTold, RunsEach, ScriptsAlone, ScriptsEach, ServesAsTold, ServesEach, ServesEditorAlone, ServesEditorOnStdio, TellsVersion, around};
 ghost use Rattle.govisd.specs.Says.{RunsOut, SaysText, SaysUnwritten, WritesAnswer};
 
 use crate::daemons::{Watches, script, serve};
+use crate::editing::serve_editor;
 use crate::launches::{Launches, launch};
 use clap::Error;
 use clap::error::ErrorKind;
 use go_explain_core::{explained, listed, rule_named, unknown};
+use govisd_editor::Disk;
 use govisd_folders::{CheckAnswer, Order};
 use govisd_resolve::{ResolveEnd, run_resolve, write_report};
 use govisd_words::{
@@ -241,7 +243,7 @@ fn refuse_value<E: Write>(err: &mut E, option: ValueOption) -> Ran
 
 // Does what is asked for, but for a script.
 fn answer<
-    C: Checks + Launches + Watches,
+    C: Checks + Launches + Watches + Disk,
     T: Net<Listener = TcpListener, Stream = TcpStream> + Threads + Wait + Clock + Eprint + Sync,
     R: Read,
     W: Write,
@@ -264,6 +266,7 @@ fn answer<
         Request::Explain(word, is_json) => explain_rule(alloc, out, err, word, is_json),
         Request::Check(order) => check(checks, out, err, &order),
         Request::Run(order) => launch(checks, out, err, &order),
+        Request::Editor => serve_editor(alloc, checks, reader, out, err),
         Request::Serve(daemon) => serve(rt, alloc, err, checks, &daemon),
         Request::Help(topic) => help(alloc, out, err, topic),
         Request::Version => show(out, err, version_text()),
@@ -272,11 +275,11 @@ fn answer<
 }
 
 /// What the program does for the words of its command line, of which the first is its name: a run of `resolve` or a script
-/// from the reader to the first writer, the check or the run of the folder that the words name, a daemon, what a rule means, its help or its version on the
-/// first writer, or a refusal. What there is to say beside goes to the second writer.
+/// from the reader to the first writer, an editor that is served there, the check or the run of the folder that the words name, a daemon, what a rule means,
+/// its help or its version on the first writer, or a refusal. What there is to say beside goes to the second writer.
 pub fn run<
     S: AsStr,
-    C: Checks + Launches + Watches,
+    C: Checks + Launches + Watches + Disk,
     T: Net<Listener = TcpListener, Stream = TcpStream> + Threads + Wait + Clock + Eprint + Sync,
     R: Read + Drop,
     W: Write + Drop,
@@ -310,8 +313,9 @@ pub fn run<
 /// A law, with nothing to run: what a run of `explain` does for each rule, for a word that names none and without a word, also as JSON,
 /// one of `check` alone and for each folder, also with the path of its module and as JSON, one of `help` for each command, for a word that names none and without
 /// a word, one of `resolve`, of `--help` and of `--version`, one of `script` alone and for each number of workers, one of `serve` for each address, also
-/// with numbers of workers and of connections, one of `run` for each folder, also with all that it takes, and that a line without a command is refused,
-/// as `resolve` with a word, `serve` without an address and `run` with a word for its number of steps are; whatever checks and runs folders.
+/// with numbers of workers and of connections, one of `run` for each folder, also with all that it takes, one of `lsp` alone and with `--stdio`, and that a
+/// line without a command is refused, as `resolve` and `lsp` with a word, `serve` without an address and `run` with a word for its number of steps are;
+/// whatever checks and runs folders.
 pub fn runs_answer_words<C: Checks + Launches>(_checks: &C)
     ensures each { ExplainsEach (around (C.Answers _checks.now) (C.Outcomes _checks.now)) }
     ensures each_as_json { ExplainsEachAsJson (around (C.Answers _checks.now) (C.Outcomes _checks.now)) }
@@ -339,4 +343,7 @@ pub fn runs_answer_words<C: Checks + Launches>(_checks: &C)
     ensures runs_each { RunsEach (around (C.Answers _checks.now) (C.Outcomes _checks.now)) }
     ensures runs_told { RunsAsTold (around (C.Answers _checks.now) (C.Outcomes _checks.now)) }
     ensures bad_steps { RefusesSteps (around (C.Answers _checks.now) (C.Outcomes _checks.now)) }
+    ensures editor { ServesEditorAlone (around (C.Answers _checks.now) (C.Outcomes _checks.now)) }
+    ensures editor_stdio { ServesEditorOnStdio (around (C.Answers _checks.now) (C.Outcomes _checks.now)) }
+    ensures editor_word { RefusesEditorWord (around (C.Answers _checks.now) (C.Outcomes _checks.now)) }
 {}

@@ -85,7 +85,7 @@ fn unread_text(why: Unread) -> &'static str {
             "names that begin with . or _, and folders named testdata or vendor, are passed over"
         }
         Unread::BadName => meaning(Rule::E2),
-        Unread::BadFolder => "the folder of this file gives no import path",
+        Unread::BadFolder => "the path of its folder is not an import path",
     }
 }
 

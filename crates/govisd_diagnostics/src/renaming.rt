@@ -383,12 +383,13 @@ impl Obstacle {
     // What is said of it.
     fn text(self) -> &'static str {
         match self {
-            Obstacle::NotParsed => "a file does not parse, or a package has no name of its own",
-            Obstacle::NoName => "no name stands here",
-            Obstacle::NotOwn => "this is no name that the workspace declares",
+            Obstacle::NotParsed =>
+                "a file does not parse, or a package has a fault of a rule K or E",
+            Obstacle::NoName => "there is no name here",
+            Obstacle::NotOwn => "this name is not declared in the workspace",
             Obstacle::Package => "packages are not renamed",
-            Obstacle::NewIsNone => "the new name is no identifier, or the blank one",
-            Obstacle::OfProgram => "a program begins with the functions of this name",
+            Obstacle::NewIsNone => "the new name is not an identifier, or is _",
+            Obstacle::OfProgram => "Go itself calls the functions main and init",
         }
     }
 }

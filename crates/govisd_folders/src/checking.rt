@@ -6,10 +6,11 @@ ghost use Rattle.govisd_disk.specs.Finds.{read_shown};
 
 use crate::looks::{Look, look_of};
 use crate::telling::{Page, Report, told};
-use crate::workers::workers_of;
-use go_diagnostic_core::snap_core::{Snapshot, compile};
+use crate::workers::{Workers, workers_of};
+use go_diagnostic_core::snap_core::Snapshot;
 use go_folder_core::{Order, named_folder};
 use go_graph_core::Workspace;
+use go_parallel_core::compile_at_once;
 use govisd_disk::{FoundPackages, Progress, ReadFolder, Scope, push, read_folder_at_once};
 use std::alloc::{AllocError, Global};
 use std::thread::Threads;
@@ -67,7 +68,8 @@ fn answer_from(
 }
 
 // Checks the packages of a workspace.
-fn check_workspace(
+fn check_workspace<T: Threads>(
+    workers: &Workers<'_, T>,
     alloc: Global,
     page: &Page<'_>,
     workspace: &Workspace,
@@ -76,7 +78,7 @@ fn check_workspace(
 ) -> Result<CheckAnswer, AllocError>
     ensures { IfOk result (λ a. WorkspaceIsChecked page.now.look (page.now.scope.package.now, page.now.scope.file.now) page.now.given.now workspace.now notes.now passed.now a) }
 {
-    let snapshot = compile(alloc, workspace)?;
+    let snapshot = compile_at_once(workers.threads, alloc, workspace, workers.count)?;
     answer_from(alloc, page, &snapshot, notes, passed)
 }
 
@@ -109,7 +111,8 @@ fn plain_path(path: &str) -> &str {
 }
 
 // The answer on the packages of a folder.
-fn answer_of(
+fn answer_of<T: Threads>(
+    workers: &Workers<'_, T>,
     alloc: Global,
     look: Look,
     given: &str,
@@ -126,6 +129,7 @@ fn answer_of(
         given: plain_path(given_folder(given, found.file.as_str())),
     };
     check_workspace(
+        workers,
         alloc,
         &page,
         &found.workspace,
@@ -135,7 +139,8 @@ fn answer_of(
 }
 
 // The answer on what came of the reading of a folder.
-fn answer_on(
+fn answer_on<T: Threads>(
+    workers: &Workers<'_, T>,
     alloc: Global,
     look: Look,
     given: &str,
@@ -149,7 +154,7 @@ fn answer_on(
             text: String::new(alloc),
             said,
         }),
-        ReadFolder::Found(found) => answer_of(alloc, look, given, &found),
+        ReadFolder::Found(found) => answer_of(workers, alloc, look, given, &found),
     }
 }
 
@@ -172,14 +177,16 @@ fn check_read(
         progress,
     )?;
     let look = look_of(rt, order.style);
-    answer_on(rt.alloc(), look, named_folder(order.folder), read)
+    let workers = Workers { threads, count };
+    answer_on(&workers, rt.alloc(), look, named_folder(order.folder), read)
 }
 
 /// Checks the Go packages of a folder: each `.go` file in it that is a source file of a package by its name is read, each package is
 /// compiled among all others of its module, and the answer tells each fault that follows from no other with its place, or all of them. Nothing is
 /// written into the folder. Where standard error is a
 /// terminal, a line there says how far it is: from the moment a second has passed while files are read or parsed, and from the end of the reading
-/// where more than 4,000,000 bytes of source were read. Several threads parse the files where there are 65,536 bytes of source and more.
+/// where more than 4,000,000 bytes of source were read. Several threads parse the files where there are 65,536 bytes of source and more, and compile the
+/// packages, each behind those that it imports. The answer is the same for every number of them.
 ///
 /// # Errors
 ///

@@ -1,4 +1,4 @@
-//! How many threads parse files at once.
+//! How many threads work at once.
 ghost use Rattle.std.specs.Prelude.{◌≡◌, IfSome};
 
 use std::thread::Threads;
@@ -9,6 +9,13 @@ const MOST_WORKERS: usize = 64;
 
 /// The most where nobody says how many.
 const MOST_UNTOLD: usize = 8;
+
+/// Leave to begin threads, and how many of them work at once.
+#[derive(Drop)]
+pub(crate) struct Workers<'a, T: Threads> {
+    pub threads: &'a T,
+    pub count: usize,
+}
 
 // The number that `GOVISD_WORKERS` says, where it is one from 1 to 64.
 fn said_workers(rt: &HostRuntime) -> Option<usize> {
@@ -28,7 +35,7 @@ fn processors(threads: &impl Threads) -> usize {
     }
 }
 
-/// How many threads parse files at once: what is told; else the number in `GOVISD_WORKERS`, where that is one from 1 to 64; else one for each processor, 8 at most.
+/// How many threads work at once: what is told; else the number in `GOVISD_WORKERS`, where that is one from 1 to 64; else one for each processor, 8 at most.
 pub(crate) fn workers_of(rt: &HostRuntime, threads: &impl Threads, told: Option<usize>) -> usize
     ensures { IfSome told (λ n. result ≡ n) }
 {

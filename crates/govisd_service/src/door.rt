@@ -30,6 +30,7 @@ pub(crate) struct Door {
     pub(crate) open: AtomicU64,
     // What was told.
     modules: AtomicBool,
+    filling: AtomicBool,
     history: AtomicBool,
     memory: AtomicBool,
 }
@@ -42,6 +43,7 @@ impl Door {
             ending,
             open: AtomicU64::new(0),
             modules: AtomicBool::new(false),
+            filling: AtomicBool::new(false),
             history: AtomicBool::new(false),
             memory: AtomicBool::new(false),
         }
@@ -56,6 +58,7 @@ impl Door {
     fn is_first(&self, notice: Notice) -> bool {
         match notice {
             Notice::Modules => !self.modules.swap(true, Ordering::SeqCst),
+            Notice::Filling => !self.filling.swap(true, Ordering::SeqCst),
             Notice::History => !self.history.swap(true, Ordering::SeqCst),
             Notice::Memory => !self.memory.swap(true, Ordering::SeqCst),
         }

@@ -1,6 +1,6 @@
 //! What a daemon tells of itself on standard error: each of it once.
 ghost use Rattle.std.specs.Prelude.{◌≡◌};
-ghost use Rattle.govisd_service.specs.Notices.{notice_by, notice_in};
+ghost use Rattle.govisd_service.specs.Notices.{notice_by, notice_in, notice_of_events};
 
 use go_path_core::text_core::Rule;
 use go_wire_core::WireReply;
@@ -10,6 +10,8 @@ use go_wire_core::WireReply;
 pub enum Notice {
     /// A session was refused since 32 modules are taken, of which nobody holds one: O4.
     Modules,
+    /// Seven eighths of the history are used.
+    Filling,
     /// The history is full: H1.
     History,
     /// A build found no memory, or no worker: M0.
@@ -29,11 +31,28 @@ impl Notice {
             Notice::Modules => {
                 "govisd: O4: 32 modules are taken, also such as nobody holds, and stay so until a new start\n"
             }
+            Notice::Filling => {
+                "govisd: 7/8 of the history are used: once it is full nothing is opened or built until a new start\n"
+            }
             Notice::History => {
                 "govisd: H1: the history is full: nothing is opened or built until a new start\n"
             }
             Notice::Memory => "govisd: M0: a build found no memory\n",
         }
+    }
+}
+
+/// So many events are seven eighths of a history.
+const MANY_EVENTS: usize = 917_504;
+
+/// What the number of events shows after a build.
+pub(crate) fn notice_of_events(events: usize) -> Option<Notice>
+    ensures { result ≡ notice_of_events events }
+{
+    if events >= MANY_EVENTS {
+        Some(Notice::Filling)
+    } else {
+        None
     }
 }
 

@@ -239,6 +239,10 @@ pub resolve_word : (program word : Text) → is_plain word ≡ true → refusals
 unfolding clap_on_literals
 resolve_word program word plain = ap (λ k. or_else k []) (one_word (sub 0) word plain)
 
+pub lsp_word : (program word : Text) → is_plain word ≡ true → refusals (command_line program (codes "lsp" ∷ (word ∷ []))) ≡ kind.UnknownArgument ∷ []
+unfolding clap_on_literals
+lsp_word program word plain = ap (λ k. or_else k []) (one_word (sub 7) word plain)
+
 -- what is held where a number of workers is waited for
 abbrev held_workers : Held
 held_workers = (walked (sub 4).rules [] (at 1 nothing_held) (codes "--workers")).held

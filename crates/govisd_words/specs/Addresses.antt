@@ -1,5 +1,5 @@
 -- Where a daemon may be told to listen.
-use Rattle.std.specs.Prelude.{ℕ, ◌==◌, ◌++◌, Bool, List, [], ◌∷◌, Option, Some, None, codes, length, nat_lt, option_and_then, option_map, if◌then◌else◌}
+use Rattle.std.specs.Prelude.{ℕ, ◌==◌, ◌++◌, List, [], ◌∷◌, Option, Some, None, codes, length, nat_lt, option_and_then, option_map, if◌then◌else◌}
 use Rattle.std.specs.List.{after_first, before_first, position_or_len}
 use Rattle.govisd_words.specs.declared.addresses.Place.{Place}
 use Rattle.govisd_words.specs.declared.addresses.Place.TheVariants.{Everywhere, Told}

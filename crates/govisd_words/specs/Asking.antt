@@ -23,7 +23,7 @@ use Rattle.govisd_words.specs.declared.words.ValueOption.{ValueOption}
 use Rattle.govisd_words.specs.declared.words.ValueOption.TheVariants.{Workers, Connections, Idle, Stall, Steps, Form, Colors}
 use Rattle.govisd_words.specs.declared.words.Daemon.{Daemon}
 use Rattle.govisd_words.specs.declared.words.Waits.{Waits}
-use Rattle.govisd_words.specs.declared.words.Request.TheVariants.{Resolve, Explain, Check, Run, Script, Serve, Help, Version, BadValue}
+use Rattle.govisd_words.specs.declared.words.Request.TheVariants.{Resolve, Explain, Check, Run, Editor, Script, Serve, Help, Version, BadValue}
 use Rattle.govisd_words.specs.Counts.{connections_in, idle_in, stall_in, steps_in, threads_in, workers_in}
 use Rattle.govisd_words.specs.Styles.{color_in, format_in, json_style, plain_style, style_of}
 
@@ -33,6 +33,7 @@ pub data Asked : Type 0 where
   ToExplain : (rule : Option Text) (json : Bool) → Asked
   ToCheck : (folder : Text) (path : Option Text) (style : Style) (workers : Option ℕ) → Asked
   ToRun : (folder : Text) (path main : Option Text) (steps : ℕ) (workers : Option ℕ) → Asked
+  ToServeEditor : Asked
   ToScript : (workers : ℕ) → Asked
   ToServe : (address : Text) (workers : ℕ) (connections : Option ℕ) (waits : Waits) (until_input_ends : Bool) → Asked
   ToHelp : (topic : Option Text) → Asked
@@ -57,6 +58,7 @@ said Resolve = ToResolve
 said (Explain rule json) = ToExplain (option_map (λ word. word.now) rule) json
 said (Check order) = said_order order
 said (Run order) = said_run order
+said Editor = ToServeEditor
 said (Script workers) = ToScript workers
 said (Serve daemon) = said_daemon daemon
 said (Help topic) = ToHelp (option_map (λ word. word.now) topic)
@@ -149,6 +151,13 @@ until_rule = record (new_rule (codes "until-input-ends")) { long = Some (codes "
 abbrev pub serve_app : App
 serve_app = with_rule waiting_app until_rule
 
+-- `lsp`, and behind it maybe that it is served on standard input and output
+abbrev pub stdio_rule : Rule
+stdio_rule = record (new_rule (codes "stdio")) { long = Some (codes "stdio"); action = Some Count }
+
+abbrev pub lsp_app : App
+lsp_app = with_rule (new_app (codes "lsp")) stdio_rule
+
 -- `help`, and behind it maybe a command
 abbrev pub help_app : App
 help_app = with_rule (new_app (codes "help")) (new_rule (codes "command"))
@@ -163,7 +172,8 @@ source_app =
     with_subcommand (with_subcommand (with_subcommand (record { top = govisd_shape; subs = [] }) (new_shape (codes "resolve"))) explain_app.top) check_app.top
 
 abbrev pub govisd_app : App
-govisd_app = with_subcommand (with_subcommand (with_subcommand (with_subcommand source_app help_app.top) script_app.top) serve_app.top) run_app.top
+govisd_app =
+    with_subcommand (with_subcommand (with_subcommand (with_subcommand (with_subcommand source_app help_app.top) script_app.top) serve_app.top) run_app.top) lsp_app.top
 
 -- why the words are refused, and nothing where they are not
 abbrev pub refusals : List Text → Kinds
@@ -256,7 +266,8 @@ asked_in (name, rows) =
     else (if bytes_eq name (codes "help") then ToHelp (first_of (codes "command") rows)
     else (if bytes_eq name (codes "script") then script_in rows
     else (if bytes_eq name (codes "serve") then serve_in rows
-    else (if bytes_eq name (codes "run") then run_in rows else ToResolve)))))
+    else (if bytes_eq name (codes "run") then run_in rows
+    else (if bytes_eq name (codes "lsp") then ToServeEditor else ToResolve))))))
 
 -- what the subcommand asks for that the words name
 abbrev pub asked_by_subcommand : List Text → Asked
@@ -266,9 +277,13 @@ asked_by_subcommand words = option_map_or asked_in (subcommand_of govisd_app wor
 abbrev pub names_checker : Text → Bool
 names_checker word = bytes_eq word (codes "resolve") || (bytes_eq word (codes "check") || (bytes_eq word (codes "explain") || bytes_eq word (codes "help")))
 
+-- a command that serves or runs has this name
+abbrev pub names_server : Text → Bool
+names_server word = bytes_eq word (codes "script") || (bytes_eq word (codes "serve") || (bytes_eq word (codes "run") || bytes_eq word (codes "lsp")))
+
 -- a command has this name
 abbrev pub names_command : Text → Bool
-names_command word = names_checker word || (bytes_eq word (codes "script") || (bytes_eq word (codes "serve") || bytes_eq word (codes "run")))
+names_command word = names_checker word || names_server word
 
 abbrev pub if_command : Text → Option Text
 if_command word = if names_command word then Some word else None
@@ -363,9 +378,15 @@ pub record AskAs (program : Text) : Type 0 where
   pub run_steps_named : (folder count : Text) → is_plain folder ≡ true → is_plain count ≡ true → asked_by_subcommand (command_line program (codes "run" ∷ (folder ∷ (codes "--steps" ∷ (count ∷ []))))) ≡ run_with folder None None (steps_in (Some count)) (Some None)
   pub run_told : (folder path main count : Text) → is_plain folder ≡ true → is_plain path ≡ true → is_plain main ≡ true → is_plain count ≡ true → refusals (command_line program (codes "run" ∷ (folder ∷ (codes "--module" ∷ (path ∷ (codes "--main" ∷ (main ∷ (codes "--steps" ∷ (count ∷ []))))))))) ≡ []
   pub run_told_named : (folder path main count : Text) → is_plain folder ≡ true → is_plain path ≡ true → is_plain main ≡ true → is_plain count ≡ true → asked_by_subcommand (command_line program (codes "run" ∷ (folder ∷ (codes "--module" ∷ (path ∷ (codes "--main" ∷ (main ∷ (codes "--steps" ∷ (count ∷ []))))))))) ≡ run_with folder (Some path) (Some main) (steps_in (Some count)) (Some None)
+  pub lsp : refusals (command_line program (codes "lsp" ∷ [])) ≡ []
+  pub lsp_named : asked_by_subcommand (command_line program (codes "lsp" ∷ [])) ≡ ToServeEditor
+  pub lsp_stdio : refusals (command_line program (codes "lsp" ∷ (codes "--stdio" ∷ []))) ≡ []
+  pub lsp_stdio_named : asked_by_subcommand (command_line program (codes "lsp" ∷ (codes "--stdio" ∷ []))) ≡ ToServeEditor
+  pub lsp_word : (word : Text) → is_plain word ≡ true → refusals (command_line program (codes "lsp" ∷ (word ∷ []))) ≡ kind.UnknownArgument ∷ []
   pub help_flag : refusals (command_line program (codes "--help" ∷ [])) ≡ kind.DisplayHelp ∷ []
   pub short_help_flag : refusals (command_line program (codes "-h" ∷ [])) ≡ kind.DisplayHelp ∷ []
   pub resolve_help_flag : refusals (command_line program (codes "resolve" ∷ (codes "--help" ∷ []))) ≡ kind.DisplayHelp ∷ []
+  pub lsp_help_flag : refusals (command_line program (codes "lsp" ∷ (codes "--help" ∷ []))) ≡ kind.DisplayHelp ∷ []
   pub version_flag : refusals (command_line program (codes "--version" ∷ [])) ≡ kind.DisplayVersion ∷ []
   pub short_version_flag : refusals (command_line program (codes "-V" ∷ [])) ≡ kind.DisplayVersion ∷ []
   pub nothing : refusals (command_line program []) ≡ kind.MissingSubcommand ∷ []

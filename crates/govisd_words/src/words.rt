@@ -6,7 +6,7 @@ ghost use Rattle.clap.specs.Words.{app_of, found_of, rows_of};
 ghost use Rattle.clap.specs.declared.builder.command.Command.TheViews.{out-Command as fields_of};
 ghost use Rattle.go_folder_core.specs.declared.orders.Format.TheVariants as format;
 ghost use Rattle.govisd_words.specs.Styles.{color_in, color_named, format_in, format_named, style_of};
-ghost use Rattle.govisd_words.specs.Asking.{Asks, Forms, asked_in, check_app, check_by, check_in, command_behind, explain_app, explain_in, govisd_app, source_app, help_app, if_command, json_app, main_app, names_checker, names_command, order_in, said, said_daemon, said_order, said_run, run_app, run_in, run_of_steps, script_app, script_in, serve_app, serve_in, served_app, shown_app, style_in, waiting_app, waits_in};
+ghost use Rattle.govisd_words.specs.Asking.{Asks, Forms, asked_in, check_app, check_by, check_in, command_behind, explain_app, explain_in, govisd_app, source_app, help_app, if_command, json_app, lsp_app, main_app, names_checker, names_command, names_server, order_in, said, said_daemon, said_order, said_run, run_app, run_in, run_of_steps, script_app, script_in, serve_app, serve_in, served_app, shown_app, style_in, waiting_app, waits_in};
 
 use clap::error::ErrorKind;
 use clap::{Arg, ArgAction, ArgMatches, Command, Error};
@@ -68,6 +68,8 @@ pub enum Request<'a> {
     Check(Order<'a>),
     /// The run of a folder.
     Run(RunOrder<'a>),
+    /// A server for an editor.
+    Editor,
     /// A script with so many workers, 1 to 64.
     Script(usize),
     /// A daemon.
@@ -205,6 +207,17 @@ fn serve_command<'a>(alloc: Global) -> Result<Command<'a>, AllocError>
     waiting_command(alloc)?.arg(until)
 }
 
+// The command `lsp`, with whether it is told that the editor is served on standard input and output, as it is without that.
+fn lsp_command<'a>(alloc: Global) -> Result<Command<'a>, AllocError>
+    ensures shape { IfOk result (λ c. app_of c ≡ lsp_app) }
+    ensures local { IfOk result (λ c. (fields_of c).has_globals ≡ false) }
+{
+    let stdio = Arg::new(alloc, "stdio")
+        .long("stdio")
+        .action(ArgAction::Count);
+    Command::new(alloc, "lsp").arg(stdio)
+}
+
 // The program with its commands on sources.
 fn source_commands<'a>(alloc: Global) -> Result<Command<'a>, AllocError>
     ensures { IfOk result (λ c. app_of c ≡ source_app) }
@@ -228,11 +241,13 @@ fn command<'a>(alloc: Global) -> Result<Command<'a>, AllocError>
     let script = script_command(alloc)?;
     let serve = serve_command(alloc)?;
     let run = run_command(alloc)?;
+    let lsp = lsp_command(alloc)?;
     source_commands(alloc)?
         .subcommand(help)?
         .subcommand(script)?
         .subcommand(serve)?
-        .subcommand(run)
+        .subcommand(run)?
+        .subcommand(lsp)
 }
 
 // The number that a word writes.
@@ -595,6 +610,9 @@ fn request_of<'a>(name: &str, found: &ArgMatches<'a>) -> Request<'a>
     if name == "run" {
         return run_of(found);
     }
+    if name == "lsp" {
+        return Request::Editor;
+    }
     Request::Resolve
 }
 
@@ -605,11 +623,18 @@ fn is_checker(name: &str) -> bool
     name == "resolve" || name == "check" || name == "explain" || name == "help"
 }
 
+// Whether a command that serves or runs has a name.
+fn is_server(name: &str) -> bool
+    ensures { result ≡ names_server name.now }
+{
+    name == "script" || name == "serve" || name == "run" || name == "lsp"
+}
+
 // Whether a command has a name.
 fn is_command(name: &str) -> bool
     ensures { result ≡ names_command name.now }
 {
-    is_checker(name) || name == "script" || name == "serve" || name == "run"
+    is_checker(name) || is_server(name)
 }
 
 // A word, where it is the name of a command.

@@ -1,13 +1,25 @@
 //! The program `test_cases`: what the layers of govisd answer.
 //!
-//! `test_cases KIND FILE.. [-- KIND FILE..]..` reads of each file a text, a table of cases or the archive of a workspace, and writes the answers of
-//! the kind before it in lines. The kinds for texts and tables are at the head of data/cases.txt, and those for snapshots of workspaces in
-//! `test_snapshot`. Of the kind `script` a file has the lines of sessions, which are served as `govisd script` does, and `broken` serves it where reading or
-//! writing fails. Of the kind `loopback` it has the lines of a connection, which a daemon serves whose listener is in memory. Of the kind `check` it is a
-//! folder, which is checked as the module `example.com/FOLDER`. The status is 2 where there is no kind, and 1 where a file cannot be read.
+//! `test_cases KIND WORD.. [-- KIND WORD..]..` writes in lines what is answered of each kind to the words after it.
+//!
+//! | Kind | Its words |
+//! |---|---|
+//! | `script` | files with the lines of sessions, which are served as `govisd script` does |
+//! | `broken` | such files, which are served where reading or writing fails |
+//! | `loopback` | files with the lines of a connection, which a daemon serves whose listener is in memory |
+//! | `check` | folders, each of which is checked as the module `example.com/FOLDER` |
+//! | `branches` | files with the archive of a workspace, whose functions are checked in turn and with parts of their bodies at once |
+//! | `events` | files with lists of events, which the core machine replies to (`test_events`) |
+//! | `measured` | eight words that say what the core machine does again and again (`test_events`) |
+//! | `halls` | scenes that sessions and workers play in a hall (`test_halls`) |
+//! | others | files with a text, a table of cases or the archive of a workspace |
+//!
+//! The other kinds are at the head of data/cases.txt, and for snapshots of workspaces in `test_snapshot`. The status is 2 where there is no kind, or where
+//! the words of `measured` are others. It is 1 where a file cannot be read, where there is no such scene, and where a rule refuses what is measured.
 #![tactic(auto)]
 
 mod loopback;
+mod machine;
 mod script;
 
 use govisd_folders::{Color, Format, Order, Style, check_folder};
@@ -19,6 +31,9 @@ use std::thread::Threads;
 use std::time::Clock;
 use std::{env, fs, io};
 use test_probe::show::Lines;
+
+/// What stands between the last word of a kind and the next kind.
+const BREAK: &str = "--";
 
 /// What is answered to a file of these bytes. The last bytes are those of the file before it of the same kind, and none before the first.
 fn answer(
@@ -49,6 +64,16 @@ fn show(rt: &HostRuntime, kind: &str, file: &str, last: &[u8]) -> io::Result<Vec
     Ok(bytes)
 }
 
+/// Writes how many functions the archive in a file has, and of how many the check of parts at once says another thing than the check in turn.
+fn show_branches(rt: &HostRuntime, threads: &(impl Threads + Sync), file: &str) -> io::Result<()> {
+    let bytes = fs::read(rt, file)?;
+    let text = str::from_utf8(bytes.as_slice()).unwrap_or("");
+    let mut out = Lines::new(rt.alloc());
+    test_snapshot::add_branches(&mut out, threads, rt.alloc(), file, text);
+    let lines = out.finish()?;
+    print!(rt; "{lines}")
+}
+
 /// The check of a folder as a module.
 fn order_of<'a>(folder: &'a str, module_path: &'a str) -> Order<'a> {
     Order {
@@ -72,45 +97,68 @@ fn show_check(rt: &HostRuntime, threads: &impl Threads, folder: &str) -> io::Res
     print!(rt; "{}{}status {}\n", answer.text, answer.said, answer.status)
 }
 
-/// Takes a word: `--` ends a kind and its files, a word without a kind before it is the kind, and each behind it a file. Gives the number of the word
-/// that is the kind then, and 0 for none.
+/// Writes what is answered of a kind to one of its words. The last bytes are those of the file before it of the same kind.
 fn show_word<T: Threads + Wait + Clock + Eprint + Sync>(
     rt: &HostRuntime,
     threads: &T,
-    words: &[String],
-    kind: usize,
-    number: usize,
+    kind: &str,
+    word: &str,
     last: &mut Vec<u8>,
-) -> io::Result<usize> {
-    let Some(name) = words.get(kind) else {
-        return Ok(kind);
+) -> io::Result<()> {
+    match kind {
+        "script" => script::show_script(rt, threads, word)?,
+        "broken" => script::show_faults(rt, threads, word)?,
+        "loopback" => loopback::show_loopback(rt, threads, word)?,
+        "check" => show_check(rt, threads, word)?,
+        "branches" => show_branches(rt, threads, word)?,
+        "events" => machine::show_lists(rt, word)?,
+        "halls" => machine::show_hall(rt, threads, word)?,
+        _ => *last = show(rt, kind, word, last.as_slice())?,
+    }
+    Ok(())
+}
+
+/// Writes what is answered of the first word, which is a kind, to the words after it, and gives the status that this has.
+fn show_kind<T: Threads + Wait + Clock + Eprint + Sync>(
+    rt: &HostRuntime,
+    threads: &T,
+    words: &[String],
+) -> io::Result<u8> {
+    let Some((kind, words)) = words.split_first() else {
+        return Ok(2);
     };
-    let Some(word) = words.get(number) else {
-        return Ok(kind);
-    };
-    if word.as_str() == "--" {
-        last.clear();
-        return Ok(0);
+    if kind.as_str() == "measured" {
+        return machine::show_measured(rt, words);
     }
-    if kind == 0 {
-        return Ok(number);
+    let mut last = Vec::new(rt.alloc());
+    for word in words {
+        show_word(rt, threads, kind.as_str(), word.as_str(), &mut last)?;
     }
-    match name.as_str() {
-        "script" => script::show_script(rt, threads, word.as_str())?,
-        "broken" => script::show_faults(rt, threads, word.as_str())?,
-        "loopback" => loopback::show_loopback(rt, threads, word.as_str())?,
-        "check" => show_check(rt, threads, word.as_str())?,
-        name => *last = show(rt, name, word.as_str(), last.as_slice())?,
+    Ok(0)
+}
+
+/// The words before the next break, or all.
+fn before_break(words: &[String]) -> &[String] {
+    for (at, word) in words.iter().enumerate() {
+        if word.as_str() == BREAK {
+            return words.get(..at).unwrap_or(words);
+        }
     }
-    Ok(kind)
+    words
 }
 
 fn main(rt: HostRuntime) -> io::Result<ExitCode> {
     let words: Vec<String> = env::args(&rt)?.collect(rt.alloc())?;
-    let mut last = Vec::new(rt.alloc());
-    let mut kind = 0usize;
+    let mut status = 2u8;
+    let mut is_kind = true;
     for number in 1..words.len() {
-        kind = show_word(&rt, &rt, words.as_slice(), kind, number, &mut last)?;
+        if is_kind {
+            status = show_kind(&rt, &rt, before_break(&words.as_slice()[number..]))?;
+            if status != 0 {
+                return Ok(ExitCode::from(status));
+            }
+        }
+        is_kind = words[number].as_str() == BREAK;
     }
-    Ok(ExitCode::from(if kind == 0 { 2 } else { 0 }))
+    Ok(ExitCode::from(status))
 }

@@ -264,7 +264,7 @@ fn add_list(out: &mut Lines, alloc: Global, list: &str) -> Result<(), Rule> {
 
 /// Shows what a new core replies to each list of events in a text: the steps of a list, and whether the same events have the same replies and batches in
 /// other calls.
-pub(crate) fn show_events(alloc: Global, out: &mut Lines, text: &str) {
+pub fn show_events(alloc: Global, out: &mut Lines, text: &str) {
     for list in text.split('#') {
         if !list.trim().is_empty() && add_list(out, alloc, list).is_err() {
             out.cut();

@@ -24,5 +24,6 @@ mod counts;
 mod order;
 mod workspace;
 
-pub(crate) use crate::measured::bench::run;
-pub(crate) use crate::measured::order::Order;
+pub use crate::measured::bench::run;
+pub use crate::measured::counts::Counts;
+pub use crate::measured::order::Order;

@@ -329,9 +329,20 @@ fn add_scene<H: Threads + Wait + Clock + Sync>(
     add_named::<Brand, H>(rt, alloc, Blank::new(PARTS), Stamps::new(), scene, out);
 }
 
-/// Shows halls whose workers are held, turned away, or stopped.
-pub(crate) fn show_gates<H: Threads + Wait + Clock + Sync>(rt: &H, alloc: Global, out: &mut Lines) {
-    add_scene(rt, alloc, "== two at once", Scene::Held, out);
-    add_scene(rt, alloc, "== a gate that is closed", Scene::Closed, out);
-    add_scene(rt, alloc, "== a hall that is stopped", Scene::Stopped, out);
+/// Adds what the scene of this name shows, and tells whether there is one: `held`, `closed` or `stopped`. It is played in a hall of its own, by sessions and
+/// workers. What the sessions are told stands in lines, and how often each kind of event stands in the hall's history.
+pub fn show_scene<H: Threads + Wait + Clock + Sync>(
+    rt: &H,
+    alloc: Global,
+    name: &str,
+    out: &mut Lines,
+) -> bool {
+    let (title, scene) = match name {
+        "held" => ("== two at once", Scene::Held),
+        "closed" => ("== a gate that is closed", Scene::Closed),
+        "stopped" => ("== a hall that is stopped", Scene::Stopped),
+        _ => return false,
+    };
+    add_scene(rt, alloc, title, scene, out);
+    true
 }

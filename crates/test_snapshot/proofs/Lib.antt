@@ -1,2 +1,4 @@
 mod Fitting
+mod FunctionsPlaced
 mod LikeFiles
+mod NamesSeen

@@ -56,6 +56,7 @@ mod again;
 mod all_paths;
 mod all_types;
 mod answers;
+mod branches;
 mod comparing;
 mod files;
 mod joining;
@@ -68,6 +69,7 @@ mod shot;
 mod type_questions;
 mod types;
 
+pub use branches::add_branches;
 use go_table_core::TypeTable;
 use shot::{Shot, shot_of, snapshot_of};
 use std::alloc::{AllocError, Global};

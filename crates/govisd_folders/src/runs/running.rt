@@ -6,14 +6,15 @@ ghost use Rattle.govisd_folders.specs.runs.Answers.{AnswersSnapshot, IsAnswerOfR
 
 use crate::runs::answers::nothing_ran;
 use crate::runs::packages::run_main;
-use crate::workers::workers_of;
+use crate::workers::{Workers, workers_of};
 use crate::{
     CheckAnswer, FoundPackages, PLAIN, Page, Progress, ReadFolder, Scope, push,
     read_folder_at_once, told,
 };
-use go_diagnostic_core::snap_core::{PlacedFault, Snapshot, compile};
+use go_diagnostic_core::snap_core::{PlacedFault, Snapshot};
 use go_folder_core::RunOrder;
 use go_graph_core::Workspace;
+use go_parallel_core::compile_at_once;
 use std::alloc::{AllocError, Global};
 use std::thread::Threads;
 
@@ -87,7 +88,8 @@ fn run_snapshot(
 }
 
 // Runs the program of a workspace, unless something is amiss.
-fn run_workspace(
+fn run_workspace<T: Threads>(
+    workers: &Workers<'_, T>,
     alloc: Global,
     order: &RunOrder<'_>,
     module_path: &str,
@@ -98,12 +100,13 @@ fn run_workspace(
 ) -> Result<CheckAnswer, AllocError>
     ensures { IfOk result (WorkspaceIsRun order.now.folder.now (scope.now.package.now, scope.now.file.now) (option_map (λ m. m.now) order.now.main_path) order.now.steps module_path.now workspace.now notes.now passed.now) }
 {
-    let snapshot = compile(alloc, workspace)?;
+    let snapshot = compile_at_once(workers.threads, alloc, workspace, workers.count)?;
     run_snapshot(alloc, order, module_path, scope, &snapshot, notes, passed)
 }
 
 // Runs the program of the packages of a folder, unless something is amiss.
-fn run_found(
+fn run_found<T: Threads>(
+    workers: &Workers<'_, T>,
     alloc: Global,
     order: &RunOrder<'_>,
     found: &FoundPackages,
@@ -115,6 +118,7 @@ fn run_found(
         file: found.file.as_str(),
     };
     run_workspace(
+        workers,
         alloc,
         order,
         found.module_path.as_str(),
@@ -126,7 +130,8 @@ fn run_found(
 }
 
 // The answer on what came of the reading of a folder.
-fn answer_on(
+fn answer_on<T: Threads>(
+    workers: &Workers<'_, T>,
     alloc: Global,
     order: &RunOrder<'_>,
     read: ReadFolder,
@@ -135,7 +140,7 @@ fn answer_on(
 {
     match read {
         ReadFolder::Refused(said) => Ok(nothing_ran(alloc, said)),
-        ReadFolder::Found(found) => run_found(alloc, order, &found),
+        ReadFolder::Found(found) => run_found(workers, alloc, order, &found),
     }
 }
 
@@ -157,7 +162,8 @@ fn run_read(
         count,
         progress,
     )?;
-    answer_on(rt.alloc(), order, read)
+    let workers = Workers { threads, count };
+    answer_on(&workers, rt.alloc(), order, read)
 }
 
 /// Runs the program of a folder: its Go packages are read and compiled as [`check_folder`](crate::check_folder) does it, and where there is no

@@ -2,7 +2,7 @@
 ghost use Rattle.std.specs.Prelude.{◌≡◌, None};
 
 use crate::desks::seating::{answer_at, close, is_build};
-use crate::notices::{Tells, notice_in};
+use crate::notices::{Tells, notice_in, notice_of_events};
 use go_hall::hall_core::Named;
 use go_hall::{Hall, Session};
 use go_wire_core::{Desk, Request, WireReply};
@@ -80,6 +80,11 @@ impl<'a, L: Named, T: Tells> Desk for ConnectionDesk<'a, L, T> {
         let reply = answer_at(rt, self.alloc, self.hall, &mut self.seat, request.command);
         if let Some(notice) = notice_in(is_build, &reply) {
             self.teller.tell(notice);
+        }
+        if is_build {
+            if let Some(notice) = notice_of_events(self.hall.events(rt)) {
+                self.teller.tell(notice);
+            }
         }
         reply
     }

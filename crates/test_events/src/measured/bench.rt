@@ -229,7 +229,7 @@ impl Bench {
 /// # Errors
 ///
 /// The rule by which an event is refused, `Rule::Z1` where the reply to one is not the one that is due, and `Rule::M0` where memory is wanting.
-pub(crate) fn run(alloc: Global, order: Order) -> Result<Counts, Rule> {
+pub fn run(alloc: Global, order: Order) -> Result<Counts, Rule> {
     let mut bench = Bench {
         alloc,
         order,

@@ -3,7 +3,7 @@ use std::fmt;
 
 /// How often each thing was done, and the faults of the last snapshot.
 #[derive(Clone, Copy, Default)]
-pub(crate) struct Counts {
+pub struct Counts {
     pub(crate) sessions: usize,
     pub(crate) batches: usize,
     pub(crate) actions: usize,

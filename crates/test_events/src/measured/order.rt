@@ -42,7 +42,7 @@ pub(crate) enum Parts {
 
 /// What a call asks for.
 #[derive(Clone, Copy)]
-pub(crate) struct Order {
+pub struct Order {
     pub(crate) work: Work,
     pub(crate) form: Form,
     pub(crate) kind: Kind,
@@ -95,9 +95,9 @@ fn parts_of(word: &str) -> Option<Parts> {
 }
 
 impl Order {
-    /// What the words of a call ask for, of which the first is the program's own; `None` where they are none of a call.
-    pub(crate) fn read(words: &[String]) -> Option<Order> {
-        let [_, work, shape, kind, place, parts, packages, imports, times] = words else {
+    /// What the eight words of a call ask for. `None` where they are none of a call.
+    pub fn read(words: &[String]) -> Option<Order> {
+        let [work, shape, kind, place, parts, packages, imports, times] = words else {
             return None;
         };
         Some(Order {

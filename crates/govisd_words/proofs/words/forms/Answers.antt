@@ -1,6 +1,6 @@
 use Rattle.std.proofs.Common.{refl}
 use Rattle.clap.proofs.OnLiterals.{clap_on_literals}
-use Rattle.govisd_words.proofs.PlainWords.{check_folder, check_folder_named, check_json, check_json_named, check_module, check_module_json, check_module_json_named, check_module_named, explain_word, explain_word_json, explain_word_json_named, explain_word_named, help_word, help_word_named, json_check, json_check_named, module_check, module_check_named, resolve_word, run_folder, run_folder_named, run_steps, run_steps_named, run_told, run_told_named, script_workers, script_workers_named, serve_at, serve_at_named, serve_told, serve_told_named}
+use Rattle.govisd_words.proofs.PlainWords.{check_folder, check_folder_named, check_json, check_json_named, check_module, check_module_json, check_module_json_named, check_module_named, explain_word, explain_word_json, explain_word_json_named, explain_word_named, help_word, help_word_named, json_check, json_check_named, lsp_word, module_check, module_check_named, resolve_word, run_folder, run_folder_named, run_steps, run_steps_named, run_told, run_told_named, script_workers, script_workers_named, serve_at, serve_at_named, serve_told, serve_told_named}
 use Rattle.govisd_words.proofs.words.forms.Goals as goal
 
 pub returns : goal.returns
@@ -73,9 +73,15 @@ returns c = λ program. record {
   run_steps_named = run_steps_named program;
   run_told = run_told program;
   run_told_named = run_told_named program;
+  lsp = refl;
+  lsp_named = refl;
+  lsp_stdio = refl;
+  lsp_stdio_named = refl;
+  lsp_word = lsp_word program;
   help_flag = refl;
   short_help_flag = refl;
   resolve_help_flag = refl;
+  lsp_help_flag = refl;
   version_flag = refl;
   short_version_flag = refl;
   nothing = refl;

@@ -1,0 +1,5 @@
+mod Crossing
+mod Cutting
+mod Handing
+mod Seeing
+mod Telling

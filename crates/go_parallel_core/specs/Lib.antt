@@ -1,0 +1,4 @@
+pub mod Handed
+pub mod Seen
+pub mod Told
+pub mod Works
