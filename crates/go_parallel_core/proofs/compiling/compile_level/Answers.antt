@@ -27,7 +27,7 @@ end_all-requires-clause-rests g c =
 pub finish_all-requires : goal.finish_all-requires
 finish_all-requires g c =
     let taken : AreTaken c.args.batch.now.slots c.args.level.places.items (map input_of c.in_ok-parts.parts.items) =
-        taken_cut c.args.batch.now.slots c.args.level.places.items c.args.level.inputs.items c.in_ok-shares.shares.items c.in_ok-works.works.items c.in_ok-parts.parts.items c.requires.taken c.in_ok-shares.ensures c.in_ok-works.ensures.inputs c.in_ok-parts.ensures.parts in
+    taken_cut c.args.batch.now.slots c.args.level.places.items c.args.level.inputs.items c.in_ok-shares.shares.items c.in_ok-works.works.items c.in_ok-parts.parts.items c.requires.taken c.in_ok-shares.ensures c.in_ok-works.ensures.inputs c.in_ok-parts.ensures.parts in
     subst (λ (ns : List ℕ). AreTaken c.args.batch.now.slots ns (map input_of c.deref-5.result.now)) (sym c.deref-4.ensures.value)
     (subst (λ (ps : List PartModel). AreTaken c.args.batch.now.slots c.args.level.places.items (map input_of ps)) (sym c.deref-5.ensures.value) taken)
 
