@@ -152,10 +152,10 @@ impl<L: Named> Hall<L> {
 
     /// How many events the history has. Once it has 1,048,576, nothing is opened or submitted any more.
     pub fn events<R: Wait>(&self, rt: &R) -> usize {
-        self.enter(rt).events()
+        self.state.lock(rt).events()
     }
 
-    // The lock, for a session. A worker that let it go looks again a millisecond later, or once it is waked.
+    // The lock, for a session that opens, submits or closes, and then wakes the workers. One that let it go looks again then, or a millisecond later.
     fn enter<R: Wait>(&self, rt: &R) -> MutexGuard<'_, Counted<L>> {
         let _before = self.waiting.fetch_add(1, Ordering::Relaxed);
         let state = self.state.lock(rt);
@@ -189,7 +189,7 @@ impl<L: Named> Hall<L> {
     pub(crate) fn published<R: Wait>(&self, rt: &R, ticket: Ticket) -> Result<u64, Rule>
         ensures { IfErr result (λ rule. (rule ≡ Rule.M0) ⊎ (rule ≡ Rule.H2)) }
     {
-        let state = self.built.wait_while(rt, self.enter(rt), |state| {
+        let state = self.built.wait_while(rt, self.state.lock(rt), |state| {
             is_pending(state, ticket) && !self.is_starved()
         });
         match state.ticket(ticket) {

@@ -284,7 +284,7 @@ abbrev pub ServesEditorOnStdio : Around → Type 0
 ServesEditorOnStdio among =
     (program : Text) (ran : Ran) (given left out out' err err' : Option (List ℕ)) → Runs among (command_line program (codes "lsp" ∷ (codes "--stdio" ∷ []))) ran given left out out' err err' → ServesEditor ran err err' ⊎ (RunsOut ran err err' × Keeps out out' × Keeps given left)
 
--- but a line of `lsp` with a word behind it is refused
+-- but a line of `lsp` with a word after it is refused
 abbrev pub RefusesEditorWord : Around → Type 0
 RefusesEditorWord among =
     (program word : Text) → is_plain word ≡ true → RunsFor among (command_line program (codes "lsp" ∷ (word ∷ []))) (RefusesFor UnknownArgument)

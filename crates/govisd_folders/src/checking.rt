@@ -186,7 +186,7 @@ fn check_read(
 /// written into the folder. Where standard error is a
 /// terminal, a line there says how far it is: from the moment a second has passed while files are read or parsed, and from the end of the reading
 /// where more than 4,000,000 bytes of source were read. Several threads parse the files where there are 65,536 bytes of source and more, and compile the
-/// packages, each behind those that it imports. The answer is the same for every number of them.
+/// packages, each after those that it imports. The answer is the same for every number of them.
 ///
 /// # Errors
 ///

@@ -151,7 +151,7 @@ until_rule = record (new_rule (codes "until-input-ends")) { long = Some (codes "
 abbrev pub serve_app : App
 serve_app = with_rule waiting_app until_rule
 
--- `lsp`, and behind it maybe that it is served on standard input and output
+-- `lsp`, and after it maybe that it is served on standard input and output
 abbrev pub stdio_rule : Rule
 stdio_rule = record (new_rule (codes "stdio")) { long = Some (codes "stdio"); action = Some Count }
 
